@@ -1,0 +1,42 @@
+-- `scene::within_limits` meets its contract: group by group, by the contracts of `counts`, `rates`, `merges` and `model_numbers`.
+use Rattle.scene.specs.Limits.{settingsOf}
+use Rattle.scene.proofs.within_limits.Statement.{statement}
+use Rattle.scene.proofs.within_limits.Tie as tie
+
+pub within-limits-spec : {M : Type 1} → statement M
+unfolding settingsOf
+within-limits-spec =
+    tie.close
+    (tie.spec
+    (λ c κs. tt)
+    (λ c κs. tt)
+    (λ c κs. tt)
+    (λ c κs. tt)
+    (λ c.
+    let at-if3 = c .before in
+    let at-if2 = at-if3 .before .before in
+    let at-if1 = at-if2 .before .before in
+    rw (
+      ← at-if1 .before .counts .ensures,
+      at-if1 .if1 .taken,
+      ← at-if2 .before .rates .ensures,
+      at-if2 .if2 .taken,
+      ← at-if3 .before .merges .ensures,
+      at-if3 .if3 .taken,
+      ← c .model-numbers .ensures,
+    ))
+    (λ c.
+    let at-if2 = c .before .before in
+    let at-if1 = at-if2 .before .before in
+    rw (
+      ← at-if1 .before .counts .ensures,
+      at-if1 .if1 .taken,
+      ← at-if2 .before .rates .ensures,
+      at-if2 .if2 .taken,
+      ← c .before .merges .ensures,
+      c .if3 .left,
+    ))
+    (λ c.
+    let at-if1 = c .before .before in
+    rw (← at-if1 .before .counts .ensures, at-if1 .if1 .taken, ← c .before .rates .ensures, c .if2 .left))
+    (λ c. rw (← c .before .counts .ensures, c .if1 .left)))

@@ -1,0 +1,5 @@
+-- The definitions that the contracts of `scene` cite.
+pub mod Limits
+pub mod Scene
+pub mod Areas
+pub mod Refusals

@@ -1,0 +1,78 @@
+-- The limits of document 01, section 'Scene and settings', each named once. A comparison with a NaN is false, so a NaN lies outside every limit.
+use Prim.Native.Nat.{ℕ}
+use lib.Ieee.{Float, binary32, le, lt, neg, ofBits}
+use lib.Dec.{ltb}
+use mathlib.Core.Bool.{Bool, not, _&&_}
+use Rattle.float.specs.Literals.{zero32, one32}
+use Rattle.float.specs.Compare.{isFinite}
+use Rattle.bands.specs.declared.DistanceModel.{DistanceModel}
+use Rattle.scene.specs.declared.Settings.{Settings}
+
+-- `max_reflection_planes` 0 to 256; C 0 to 250,000
+abbrev pub mostPlanes : ℕ
+mostPlanes = 256
+
+abbrev pub mostCandidates : ℕ
+mostCandidates = 250000
+
+-- the whole index triples of a scene, at most
+abbrev pub mostTriples : ℕ
+mostTriples = 4096
+
+-- `max_reflection_distance` above 0, at most 1,000
+abbrev pub mostDistance : Float
+mostDistance = ofBits binary32 0x447a_0000
+
+-- speed of sound 100 to 2,000
+abbrev pub leastSpeed : Float
+leastSpeed = ofBits binary32 0x42c8_0000
+
+abbrev pub mostSpeed : Float
+mostSpeed = ofBits binary32 0x44fa_0000
+
+-- sample rate 8,000 to 192,000
+abbrev pub leastRate : Float
+leastRate = ofBits binary32 0x45fa_0000
+
+abbrev pub mostRate : Float
+mostRate = ofBits binary32 0x483b_8000
+
+-- the distance model's four numbers 0 to 1,000,000
+abbrev pub mostModelNumber : Float
+mostModelNumber = ofBits binary32 0x4974_2400
+
+-- from `low` to `high`
+unfoldable pub betweenOf : Float → Float → Float → Bool
+betweenOf x low high = le low x && le x high
+
+-- above 0 and at most `high`
+unfoldable pub aboveZeroOf : Float → Float → Bool
+aboveZeroOf x high = lt zero32 x && le x high
+
+-- planes and candidates within their limits
+unfoldable pub countsOf : ℕ → ℕ → Bool
+countsOf planes c = not (ltb mostPlanes planes) && not (ltb mostCandidates c)
+
+-- the reflection distance, the speed of sound and the sample rate within theirs
+unfoldable pub ratesOf : Float → Float → Float → Bool
+ratesOf distance speed rate = aboveZeroOf distance mostDistance && (betweenOf speed leastSpeed mostSpeed && betweenOf rate leastRate mostRate)
+
+-- cosine −1 to 1; fade, merge offset and buried distance finite
+unfoldable pub mergesOf : Float → Float → Float → Float → Bool
+mergesOf cosine fade offset buried = betweenOf cosine (neg one32) one32 && (isFinite fade && (isFinite offset && isFinite buried))
+
+unfoldable pub modelNumberOf : Float → Bool
+modelNumberOf x = betweenOf x zero32 mostModelNumber
+
+-- the distance model's numbers within theirs; its curve is Inverse or Linear by its type
+unfoldable pub modelNumbersOf : DistanceModel → Bool
+modelNumbersOf m =
+    modelNumberOf (m .«reference_distance»)
+    && (modelNumberOf (m .«rolloff_factor») && (modelNumberOf (m .«min_distance») && modelNumberOf (m .«max_distance»)))
+
+-- every setting, and the candidate room c, within its limits; order and `max_reflections` may be any
+unfoldable pub settingsOf : Settings → ℕ → Bool
+settingsOf s c =
+    countsOf (s .«max_reflection_planes») c
+    && (ratesOf (s .«max_reflection_distance») (s .«speed_of_sound») (s .«sample_rate»)
+    && (mergesOf (s .«plane_merge_cos») (s .«reflection_edge_fade») (s .«plane_merge_offset») (s .«plane_buried_distance») && modelNumbersOf (s .«distance_model»)))

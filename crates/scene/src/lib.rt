@@ -1,0 +1,342 @@
+// Settings and scene parts as a caller lends them, and the refusals 1 to 5. A scene is meshes of three words (vertices, indices, handle),
+// and behind them, mesh after mesh, 16 floats of transform, three floats a vertex and the indices; a material row is 16 floats.
+use bands::DistanceModel;
+ghost use mathlib.Core.Path.{_≡_};
+ghost use Prim.Native.Nat.{_+_, _≤_, _<_, min};
+ghost use lib.ListN.{length};
+ghost use Rattle.scene.specs.Limits.{mostTriples, betweenOf, aboveZeroOf, countsOf, ratesOf, mergesOf, modelNumberOf, modelNumbersOf, settingsOf};
+ghost use Rattle.scene.specs.Scene.{scene, headers, tripleSum};
+ghost use Rattle.scene.specs.Areas.{candidatesShort, shortOf};
+ghost use Rattle.scene.specs.Refusals.{meshesWhole, transformsRight, positionsRight, indicesRight, materialsRight, lengthsRightOf, unknownHandle, checkOf};
+
+// The settings of a query, by the Rust's names. `plane_merge_angle_deg` is its cosine, and whether it is above 0.
+pub struct Settings {
+    pub max_reflection_order: u32,
+    pub max_reflections: u32,
+    pub max_reflection_planes: u32,
+    pub reflection_edge_fade: f32,
+    pub max_reflection_distance: f32,
+    pub speed_of_sound: f32,
+    pub sample_rate: f32,
+    pub plane_merge_cos: f32,
+    pub plane_merge: bool,
+    pub plane_merge_offset: f32,
+    pub plane_buried_distance: f32,
+    pub distance_model: DistanceModel,
+}
+
+// The lengths of the lent areas. docs/AREAS.md says what each is for.
+pub struct Areas {
+    pub columns: usize,
+    pub handles: usize,
+    pub candidate_floats: usize,
+    pub candidate_words: usize,
+    pub output: usize,
+}
+
+// The first refusal of 1 to 5 that applies, or how many whole triples the scene has.
+pub enum Checked {
+    Refused(u32),
+    Accepted(usize),
+}
+
+const MOST_PLANES: u32 = 256;
+
+const MOST_CANDIDATES: u32 = 250_000;
+
+const MOST_TRIPLES: usize = 4096;
+
+const TOO_MANY_TRIPLES: usize = MOST_TRIPLES + 1;
+
+const OUTPUT: usize = 3465;
+
+// ---- 1, the settings
+
+fn between(x: f32, low: f32, high: f32) -> bool
+    ensures { λ r. ⌜ r ≡ betweenOf x low high ⌝ }
+{
+    low <= x && x <= high
+}
+
+fn above_zero(x: f32, high: f32) -> bool
+    ensures { λ r. ⌜ r ≡ aboveZeroOf x high ⌝ }
+{
+    0.0 < x && x <= high
+}
+
+fn counts(planes: u32, c: u32) -> bool
+    ensures { λ r. ⌜ r ≡ countsOf planes c ⌝ }
+{
+    if planes > MOST_PLANES {
+        return false;
+    }
+    if c > MOST_CANDIDATES {
+        return false;
+    }
+    true
+}
+
+fn rates(distance: f32, speed: f32, rate: f32) -> bool
+    ensures { λ r. ⌜ r ≡ ratesOf distance speed rate ⌝ }
+{
+    if above_zero(distance, 1000.0) {
+        if between(speed, 100.0, 2000.0) {
+            return between(rate, 8000.0, 192000.0);
+        }
+    }
+    false
+}
+
+fn merges(cosine: f32, fade: f32, offset: f32, buried: f32) -> bool
+    ensures { λ r. ⌜ r ≡ mergesOf cosine fade offset buried ⌝ }
+{
+    if between(cosine, -1.0, 1.0) {
+        if float::is_finite(fade) {
+            if float::is_finite(offset) {
+                return float::is_finite(buried);
+            }
+        }
+    }
+    false
+}
+
+// A number of the distance model.
+fn model_number(x: f32) -> bool
+    ensures { λ r. ⌜ r ≡ modelNumberOf x ⌝ }
+{
+    between(x, 0.0, 1000000.0)
+}
+
+fn model_numbers(m: DistanceModel) -> bool
+    ensures { λ r. ⌜ r ≡ modelNumbersOf m ⌝ }
+{
+    if model_number(m.reference_distance) {
+        if model_number(m.rolloff_factor) {
+            if model_number(m.min_distance) {
+                return model_number(m.max_distance);
+            }
+        }
+    }
+    false
+}
+
+fn within_limits(s: Settings, c: u32) -> bool
+    ensures { λ r. ⌜ r ≡ settingsOf s c ⌝ }
+{
+    if counts(s.max_reflection_planes, c) {
+        if rates(s.max_reflection_distance, s.speed_of_sound, s.sample_rate) {
+            if merges(
+                s.plane_merge_cos,
+                s.reflection_edge_fade,
+                s.plane_merge_offset,
+                s.plane_buried_distance,
+            ) {
+                return model_numbers(s.distance_model);
+            }
+        }
+    }
+    false
+}
+
+// ---- 2 to 4, the scene
+
+fn wide(x: u32) -> usize
+    ensures { λ r. ⌜ (r ≡ x) × (r < 4294967296) ⌝ }
+{
+    x as usize
+}
+
+fn meshes_whole(meshes: &[u32]) -> bool
+    ensures { λ r. ⌜ r ≡ meshesWhole (now (meshes .entry)) ⌝ }
+{
+    if meshes.len() % 3 == 0 {
+        return true;
+    }
+    false
+}
+
+fn transforms_right(meshes: &[u32], n: usize) -> bool
+    ensures { λ r. ⌜ r ≡ transformsRight (now (meshes .entry)) n ⌝ }
+{
+    if n % 16 == 0 {
+        if n / 16 == meshes.len() / 3 {
+            return true;
+        }
+    }
+    false
+}
+
+// Takes each mesh's positions from what is left of n.
+fn positions_right(meshes: &[u32], n: usize) -> bool
+    ensures { λ r. ⌜ r ≡ positionsRight (now (meshes .entry)) n ⌝ }
+{
+    let mut left = n;
+    let mut at = 0;
+    while meshes.len() - at >= 3 {
+        let v = wide(meshes[at]);
+        if left < 3 * v {
+            return false;
+        }
+        left -= 3 * v;
+        at += 3;
+    }
+    if left == 0 {
+        return true;
+    }
+    false
+}
+
+// Takes each mesh's indices from what is left of n.
+fn indices_right(meshes: &[u32], n: usize) -> bool
+    ensures { λ r. ⌜ r ≡ indicesRight (now (meshes .entry)) n ⌝ }
+{
+    let mut left = n;
+    let mut at = 0;
+    while meshes.len() - at >= 3 {
+        let k = wide(meshes[at + 1]);
+        if left < k {
+            return false;
+        }
+        left -= k;
+        at += 3;
+    }
+    if left == 0 {
+        return true;
+    }
+    false
+}
+
+fn materials_right(rows: u32, n: usize) -> bool
+    ensures { λ r. ⌜ r ≡ materialsRight rows n ⌝ }
+{
+    if n == 16 * wide(rows) {
+        return true;
+    }
+    false
+}
+
+fn unknown_handle(meshes: &[u32], rows: u32) -> bool
+    ensures { λ r. ⌜ r ≡ unknownHandle rows (headers (now (meshes .entry))) ⌝ }
+{
+    let mut at = 0;
+    while meshes.len() - at >= 3 {
+        let h = meshes[at + 2];
+        if h >= rows {
+            return true;
+        }
+        at += 3;
+    }
+    false
+}
+
+// The whole triples of all meshes, or one more than the limit where there are more.
+fn whole_triples(meshes: &[u32]) -> usize
+    ensures { λ r. ⌜ r ≡ min (mostTriples + 1) (tripleSum (headers (now (meshes .entry)))) ⌝ }
+{
+    let mut t = 0;
+    let mut at = 0;
+    while meshes.len() - at >= 3 {
+        let k = wide(meshes[at + 1]) / 3;
+        if k > MOST_TRIPLES - t {
+            return TOO_MANY_TRIPLES;
+        }
+        t += k;
+        at += 3;
+    }
+    t
+}
+
+fn lengths_right(
+    meshes: &[u32],
+    transforms: usize,
+    positions: usize,
+    indices: usize,
+    materials: usize,
+    rows: u32,
+) -> bool
+    ensures { λ r. ⌜ r ≡ lengthsRightOf (now (meshes .entry)) transforms positions indices materials rows ⌝ }
+{
+    if meshes_whole(meshes) {
+        if transforms_right(meshes, transforms) {
+            if positions_right(meshes, positions) {
+                if indices_right(meshes, indices) {
+                    return materials_right(rows, materials);
+                }
+            }
+        }
+    }
+    false
+}
+
+// ---- 5, the areas
+
+// Whether an area of the candidates is too short for c of them.
+fn candidates_short(c: u32, a: Areas) -> bool
+    ensures { λ r. ⌜ r ≡ candidatesShort c a ⌝ }
+{
+    let room = wide(c);
+    if a.candidate_floats < 13 * room {
+        return true;
+    }
+    if a.candidate_words < 2 * room {
+        return true;
+    }
+    false
+}
+
+// Whether the output or a work area is too short for t triples and c candidates.
+fn areas_short(t: usize, c: u32, a: Areas) -> bool
+    requires { ⌜ t ≤ mostTriples ⌝ }
+    ensures { λ r. ⌜ r ≡ shortOf t c a ⌝ }
+{
+    if a.output < OUTPUT {
+        return true;
+    }
+    if a.columns < columns::COLUMNS * t {
+        return true;
+    }
+    if a.handles < t {
+        return true;
+    }
+    candidates_short(c, a)
+}
+
+// The lowest of the refusals 1 to 5 that applies.
+pub fn check(
+    settings: Settings,
+    c: u32,
+    meshes: &[u32],
+    transforms: &[f32],
+    positions: &[f32],
+    indices: &[u32],
+    materials: &[f32],
+    rows: u32,
+    areas: Areas,
+) -> Checked
+    ensures { λ r. ⌜ r ≡ checkOf settings c (scene (now (meshes .entry)) (now (transforms .entry)) (now (positions .entry)) (now (indices .entry)) (now (materials .entry)) rows) areas ⌝ }
+{
+    if within_limits(settings, c) {
+        if lengths_right(
+            meshes,
+            transforms.len(),
+            positions.len(),
+            indices.len(),
+            materials.len(),
+            rows,
+        ) {
+            if unknown_handle(meshes, rows) {
+                return Checked::Refused(3);
+            }
+            let t = whole_triples(meshes);
+            if t > MOST_TRIPLES {
+                return Checked::Refused(4);
+            }
+            if areas_short(t, c, areas) {
+                return Checked::Refused(5);
+            }
+            return Checked::Accepted(t);
+        }
+        return Checked::Refused(2);
+    }
+    Checked::Refused(1)
+}
