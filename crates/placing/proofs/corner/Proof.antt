@@ -1,0 +1,23 @@
+use Rattle.placing.specs.Corners.{cornerOf}
+use borrow.Author.Needs.{needs}
+use Rattle.placing.proofs.corner.Statement.{statement}
+use Rattle.placing.proofs.corner.Tie as tie
+
+pub corner-spec : {M : Type 1} → statement M
+unfolding cornerOf
+corner-spec =
+    tie.close
+    (tie.spec
+    (λ c. search needs)
+    (λ c. search needs)
+    (λ c. search needs)
+    (λ c. search needs)
+    (λ c. search needs)
+    (λ c. search needs)
+    (λ c. search needs)
+    (λ c. search needs)
+    (λ c. search needs)
+    (λ c. search needs)
+    (λ c. search needs)
+    (λ c κs. search needs)
+    (λ c. rw (← c .transform-point4x4 .ensures)))

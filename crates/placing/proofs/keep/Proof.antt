@@ -1,0 +1,59 @@
+use native.Mathlib.Omega.{arith}
+use borrow.Author.Needs.{needs}
+use lib.ListN.{length-set}
+use Rattle.placing.specs.Passing.{stepOf}
+use Rattle.placing.proofs.keep.Statement.{statement}
+use Rattle.placing.proofs.keep.Tie as tie
+
+pub keep-spec : {M : Type 1} → statement M
+unfolding stepOf
+keep-spec =
+    tie.close
+    (tie.spec
+    (λ c. record { made = rw (c .if1 .taken); kept = omega arith; placed = omega arith })
+    (λ c κs. tt)
+    (λ c. omega arith)
+    (λ c.
+    let d = c .before .before in
+    record {
+      made = rw (d .before .if1 .left, ← d .far-corners .ensures, c .before .if2 .taken);
+      kept = omega arith;
+      placed = omega arith;
+    })
+    (λ c κs. tt)
+    (λ c. omega arith)
+    (λ c.
+    let e = c .before .before in
+    let d = e .before .before in
+    record {
+      made = rw (d .before .if1 .left, ← d .far-corners .ensures, e .before .if2 .left, ← e .is-degenerate .ensures, c .before .if3 .taken);
+      kept = omega arith;
+      placed = omega arith;
+    })
+    (λ c κs. tt)
+    (λ c κs. omega arith)
+    (λ c. omega arith)
+    (λ c. omega arith)
+    (λ c. omega arith)
+    (λ c. omega arith)
+    (λ c. search needs)
+    (λ c. search needs)
+    (λ c.
+    let p = c .before .before .before in
+    let m = p .before in
+    let e = m .before .before .before in
+    let d = e .before .before in
+    record {
+      made =
+          rw (
+            d .before .if1 .left,
+            ← d .far-corners .ensures,
+            e .before .if2 .left,
+            ← e .is-degenerate .ensures,
+            m .before .before .if3 .left,
+            ← m .triangle-of .ensures,
+            ← p .put-triangle .ensures,
+          );
+      kept = omega arith;
+      placed = omega arith;
+    }))

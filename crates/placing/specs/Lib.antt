@@ -1,0 +1,3 @@
+-- The definitions that the contracts of `placing` cite.
+pub mod Corners
+pub mod Passing

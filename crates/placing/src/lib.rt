@@ -1,0 +1,270 @@
+// `triangles_from_scene`: one pass over the triples of a scene. Each corner of a triple whose indices are in range is placed and tested
+// (refusal 6), and the triangles that are not degenerate are kept in columns. Placings are counted.
+use vector::Vec3;
+ghost use mathlib.Core.Path.{_≡_};
+ghost use mathlib.Core.Bool.{false};
+ghost use Prim.Native.Nat.{_+_, _*_, _<_, _≤_};
+ghost use lib.ListN.{length};
+ghost use Rattle.scene.specs.Scene.{headers, cut};
+ghost use Rattle.placing.specs.Corners.{farOf, farCorner, farCorners, cornerOf, triple, triples, corners3, cornersIn, cornersOf, cornersAll};
+ghost use Rattle.columns.specs.Columns.{columnCount};
+ghost use Rattle.scene.specs.Limits.{mostTriples};
+ghost use Rattle.placing.specs.Passing.{world, state, stepOf, run, Room, Did, Fits, Passed};
+
+const FARTHEST: f32 = 10000.0;
+
+// What the pass carries: triangles kept, corners placed, and whether a corner was too far.
+pub struct State {
+    pub kept: usize,
+    pub placings: usize,
+    pub far: bool,
+}
+
+// Refusal 6 with the placings made, or how many triangles were kept and placings made.
+pub enum Placed {
+    Far(usize),
+    Kept(usize, usize),
+}
+
+fn far(x: f32) -> bool
+    ensures { λ r. ⌜ r ≡ farOf x ⌝ }
+{
+    if float::is_finite(x) {
+        return FARTHEST < float::abs(x);
+    }
+    true
+}
+
+fn far_corner(v: Vec3) -> bool
+    ensures { λ r. ⌜ r ≡ farCorner v ⌝ }
+{
+    if far(v.x) {
+        return true;
+    }
+    if far(v.y) {
+        return true;
+    }
+    far(v.z)
+}
+
+fn far_corners(a: Vec3, b: Vec3, c: Vec3) -> bool
+    ensures { λ r. ⌜ r ≡ farCorners a b c ⌝ }
+{
+    if far_corner(a) {
+        return true;
+    }
+    if far_corner(b) {
+        return true;
+    }
+    far_corner(c)
+}
+
+// Vertex i, placed.
+fn corner(positions: &[f32], transform: &[f32], i: usize) -> Vec3
+    requires { ⌜ 3 * i + 2 < length (now positions) ⌝ }
+    requires { ⌜ 16 ≤ length (now transform) ⌝ }
+    ensures { λ r. ⌜ r ≡ cornerOf (now (positions .entry)) (now (transform .entry)) i ⌝ }
+{
+    let p = Vec3 {
+        x: positions[3 * i],
+        y: positions[3 * i + 1],
+        z: positions[3 * i + 2],
+    };
+    vector::transform_point4x4(p, transform, 0)
+}
+
+// One step of the pass, the corners placed.
+fn keep(
+    a: Vec3,
+    b: Vec3,
+    c: Vec3,
+    handle: u32,
+    n: usize,
+    st: State,
+    columns: &mut [f32],
+    handles: &mut [u32],
+) -> State
+    requires { ⌜ Room n 1 (world (now columns) (now handles) st) ⌝ }
+    ensures { λ r. ⌜ Did 1 (world (now (columns .entry)) (now (handles .entry)) st) (world (now (columns .exit)) (now (handles .exit)) r) (stepOf n (world (now (columns .entry)) (now (handles .entry)) st) (corners3 a b c handle)) ⌝ }
+{
+    if st.far {
+        return st;
+    }
+    if far_corners(a, b, c) {
+        return State {
+            kept: st.kept,
+            placings: st.placings + 3,
+            far: true,
+        };
+    }
+    if geometry::is_degenerate(a, b, c) {
+        return State {
+            kept: st.kept,
+            placings: st.placings + 3,
+            far: false,
+        };
+    }
+    let i = st.kept;
+    columns::put_triangle(columns, n, i, geometry::triangle_of(a, b, c, handle));
+    handles[i] = handle;
+    State {
+        kept: i + 1,
+        placings: st.placings + 3,
+        far: false,
+    }
+}
+
+fn wide(x: u32) -> usize
+    ensures { λ r. ⌜ (r ≡ x) × (r < 4294967296) ⌝ }
+{
+    x as usize
+}
+
+// One triple of a mesh.
+fn place_triple(
+    vertices: usize,
+    positions: &[f32],
+    transform: &[f32],
+    i: usize,
+    j: usize,
+    k: usize,
+    handle: u32,
+    n: usize,
+    st: State,
+    columns: &mut [f32],
+    handles: &mut [u32],
+) -> State
+    requires { ⌜ 3 * vertices ≤ length (now positions) ⌝ }
+    requires { ⌜ 16 ≤ length (now transform) ⌝ }
+    requires { ⌜ Room n 1 (world (now columns) (now handles) st) ⌝ }
+    ensures { λ r. ⌜ Did 1 (world (now (columns .entry)) (now (handles .entry)) st) (world (now (columns .exit)) (now (handles .exit)) r) (run n (world (now (columns .entry)) (now (handles .entry)) st) (cornersIn vertices (now (positions .entry)) (now (transform .entry)) handle (triple i j k))) ⌝ }
+{
+    if i < vertices {
+        if j < vertices {
+            if k < vertices {
+                let a = corner(positions, transform, i);
+                let b = corner(positions, transform, j);
+                let c = corner(positions, transform, k);
+                return keep(a, b, c, handle, n, st, columns, handles);
+            }
+        }
+    }
+    st
+}
+
+// The triples of a mesh.
+fn place_mesh(
+    vertices: usize,
+    positions: &[f32],
+    indices: &[u32],
+    transform: &[f32],
+    handle: u32,
+    n: usize,
+    start: State,
+    columns: &mut [f32],
+    handles: &mut [u32],
+) -> State
+    requires { ⌜ 3 * vertices ≤ length (now positions) ⌝ }
+    requires { ⌜ 16 ≤ length (now transform) ⌝ }
+    requires { ⌜ Room n (length (triples (now indices))) (world (now columns) (now handles) start) ⌝ }
+    ensures { λ r. ⌜ Did (length (triples (now (indices .entry)))) (world (now (columns .entry)) (now (handles .entry)) start) (world (now (columns .exit)) (now (handles .exit)) r) (run n (world (now (columns .entry)) (now (handles .entry)) start) (cornersOf vertices (now (positions .entry)) (now (transform .entry)) handle (triples (now (indices .entry))))) ⌝ }
+{
+    let mut st = start;
+    let mut at = 0;
+    while indices.len() - at >= 3 {
+        let i = wide(indices[at]);
+        let j = wide(indices[at + 1]);
+        let k = wide(indices[at + 2]);
+        st = place_triple(
+            vertices,
+            positions,
+            transform,
+            i,
+            j,
+            k,
+            handle,
+            n,
+            st,
+            columns,
+            handles,
+        );
+        at += 3;
+    }
+    st
+}
+
+// All meshes.
+fn place_all(
+    meshes: &[u32],
+    transforms: &[f32],
+    positions: &[f32],
+    indices: &[u32],
+    n: usize,
+    columns: &mut [f32],
+    handles: &mut [u32],
+) -> State
+    requires { ⌜ Fits (now meshes) (length (now transforms)) (length (now positions)) (length (now indices)) n ⌝ }
+    requires { ⌜ n ≤ mostTriples ⌝ }
+    requires { ⌜ columnCount * n ≤ length (now columns) ⌝ }
+    requires { ⌜ n ≤ length (now handles) ⌝ }
+    ensures { λ r. ⌜ world (now (columns .exit)) (now (handles .exit)) r ≡ run n (world (now (columns .entry)) (now (handles .entry)) (state 0 0 false)) (cornersAll (cut (headers (now (meshes .entry))) (now (transforms .entry)) (now (positions .entry)) (now (indices .entry)))) ⌝ }
+    ensures { λ r. ⌜ r .kept ≤ n ⌝ }
+{
+    let mut st = State {
+        kept: 0,
+        placings: 0,
+        far: false,
+    };
+    let mut at = 0;
+    let mut t = 0;
+    let mut p = 0;
+    let mut x = 0;
+    while meshes.len() - at >= 3 {
+        let v = wide(meshes[at]);
+        let k = wide(meshes[at + 1]);
+        let te = t + 16;
+        let pe = p + 3 * v;
+        let xe = x + k;
+        st = place_mesh(
+            v,
+            &positions[p..pe],
+            &indices[x..xe],
+            &transforms[t..te],
+            meshes[at + 2],
+            n,
+            st,
+            columns,
+            handles,
+        );
+        t = te;
+        p = pe;
+        x = xe;
+        at += 3;
+    }
+    st
+}
+
+// The pass: its answer, with the placings, and the areas.
+pub fn triangles_from_scene(
+    meshes: &[u32],
+    transforms: &[f32],
+    positions: &[f32],
+    indices: &[u32],
+    n: usize,
+    columns: &mut [f32],
+    handles: &mut [u32],
+) -> Placed
+    requires { ⌜ Fits (now meshes) (length (now transforms)) (length (now positions)) (length (now indices)) n ⌝ }
+    requires { ⌜ n ≤ mostTriples ⌝ }
+    requires { ⌜ columnCount * n ≤ length (now columns) ⌝ }
+    requires { ⌜ n ≤ length (now handles) ⌝ }
+    ensures { λ r. ⌜ Passed (cornersAll (cut (headers (now (meshes .entry))) (now (transforms .entry)) (now (positions .entry)) (now (indices .entry)))) n (now (columns .entry)) (now (handles .entry)) r (now (columns .exit)) (now (handles .exit)) ⌝ }
+{
+    let st = place_all(meshes, transforms, positions, indices, n, columns, handles);
+    if st.far {
+        columns::clear_f32(columns);
+        columns::clear_u32(handles);
+        return Placed::Far(st.placings);
+    }
+    Placed::Kept(st.kept, st.placings)
+}
