@@ -1,14 +1,18 @@
 // `triangles_from_scene`: one pass over the triples of a scene. Each corner of a triple whose indices are in range is placed and tested
 // (refusal 6), and the triangles that are not degenerate are kept in columns. Placings are counted.
+use scene::Areas;
+use scene::Checked;
+use scene::Settings;
 use vector::Vec3;
 ghost use mathlib.Core.Path.{_≡_};
 ghost use mathlib.Core.Bool.{false};
 ghost use Prim.Native.Nat.{_+_, _*_, _<_, _≤_};
 ghost use lib.ListN.{length};
-ghost use Rattle.scene.specs.Scene.{headers, cut};
+ghost use Rattle.scene.specs.Scene.{scene, headers, cut};
 ghost use Rattle.placing.specs.Corners.{farOf, farCorner, farCorners, cornerOf, triple, triples, corners3, cornersIn, cornersOf, cornersAll};
 ghost use Rattle.columns.specs.Columns.{columnCount};
 ghost use Rattle.scene.specs.Limits.{mostTriples};
+ghost use Rattle.placing.specs.Loading.{firstRefusal, Loading};
 ghost use Rattle.placing.specs.Passing.{world, state, stepOf, run, Room, Did, Fits, Passed};
 
 const FARTHEST: f32 = 10000.0;
@@ -24,6 +28,12 @@ pub struct State {
 pub enum Placed {
     Far(usize),
     Kept(usize, usize),
+}
+
+// The first refusal of 1 to 6 that applies; or how many triangles were kept, placings made, and whole triples the scene has.
+pub enum Loaded {
+    Refused(u32),
+    Triangles(usize, usize, usize),
 }
 
 fn far(x: f32) -> bool
@@ -267,4 +277,45 @@ pub fn triangles_from_scene(
         return Placed::Far(st.placings);
     }
     Placed::Kept(st.kept, st.placings)
+}
+
+// The front of a query: settings, scene and areas tested, triangles placed. `areas` has the lengths of all areas.
+pub fn load_scene(
+    settings: Settings,
+    c: u32,
+    meshes: &[u32],
+    transforms: &[f32],
+    positions: &[f32],
+    indices: &[u32],
+    materials: &[f32],
+    rows: u32,
+    areas: Areas,
+    columns: &mut [f32],
+    handles: &mut [u32],
+) -> Loaded
+    requires { ⌜ (areas .columns ≤ length (now columns)) × (areas .handles ≤ length (now handles)) ⌝ }
+    ensures { λ r. ⌜ Loading (firstRefusal settings c (scene (now (meshes .entry)) (now (transforms .entry)) (now (positions .entry)) (now (indices .entry)) (now (materials .entry)) rows) areas) (scene (now (meshes .entry)) (now (transforms .entry)) (now (positions .entry)) (now (indices .entry)) (now (materials .entry)) rows) (now (columns .entry)) (now (handles .entry)) r (now (columns .exit)) (now (handles .exit)) ⌝ }
+{
+    let checked = scene::check(
+        settings,
+        c,
+        meshes,
+        transforms,
+        positions,
+        indices,
+        materials,
+        rows,
+        areas,
+    );
+    let n = match checked {
+        Checked::Refused(k) => {
+            return Loaded::Refused(k);
+        }
+        Checked::Accepted(n) => n,
+    };
+    let placed = triangles_from_scene(meshes, transforms, positions, indices, n, columns, handles);
+    match placed {
+        Placed::Far(_) => Loaded::Refused(6),
+        Placed::Kept(kept, placings) => Loaded::Triangles(kept, placings, n),
+    }
 }

@@ -1,3 +1,4 @@
+-- `placing::corner` meets its contract: its three reads lie in the positions, then the contract of `transform_point4x4`.
 use Rattle.placing.specs.Corners.{cornerOf}
 use borrow.Author.Needs.{needs}
 use Rattle.placing.proofs.corner.Statement.{statement}

@@ -1,3 +1,4 @@
+-- `placing::far` meets its contract: by its test for a finite number, then the contract of `abs`.
 use Rattle.placing.specs.Corners.{farOf}
 use Rattle.placing.proofs.far.Statement.{statement}
 use Rattle.placing.proofs.far.Tie as tie

@@ -1,3 +1,4 @@
+-- `placing::far_corner` meets its contract: coordinate by coordinate, by the contract of `far`.
 use Rattle.placing.specs.Corners.{farCorner}
 use Rattle.placing.proofs.far_corner.Statement.{statement}
 use Rattle.placing.proofs.far_corner.Tie as tie

@@ -1,3 +1,4 @@
+-- `placing::far_corners` meets its contract: corner by corner, by the contract of `far_corner`.
 use Rattle.placing.specs.Corners.{farCorners}
 use Rattle.placing.proofs.far_corners.Statement.{statement}
 use Rattle.placing.proofs.far_corners.Tie as tie

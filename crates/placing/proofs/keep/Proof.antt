@@ -1,3 +1,4 @@
+-- `placing::keep` meets its contract: by its tests: nothing after a far corner, a far corner, a degenerate triangle, or one triangle stored.
 use native.Mathlib.Omega.{arith}
 use borrow.Author.Needs.{needs}
 use lib.ListN.{length-set}

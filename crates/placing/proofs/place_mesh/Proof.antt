@@ -1,3 +1,4 @@
+-- `placing::place_mesh` meets its contract: a loop over the triples: the run of the rest from here is the run of the whole.
 use mathlib.Core.Path.{_≡_, refl, sym, _∙_}
 use Prim.Native.Nat.{_+_, _-_, _*_, _≤_}
 use native.Mathlib.Omega.{arith}

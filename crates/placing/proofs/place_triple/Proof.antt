@@ -1,3 +1,4 @@
+-- `placing::place_triple` meets its contract: by its tests of the three indices, nothing or the contract of `keep`.
 use native.Mathlib.Omega.{arith}
 use borrow.Author.Tests.{lt-ltb, le-ltb}
 use borrow.Author.Needs.{needs}

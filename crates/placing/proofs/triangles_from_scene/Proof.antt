@@ -1,3 +1,4 @@
+-- `placing::triangles_from_scene` meets its contract: where the run ended (`Ends` of proofs/Readback.antt), the areas are cleared or read as the triangles.
 use mathlib.Core.Path.{_≡_}
 use native.Mathlib.Omega.{arith}
 use borrow.Author.Needs.{needs}
