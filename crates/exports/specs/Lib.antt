@@ -1,2 +1,4 @@
--- The definitions that the contracts of `exports` cite.
+-- The definitions that the contracts of `exports` cite: how numbers and slices stand for the port's structs and answers.
 pub mod Model
+pub mod Settings
+pub mod Loads

@@ -1,11 +1,22 @@
 // What C and Rust call: each function stands for one of the port, with numbers and slices alone. A `&[T]` passes as a pointer and then
 // a length. include/bivelondry.h declares them; reference/crates/port wraps them for Rust and tests what a `requires` asks.
+use placing::Loaded;
+use scene::Areas;
+use scene::Settings;
 ghost use mathlib.Core.Path.{_≡_};
+ghost use mathlib.Core.List.{[], _∷_};
+ghost use Prim.Native.Nat.{_≤_};
+ghost use lib.ListN.{length};
+ghost use lib.Seq.{sets};
 ghost use Rattle.float.specs.Sqrt.{sqrtOf};
 ghost use Rattle.float.specs.Compare.{minOf, maxOf, clampOf, absOf};
 ghost use Rattle.float.specs.Round.{roundOf};
 ghost use Rattle.bands.specs.Distance.{gainOf};
+ghost use Rattle.scene.specs.Scene.{scene};
+ghost use Rattle.placing.specs.Loading.{firstRefusal};
 ghost use Rattle.exports.specs.Model.{curveOf, modelOf};
+ghost use Rattle.exports.specs.Settings.{settingsFrom};
+ghost use Rattle.exports.specs.Loads.{areas, Loads};
 
 // ---- numbers
 
@@ -83,4 +94,90 @@ pub extern "C" fn biv_distance_gain(
         },
         distance,
     )
+}
+
+// ---- the scene
+
+// `counts` are max_reflection_order, max_reflections, max_reflection_planes, plane_merge (0 or not) and the curve (0 is Inverse).
+// `floats` are reflection_edge_fade, max_reflection_distance, speed_of_sound, sample_rate, plane_merge_cos, plane_merge_offset,
+// plane_buried_distance, and the distance model's reference_distance, rolloff_factor, min_distance and max_distance.
+fn settings_from(counts: &[u32], floats: &[f32]) -> Settings
+    requires { ⌜ (length (now counts) ≡ 5) × (length (now floats) ≡ 11) ⌝ }
+    ensures { λ r. ⌜ r ≡ settingsFrom (now (counts .entry)) (now (floats .entry)) ⌝ }
+{
+    let curve = curve_of(counts[4]);
+    let plane_merge = counts[3] != 0;
+    let distance_model = bands::DistanceModel {
+        curve,
+        reference_distance: floats[7],
+        rolloff_factor: floats[8],
+        min_distance: floats[9],
+        max_distance: floats[10],
+    };
+    Settings {
+        max_reflection_order: counts[0],
+        max_reflections: counts[1],
+        max_reflection_planes: counts[2],
+        reflection_edge_fade: floats[0],
+        max_reflection_distance: floats[1],
+        speed_of_sound: floats[2],
+        sample_rate: floats[3],
+        plane_merge_cos: floats[4],
+        plane_merge,
+        plane_merge_offset: floats[5],
+        plane_buried_distance: floats[6],
+        distance_model,
+    }
+}
+
+// Answers the first refusal of 1 to 6 that applies; or 0, and how many triangles, placings and whole triples there are.
+#[no_mangle]
+pub extern "C" fn biv_load_scene(
+    counts: &[u32],
+    floats: &[f32],
+    c: u32,
+    meshes: &[u32],
+    transforms: &[f32],
+    positions: &[f32],
+    indices: &[u32],
+    materials: &[f32],
+    rows: u32,
+    candidate_floats: usize,
+    candidate_words: usize,
+    output: usize,
+    columns: &mut [f32],
+    handles: &mut [u32],
+    found: &mut [usize],
+) -> u32
+    requires { ⌜ (length (now counts) ≡ 5) × (length (now floats) ≡ 11) × (3 ≤ length (now found)) ⌝ }
+    ensures { λ r. ⌜ Loads (firstRefusal (settingsFrom (now (counts .entry)) (now (floats .entry))) c (scene (now (meshes .entry)) (now (transforms .entry)) (now (positions .entry)) (now (indices .entry)) (now (materials .entry)) rows) (areas (length (now (columns .entry))) (length (now (handles .entry))) «candidate_floats» «candidate_words» output)) (scene (now (meshes .entry)) (now (transforms .entry)) (now (positions .entry)) (now (indices .entry)) (now (materials .entry)) rows) (now (columns .entry)) (now (handles .entry)) (now (found .entry)) r (now (columns .exit)) (now (handles .exit)) (now (found .exit)) ⌝ }
+{
+    let loaded = placing::load_scene(
+        settings_from(counts, floats),
+        c,
+        meshes,
+        transforms,
+        positions,
+        indices,
+        materials,
+        rows,
+        Areas {
+            columns: columns.len(),
+            handles: handles.len(),
+            candidate_floats,
+            candidate_words,
+            output,
+        },
+        columns,
+        handles,
+    );
+    match loaded {
+        Loaded::Refused(k) => k,
+        Loaded::Triangles(kept, placings, triples) => {
+            found[0] = kept;
+            found[1] = placings;
+            found[2] = triples;
+            0
+        }
+    }
 }

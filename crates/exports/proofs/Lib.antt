@@ -1,0 +1,2 @@
+-- The laws that the proofs of `exports` cite.
+pub mod Loaded
