@@ -1,19 +1,33 @@
-//! compare numbers [SEED]: the port's floats against the hardware and Rust's std.
-//! Stops at the first difference with the input that shows it and exit status 1.
+//! The port against the Rust. Stops at the first difference with what shows it and exit status 1.
+mod cases;
+mod front;
 mod numbers;
 mod random;
+mod scenes;
+
+const USAGE: &str = "\
+  compare numbers [SEED]         floats: sqrt, abs, round on all 2^32 patterns, the others on many millions of values
+  compare scenes [COUNT [SEED]]  generated scenes, 2,000 unless said: refusals, triangles, areas
+  compare file FILE ..           the cases of files (FORMAT.md)
+  compare slips [COUNT [SEED]]   plants slips into the port's answers to generated scenes, and counts those found";
 
 fn main() {
     let args: Vec<String> = std::env::args().skip(1).collect();
     let words: Vec<&str> = args.iter().map(String::as_str).collect();
     match words[..] {
-        ["numbers"] => numbers::run(1),
-        ["numbers", seed] => numbers::run(seed.parse().unwrap_or_else(|_| usage("SEED is a whole number"))),
+        ["numbers", ref rest @ ..] => numbers::run(number(rest.first(), 1)),
+        ["scenes", ref rest @ ..] => cases::generated(number(rest.first(), 2000), number(rest.get(1), 1)),
+        ["file", ref names @ ..] if !names.is_empty() => cases::files(names),
+        ["slips", ref rest @ ..] => cases::slips(number(rest.first(), 500), number(rest.get(1), 1)),
         _ => usage("say what to compare"),
     }
 }
 
+fn number(word: Option<&&str>, unsaid: u64) -> u64 {
+    word.map_or(unsaid, |w| w.parse().unwrap_or_else(|_| usage(&format!("{w} is no whole number"))))
+}
+
 fn usage(why: &str) -> ! {
-    eprintln!("compare: {why}\n  compare numbers [SEED]   floats: sqrt on all 2^32 patterns, the others on many millions of values");
+    eprintln!("compare: {why}\n{USAGE}");
     std::process::exit(2)
 }

@@ -246,13 +246,14 @@ fn ties(c: &mut Case, r: &mut Random) {
 
 fn soup(c: &mut Case, r: &mut Random) {
     let mut m = mesh(handle(c, r));
-    let n = [8, 40, 200, 4096][r.below(if r.chance(12) { 4 } else { 3 })];
+    let sizes = if r.chance(5) { 4 } else { 3 };
+    let n = [8, 40, 200, 4096][r.below(sizes)];
     for _ in 0..n {
         let (a, size) = (r.vector(4.0), r.from(0.05, 1.0));
         triangle(&mut m, a, add(a, r.vector(size)), add(a, r.vector(size)));
     }
-    if r.chance(6) {
-        triangle(&mut m, [0.0; 3], [1.0, 0.0, 0.0], [0.0, 1.0, 0.0]); // with 4,096 before it: refusal 4
+    if n == 4096 && r.chance(2) {
+        triangle(&mut m, [0.0; 3], [1.0, 0.0, 0.0], [0.0, 1.0, 0.0]); // the 4,097th: refusal 4
     }
     c.meshes.push(m);
     c.settings.planes = r.below(40) as u32;

@@ -1,0 +1,138 @@
+//! Runs stages of the port and the Rust on generated cases and on files, stops at the first difference, and makes its case small.
+use crate::front::{self, Damage, DAMAGES, SLIPS};
+use crate::scenes::{self, Kind, KINDS};
+use oracle::Case;
+use port::Loaded;
+use std::collections::BTreeMap;
+
+/// What the cases covered.
+#[derive(Default)]
+struct Coverage {
+    kinds: BTreeMap<Kind, u64>,
+    calls: u64,
+    refusals: BTreeMap<u32, u64>,
+    triangles: u64,
+    most: usize,
+}
+
+impl Coverage {
+    fn add(&mut self, answer: Loaded) {
+        self.calls += 1;
+        match answer {
+            Loaded::Refused(k) => *self.refusals.entry(k).or_default() += 1,
+            Loaded::Triangles { kept, .. } => {
+                self.triangles += kept as u64;
+                self.most = self.most.max(kept);
+            }
+        }
+    }
+
+    fn print(&self) {
+        for (kind, n) in &self.kinds {
+            println!("  {kind:?}: {n} cases");
+        }
+        for (k, n) in &self.refusals {
+            println!("  refusal {k}: {n} calls");
+        }
+        println!("  triangles: {}, at most {} in a scene", self.triangles, self.most);
+    }
+}
+
+/// A smaller case with the same difference, as far as meshes and triples can be left out.
+fn small(mut c: Case, d: Damage) -> Case {
+    let differs = |c: &Case| matches!(front::run(c, d, None), Some(Err(_)));
+    loop {
+        let mut tries: Vec<Case> = Vec::new();
+        for k in 0..c.meshes.len() {
+            let mut less = c.clone();
+            less.meshes.remove(k);
+            tries.push(less);
+            let len = c.meshes[k].indices.len();
+            for (from, to) in [(0, len / 6 * 3), (len / 6 * 3, len), (len.saturating_sub(3), len)] {
+                let mut less = c.clone();
+                less.meshes[k].indices.drain(from..to);
+                tries.push(less);
+            }
+        }
+        match tries.into_iter().find(|t| t.meshes.iter().map(|m| m.indices.len() + 1).sum::<usize>() < c.meshes.iter().map(|m| m.indices.len() + 1).sum() && differs(t)) {
+            Some(less) => c = less,
+            None => return c,
+        }
+    }
+}
+
+fn fail(c: &Case, d: Damage, words: &str) -> ! {
+    let file = format!("{}.case", c.name);
+    let written = std::fs::write(&file, small(c.clone(), d).to_text());
+    eprintln!("compare: {} ({d:?}): {words}", c.name);
+    match written {
+        Ok(()) => eprintln!("compare: the case, made small, is in {file}; run it again with: compare file {file}"),
+        Err(e) => eprintln!("compare: {file} could not be written: {e}"),
+    }
+    std::process::exit(1)
+}
+
+fn check(c: &Case, cover: &mut Coverage) {
+    for d in DAMAGES {
+        match front::run(c, d, None) {
+            Some(Ok(answer)) => cover.add(answer),
+            Some(Err(words)) => fail(c, d, &words),
+            None => {}
+        }
+    }
+}
+
+/// `count` cases, the kinds in turn.
+pub fn generated(count: u64, seed: u64) {
+    let start = std::time::Instant::now();
+    let mut cover = Coverage::default();
+    for k in 0..count {
+        let kind = KINDS[k as usize % KINDS.len()];
+        check(&scenes::case(kind, seed.wrapping_mul(1_000_003) + k), &mut cover);
+        *cover.kinds.entry(kind).or_default() += 1;
+        if (k + 1) % (count / 4).max(1) == 0 {
+            println!("{} of {count} cases equal, {:.1} s", k + 1, start.elapsed().as_secs_f32());
+        }
+    }
+    println!("equal on {count} cases, {} calls, in {:.1} s", cover.calls, start.elapsed().as_secs_f32());
+    cover.print();
+}
+
+/// The cases of files.
+pub fn files(names: &[&str]) {
+    let mut cover = Coverage::default();
+    for name in names {
+        let text = std::fs::read_to_string(name).unwrap_or_else(|e| {
+            eprintln!("compare: {name}: {e}");
+            std::process::exit(2)
+        });
+        for c in Case::parse_all(&text) {
+            check(&c, &mut cover);
+        }
+    }
+    println!("equal on {} files, {} calls", names.len(), cover.calls);
+    cover.print();
+}
+
+/// Plants slips into the port's answers: each must be found.
+pub fn slips(count: u64, seed: u64) {
+    let (mut planted, mut missed) = (0, 0);
+    for k in 0..count {
+        let c = scenes::case(KINDS[k as usize % KINDS.len()], seed.wrapping_mul(1_000_003) + k);
+        for s in 0..SLIPS {
+            match front::run(&c, Damage::None, Some(s)) {
+                Some(Err(_)) => planted += 1,
+                Some(Ok(_)) => {
+                    planted += 1;
+                    missed += 1;
+                    eprintln!("compare: slip {s} on {} was not found", c.name);
+                }
+                None => {}
+            }
+        }
+    }
+    println!("{} of {planted} planted slips found", planted - missed);
+    if missed > 0 {
+        std::process::exit(1);
+    }
+}

@@ -1,0 +1,190 @@
+//! The front of a query against the Rust: refusals 1 to 6, triangles and handles bit for bit, counts, and what is not to be touched.
+use oracle::Case;
+use port::{Areas, Lent, Loaded, CANDIDATE_FLOATS, CANDIDATE_WORDS, COLUMNS, OUTPUT};
+
+/// What is done to a sound call, to show refusals 2 and 5.
+#[derive(Clone, Copy, Debug, PartialEq, Eq)]
+pub enum Damage {
+    None,
+    /// A lent scene part (0 to 4) one shorter or longer.
+    Part(usize, bool),
+    /// An area (0 to 4) one shorter than its formula.
+    Area(usize),
+}
+
+pub const DAMAGES: [Damage; 16] = [
+    Damage::None, Damage::Part(0, false), Damage::Part(0, true), Damage::Part(1, false), Damage::Part(1, true), Damage::Part(2, false), Damage::Part(2, true),
+    Damage::Part(3, false), Damage::Part(3, true), Damage::Part(4, false), Damage::Part(4, true), Damage::Area(0), Damage::Area(1), Damage::Area(2),
+    Damage::Area(3), Damage::Area(4),
+];
+
+/// A case as the port takes it.
+pub fn lent(c: &Case) -> Lent {
+    let s = &c.settings;
+    Lent {
+        counts: [s.order, s.max_reflections, s.planes, s.merge_on as u32, s.linear as u32],
+        #[rustfmt::skip]
+        floats: [
+            s.fade, s.max_distance, s.speed, s.rate, s.merge_cos, s.merge_offset, s.buried, s.reference, s.rolloff, s.min_distance, s.far_distance,
+        ],
+        room: s.room,
+        meshes: c.meshes.iter().flat_map(|m| [m.positions.len() as u32, m.indices.len() as u32, m.handle]).collect(),
+        transforms: c.meshes.iter().flat_map(|m| m.transform).collect(),
+        positions: c.meshes.iter().flat_map(|m| m.positions.iter().flatten().copied()).collect(),
+        indices: c.meshes.iter().flat_map(|m| m.indices.iter().copied()).collect(),
+        materials: c.materials.iter().flat_map(|r| r.absorption.into_iter().chain(r.transmission)).collect(),
+        rows: c.materials.len() as u32,
+    }
+}
+
+fn triples(c: &Case) -> usize {
+    c.meshes.iter().map(|m| m.indices.len() / 3).sum()
+}
+
+/// Areas of the least length, full of a pattern, so that what is written shows.
+fn areas(t: usize, room: usize) -> Areas {
+    Areas {
+        columns: (0..COLUMNS * t).map(|k| f32::from_bits(0x4100_0000 + k as u32)).collect(),
+        handles: (0..t).map(|k| 0x8000_0000 + k as u32).collect(),
+        candidate_floats: CANDIDATE_FLOATS * room,
+        candidate_words: CANDIDATE_WORDS * room,
+        output: OUTPUT,
+    }
+}
+
+/// The call damaged; false where it cannot be (a part or an area of no length).
+fn damage(l: &mut Lent, a: &mut Areas, d: Damage) -> bool {
+    fn cut<T: Copy + Default>(v: &mut Vec<T>, longer: bool) -> bool {
+        if longer { v.push(T::default()); true } else { v.pop().is_some() }
+    }
+    fn less(n: &mut usize) -> bool {
+        *n > 0 && { *n -= 1; true }
+    }
+    match d {
+        Damage::None => true,
+        Damage::Part(0, longer) => cut(&mut l.meshes, longer),
+        Damage::Part(1, longer) => cut(&mut l.transforms, longer),
+        Damage::Part(2, longer) => cut(&mut l.positions, longer),
+        Damage::Part(3, longer) => cut(&mut l.indices, longer),
+        Damage::Part(_, longer) => cut(&mut l.materials, longer),
+        Damage::Area(0) => a.columns.pop().is_some(),
+        Damage::Area(1) => a.handles.pop().is_some(),
+        Damage::Area(2) => less(&mut a.candidate_floats),
+        Damage::Area(3) => less(&mut a.candidate_words),
+        Damage::Area(_) => less(&mut a.output),
+    }
+}
+
+/// Document 01's first refusal of 1 to 6: the oracle's, which knows nothing of lengths, with 2 and 5 in their places.
+fn expected(c: &Case, d: Damage) -> u32 {
+    match (oracle::refusal_before_search(c), d) {
+        (1, _) => 1,
+        (_, Damage::Part(..)) => 2,
+        (k @ (3 | 4), _) => k,
+        (_, Damage::Area(_)) => 5,
+        (k, _) => k,
+    }
+}
+
+fn same_floats(a: &[f32], b: &[f32]) -> bool {
+    a.len() == b.len() && a.iter().zip(b).all(|(x, y)| x.to_bits() == y.to_bits())
+}
+
+/// What the port left: its answer and its areas.
+pub struct Left {
+    pub answer: Loaded,
+    pub areas: Areas,
+}
+
+/// What differs between the port's answer to a case and the Rust's, in words.
+fn difference(c: &Case, d: Damage, found: &Areas, left: &Left) -> Option<String> {
+    let refusal = expected(c, d);
+    let areas = &left.areas;
+    if refusal != 0 {
+        if left.answer != Loaded::Refused(refusal) {
+            return Some(format!("the port answers {:?}, document 01 refusal {refusal}", left.answer));
+        }
+        let zero = refusal == 6;
+        let floats = if zero { vec![0.0; found.columns.len()] } else { found.columns.clone() };
+        let words = if zero { vec![0; found.handles.len()] } else { found.handles.clone() };
+        if !same_floats(&areas.columns, &floats) || areas.handles != words {
+            return Some(format!("after refusal {refusal} an area is not {}", if zero { "zero" } else { "as it was found" }));
+        }
+        return None;
+    }
+    let tris = oracle::built(c, false).oracle_triangles();
+    let n = triples(c);
+    let Loaded::Triangles { kept, placings, triples } = left.answer else {
+        return Some(format!("the port answers {:?}, the Rust {} triangles", left.answer, tris.len()));
+    };
+    let placed: usize = c.meshes.iter().map(|m| m.indices.chunks_exact(3).filter(|t| t.iter().all(|&i| (i as usize) < m.positions.len())).count() * 3).sum();
+    if (kept, placings, triples) != (tris.len(), placed, n) {
+        return Some(format!("triangles, placings and triples are {:?}, not {:?}", (kept, placings, triples), (tris.len(), placed, n)));
+    }
+    let mut floats = found.columns.clone();
+    let mut words = found.handles.clone();
+    for (i, t) in tris.iter().enumerate() {
+        for (k, x) in row(t.a, t.b, t.c, t.normal).into_iter().enumerate() {
+            floats[i + k * n] = x;
+        }
+        words[i] = t.handle;
+    }
+    if let Some(k) = (0..floats.len()).find(|&k| floats[k].to_bits() != areas.columns[k].to_bits()) {
+        return Some(format!("column {} of row {}: port {:08x}, Rust {:08x}", k / n, k % n, areas.columns[k].to_bits(), floats[k].to_bits()));
+    }
+    (words != areas.handles).then(|| "a handle differs".to_string())
+}
+
+fn dot(a: [f32; 3], b: [f32; 3]) -> f32 {
+    a[0] * b[0] + a[1] * b[1] + a[2] * b[2]
+}
+
+/// The floats of a triangle: its corners and normal, and what `intersect_max` and `contains_point` work out of it, in the Rust's order.
+fn row(a: [f32; 3], b: [f32; 3], c: [f32; 3], normal: [f32; 3]) -> Vec<f32> {
+    let minus = |p: [f32; 3], q: [f32; 3]| [p[0] - q[0], p[1] - q[1], p[2] - q[2]];
+    let (e1, e2) = (minus(b, a), minus(c, a));
+    let scale = (dot(e1, e1) * dot(e2, e2)).sqrt();
+    let (d00, d01, d11) = (dot(e2, e2), dot(e2, e1), dot(e1, e1));
+    [a, b, c, normal, e1, e2].into_iter().flatten().chain([1e-9 * scale, d00, d01, d11, d00 * d11 - d01 * d01]).collect()
+}
+
+/// Planted slips: the port's answer changed as a fault would.
+pub const SLIPS: usize = 6;
+
+fn slip(left: &mut Left, kind: usize) -> bool {
+    let a = &mut left.areas;
+    match (kind, &mut left.answer) {
+        (0, Loaded::Refused(k)) => *k = *k % 6 + 1,
+        (1, Loaded::Triangles { kept, .. }) => *kept += 1,
+        (2, Loaded::Triangles { placings, .. }) => *placings += 3,
+        (3, _) if !a.columns.is_empty() => { let k = a.columns.len() / 2; a.columns[k] = f32::from_bits(a.columns[k].to_bits() ^ 1) }
+        (4, _) if !a.handles.is_empty() => { let k = a.handles.len() - 1; a.handles[k] ^= 1 }
+        (5, Loaded::Triangles { kept, triples, .. }) if *kept > 1 => {
+            let (x, y) = (0, 3 * *triples);
+            if a.columns[x].to_bits() == a.columns[y].to_bits() { return false; }
+            a.columns.swap(x, y) // first x of the first and the second corner
+        }
+        _ => return false,
+    }
+    true
+}
+
+/// Runs a case; the slip, if any, is planted into the port's answer. None where the damage or the slip does not apply.
+pub fn run(c: &Case, d: Damage, planted: Option<usize>) -> Option<Result<Loaded, String>> {
+    let mut l = lent(c);
+    let mut found = areas(triples(c), c.settings.room.min(250_000) as usize);
+    if !damage(&mut l, &mut found, d) {
+        return None;
+    }
+    let mut left = Left { answer: Loaded::Refused(0), areas: found.clone() };
+    left.answer = port::load_scene(&l, &mut left.areas);
+    if let Some(k) = planted {
+        if !slip(&mut left, k) {
+            return None;
+        }
+    }
+    Some(match difference(c, d, &found, &left) {
+        None => Ok(left.answer),
+        Some(words) => Err(words),
+    })
+}
