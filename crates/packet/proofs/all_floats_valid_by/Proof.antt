@@ -1,0 +1,99 @@
+-- `packet::all_floats_valid_by` meets its contract: the test of the packet's taps from each turn on is the test of all of them; the area's taps are theirs but for the bit maps.
+use borrow.Author.Needs.{needs}
+use Prim.Native.Nat.{_≤_, _-_, _+_, _*_, ℕ}
+use mathlib.Core.Path.{_≡_, refl, sym, ap, _∙_}
+use mathlib.Core.Bool.{true}
+use mathlib.Core.List.{map}
+use native.Mathlib.Omega.{arith}
+use lib.ListN.{length, drop, getD}
+use Rattle.packet.specs.Limits.{headBytes, tapWords}
+use Rattle.packet.specs.Tap.{inArea, tapsOf, tapOf}
+use Rattle.packet.specs.Bytes.{holdsTaps, tapsIn, tapSize}
+use Rattle.packet.specs.Refusals.{all, validFloats}
+use Rattle.packet.proofs.Laws.{tapsFrom}
+use Rattle.packet.proofs.Laws.{holds-room, holds-next, back-head, floats-in, floats-no, floats-yes, tapsIn-done, from-start}
+use Rattle.packet.proofs.all_floats_valid_by.Statement.{statement}
+use Rattle.packet.proofs.all_floats_valid_by.Tie as tie
+
+abbrev Inv-loop : tie.InvT-loop
+Inv-loop b count taps at₀ i₀ at i = (i ≤ count) × (at ≤ length b) × (holdsTaps (count - i) (drop at b) ≡ true) × (tapsFrom count i taps ≡ map inArea (tapsIn (count - i) (drop at b))) × (all validFloats (tapsIn count (drop headBytes b)) ≡ all validFloats (tapsIn (count - i) (drop at b)))
+
+abbrev μ-loop : tie.MeasureT-loop
+μ-loop b count taps at₀ i₀ at i = count - i
+
+loop-holds : tie.Need-loop-holds Inv-loop μ-loop
+loop-holds c =
+    let a = c .before .before .args in
+    let e : a .count ≡ a .count - 0 = omega arith in (
+      omega arith,
+      omega arith,
+      ap (λ (k : ℕ). holdsTaps k (drop headBytes (a .b .now))) (sym e) ∙ c .before .before .pre .0 .1,
+      from-start (a .count) (a .taps .now) ∙ c .before .before .pre .1 ∙ ap (λ (k : ℕ). map inArea (tapsIn k (drop headBytes (a .b .now)))) e,
+      ap (λ (k : ℕ). all validFloats (tapsIn k (drop headBytes (a .b .now)))) e,
+    )
+
+shared-slice-read-has-valid-floats : tie.Need-shared-slice-read-has-valid-floats Inv-loop μ-loop
+shared-slice-read-has-valid-floats c =
+    let a = c .before .before .before .before .before .args in
+    let l = c .before .before .loop in
+    let r = holds-room (a .count) (l .i) (l .at) (a .b .now) (c .before .loop-test .taken) (l .inv .2) in
+    omega arith
+
+returns : tie.Need-returns Inv-loop μ-loop
+returns c =
+    let a = c .before .before .before .before .before .before .before .args in
+    let l = c .before .before .before .before .loop in
+    let h = back-head (a .count) (l .i) (l .at) (a .b .now) (a .taps .now) (c .before .before .before .loop-test .taken) (l .inv .3) in
+    sym (l .inv .4 ∙ floats-no (a .count) (l .i) (l .at) (a .b .now) (c .before .before .before .loop-test .taken) (sym (floats-in (l .at) (a .b .now) (tapOf (drop (l .i * tapWords) (a .taps .now))) (h .0)) ∙ sym (c .before .has-valid-floats .ensures) ∙ c .if1 .left))
+
+shared-slice-read-tap-size : tie.Need-shared-slice-read-tap-size Inv-loop μ-loop
+shared-slice-read-tap-size c =
+    let a = c .before .before .before .before .before .before .before .before .args in
+    let l = c .before .before .before .before .before .loop in
+    let r = holds-room (a .count) (l .i) (l .at) (a .b .now) (c .before .before .before .before .loop-test .taken) (l .inv .2) in
+    omega arith
+
+add-at : tie.Need-add-at Inv-loop μ-loop
+add-at c =
+    let a = c .before .before .before .before .before .before .before .before .before .args in
+    let l = c .before .before .before .before .before .before .loop in
+    let r = holds-room (a .count) (l .i) (l .at) (a .b .now) (c .before .before .before .before .before .loop-test .taken) (l .inv .2) in
+    omega (arith, c .tap-size .ensures .0)
+
+loop-again : tie.Need-loop-again Inv-loop μ-loop
+loop-again c =
+    let a = c .before .before .before .before .before .before .before .before .before .args in
+    let l = c .before .before .before .before .before .before .loop in
+    let s = c .tap-size .ensures .0 in
+    let r = holds-room (a .count) (l .i) (l .at) (a .b .now) (c .before .before .before .before .before .loop-test .taken) (l .inv .2) in
+    let h = back-head (a .count) (l .i) (l .at) (a .b .now) (a .taps .now) (c .before .before .before .before .before .loop-test .taken) (l .inv .3) in (
+      omega arith,
+      omega arith,
+      ap (λ (k : ℕ). holdsTaps (a .count - (l .i + 1)) (drop (l .at + k) (a .b .now))) s ∙ holds-next (a .count) (l .i) (l .at) (a .b .now) (c .before .before .before .before .before .loop-test .taken) (l .inv .2),
+      h .1 ∙ ap (λ (k : ℕ). map inArea (tapsIn (a .count - (l .i + 1)) (drop (l .at + k) (a .b .now)))) (sym s),
+      l .inv .4 ∙ floats-yes (a .count) (l .i) (l .at) (a .b .now) (c .before .before .before .before .before .loop-test .taken) (sym (floats-in (l .at) (a .b .now) (tapOf (drop (l .i * tapWords) (a .taps .now))) (h .0)) ∙ sym (c .before .before .before .has-valid-floats .ensures) ∙ c .before .before .if1 .taken)
+          ∙ ap (λ (k : ℕ). all validFloats (tapsIn (a .count - (l .i + 1)) (drop (l .at + k) (a .b .now)))) (sym s),
+    )
+
+returns-2 : tie.Need-returns-2 Inv-loop μ-loop
+unfolding all
+returns-2 c = sym (c .before .loop .inv .4 ∙ ap (all validFloats) (tapsIn-done (c .before .before .before .before .args .count) (c .before .loop .i) (c .before .loop .at) (c .before .before .before .before .args .b .now) (c .loop-test .left)))
+
+pub all-floats-valid-by-spec : {M : Type 1} → statement M
+all-floats-valid-by-spec =
+    tie.close
+    (tie.spec
+    Inv-loop
+    μ-loop
+    loop-holds
+    (λ c. search needs)
+    shared-slice-read-has-valid-floats
+    (λ c κs. search needs)
+    returns
+    shared-slice-read-tap-size
+    (λ c κs. search needs)
+    add-at
+    (λ c. search needs)
+    (λ c. search needs)
+    loop-again
+    returns-2)

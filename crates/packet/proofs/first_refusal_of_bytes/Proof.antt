@@ -1,0 +1,121 @@
+-- `packet::first_refusal_of_bytes` meets its contract: each return is the first test that fails, for the packet's taps as the local area holds them.
+use borrow.Author.Needs.{needs}
+use mathlib.Core.Path.{_≡_, refl, sym, ap, _∙_}
+use native.Mathlib.Omega.{arith}
+use borrow.Author.Tests.{le-leb, lt-leb}
+use Prim.Native.Nat.{_*_, _≤_}
+use lib.ListN.{drop, replicate}
+use Rattle.packet.specs.Limits.{headBytes, tapWords, areaWords}
+use Rattle.packet.specs.Refusals.{all, finiteGains}
+use Rattle.packet.proofs.Laws.{valid-finite, finite-gains-in-area}
+use Rattle.packet.proofs.Answers.{held, held-in-range, held-distinct, held-sums}
+use Rattle.packet.proofs.first_refusal_of_bytes.Statement.{statement}
+use Rattle.packet.proofs.first_refusal_of_bytes.Tie as tie
+
+returns : tie.Need-returns
+returns c = rw (lt-leb _ _ (c .if1 .taken))
+
+returns-2 : tie.Need-returns-2
+returns-2 c = rw (le-leb _ _ (c .before .if1 .left), lt-leb _ _ (c .if2 .taken))
+
+read-taps-requires : tie.Need-read-taps-requires
+read-taps-requires c κs = (c .before .before .before .before .pre .0, c .before .before .before .before .pre .1, omega (arith, c .before .before .if1 .left))
+
+slice-aggregate-all-in-range : tie.Need-slice-aggregate-all-in-range
+slice-aggregate-all-in-range c = sym (c .before .before .read-taps .kept .1 .1 .0)
+
+all-in-range-requires : tie.Need-all-in-range-requires
+all-in-range-requires c κs = omega (arith, c .before .before .read-taps .kept .1 .1 .0, c .before .before .before .before .before .if1 .left)
+
+returns-3 : tie.Need-returns-3
+returns-3 c =
+    let a = c .before .before .before .before .before .before .before .before .before .args in
+    let bs = drop headBytes (a .b .now) in
+    let h : a .count * tapWords ≤ areaWords = omega (arith, c .before .before .before .before .before .before .before .if1 .left) in
+    let p3 = c .before .all-in-range .ensures ∙ held-in-range (a .count) bs (replicate areaWords 0) (c .before .before .before .before .read-taps .last .1 .1 .0) h (c .before .before .before .before .read-taps .ensures) (a .images) in
+    rw (le-leb _ _ (c .before .before .before .before .before .before .before .if1 .left), le-leb _ _ (c .before .before .before .before .before .before .if2 .left), ← p3, c .if3 .left)
+
+slice-aggregate-all-floats-valid-by : tie.Need-slice-aggregate-all-floats-valid-by
+slice-aggregate-all-floats-valid-by c = sym (c .before .before .before .before .before .read-taps .kept .1 .1 .0)
+
+all-floats-valid-by-requires : tie.Need-all-floats-valid-by-requires
+all-floats-valid-by-requires c κs =
+    let a = c .before .before .before .before .before .before .before .before .before .before .args in
+    let bs = drop headBytes (a .b .now) in
+    let h : a .count * tapWords ≤ areaWords = omega (arith, c .before .before .before .before .before .before .before .before .if1 .left) in
+    ((c .before .before .before .before .before .before .before .before .before .before .pre .0, c .before .before .before .before .before .before .before .before .before .before .pre .1, omega (arith, c .before .before .before .before .before .read-taps .kept .1 .1 .0, c .before .before .before .before .before .before .before .before .if1 .left)), held (a .count) bs (replicate areaWords 0) (c .before .before .before .before .before .read-taps .last .1 .1 .0) h (c .before .before .before .before .before .read-taps .ensures))
+
+returns-4 : tie.Need-returns-4
+returns-4 c =
+    let a = c .before .before .before .before .before .before .before .before .before .before .before .before .args in
+    let bs = drop headBytes (a .b .now) in
+    let h : a .count * tapWords ≤ areaWords = omega (arith, c .before .before .before .before .before .before .before .before .before .before .if1 .left) in
+    let p3 = c .before .before .before .before .all-in-range .ensures ∙ held-in-range (a .count) bs (replicate areaWords 0) (c .before .before .before .before .before .before .before .read-taps .last .1 .1 .0) h (c .before .before .before .before .before .before .before .read-taps .ensures) (a .images) in
+    rw (le-leb _ _ (c .before .before .before .before .before .before .before .before .before .before .if1 .left), le-leb _ _ (c .before .before .before .before .before .before .before .before .before .if2 .left), ← p3, c .before .before .before .if3 .taken, ← c .before .all-floats-valid-by .ensures, c .if4 .left)
+
+slice-aggregate-are-distinct : tie.Need-slice-aggregate-are-distinct
+slice-aggregate-are-distinct c = sym (c .before .before .before .before .before .before .before .before .read-taps .kept .1 .1 .0)
+
+are-distinct-requires : tie.Need-are-distinct-requires
+are-distinct-requires c κs = (c .before .before .before .before .before .before .before .before .before .before .before .if1 .left, omega (arith, c .before .before .before .before .before .before .before .before .read-taps .kept .1 .1 .0, c .before .before .before .before .before .before .before .before .before .before .before .if1 .left))
+
+returns-5 : tie.Need-returns-5
+returns-5 c =
+    let a = c .before .before .before .before .before .before .before .before .before .before .before .before .before .before .before .args in
+    let bs = drop headBytes (a .b .now) in
+    let h : a .count * tapWords ≤ areaWords = omega (arith, c .before .before .before .before .before .before .before .before .before .before .before .before .before .if1 .left) in
+    let p3 = c .before .before .before .before .before .before .before .all-in-range .ensures ∙ held-in-range (a .count) bs (replicate areaWords 0) (c .before .before .before .before .before .before .before .before .before .before .read-taps .last .1 .1 .0) h (c .before .before .before .before .before .before .before .before .before .before .read-taps .ensures) (a .images) in
+    let p5 = c .before .are-distinct .ensures ∙ held-distinct (a .count) bs (replicate areaWords 0) (c .before .before .before .before .before .before .before .before .before .before .read-taps .last .1 .1 .0) h (c .before .before .before .before .before .before .before .before .before .before .read-taps .ensures) in
+    rw (le-leb _ _ (c .before .before .before .before .before .before .before .before .before .before .before .before .before .if1 .left), le-leb _ _ (c .before .before .before .before .before .before .before .before .before .before .before .before .if2 .left), ← p3, c .before .before .before .before .before .before .if3 .taken, ← c .before .before .before .before .all-floats-valid-by .ensures, c .before .before .before .if4 .taken, ← p5, c .if5 .left)
+
+slice-aggregate-are-sums-valid : tie.Need-slice-aggregate-are-sums-valid
+slice-aggregate-are-sums-valid c = sym (c .before .before .before .before .before .before .before .before .before .before .before .read-taps .kept .1 .1 .0)
+
+are-sums-valid-requires : tie.Need-are-sums-valid-requires
+are-sums-valid-requires c κs =
+    let a = c .before .before .before .before .before .before .before .before .before .before .before .before .before .before .before .before .args in
+    let bs = drop headBytes (a .b .now) in
+    let h : a .count * tapWords ≤ areaWords = omega (arith, c .before .before .before .before .before .before .before .before .before .before .before .before .before .before .if1 .left) in
+    (omega (arith, c .before .before .before .before .before .before .before .before .before .before .before .read-taps .kept .1 .1 .0, c .before .before .before .before .before .before .before .before .before .before .before .before .before .before .if1 .left), ap (all finiteGains) (held (a .count) bs (replicate areaWords 0) (c .before .before .before .before .before .before .before .before .before .before .before .read-taps .last .1 .1 .0) h (c .before .before .before .before .before .before .before .before .before .before .before .read-taps .ensures)) ∙ finite-gains-in-area _ ∙ valid-finite _ (sym (c .before .before .before .before .before .all-floats-valid-by .ensures) ∙ c .before .before .before .before .if4 .taken))
+
+returns-6 : tie.Need-returns-6
+returns-6 c =
+    let a = c .before .before .before .before .before .before .before .before .before .before .before .before .before .before .before .before .before .before .args in
+    let bs = drop headBytes (a .b .now) in
+    let h : a .count * tapWords ≤ areaWords = omega (arith, c .before .before .before .before .before .before .before .before .before .before .before .before .before .before .before .before .if1 .left) in
+    let p3 = c .before .before .before .before .before .before .before .before .before .before .all-in-range .ensures ∙ held-in-range (a .count) bs (replicate areaWords 0) (c .before .before .before .before .before .before .before .before .before .before .before .before .before .read-taps .last .1 .1 .0) h (c .before .before .before .before .before .before .before .before .before .before .before .before .before .read-taps .ensures) (a .images) in
+    let p5 = c .before .before .before .before .are-distinct .ensures ∙ held-distinct (a .count) bs (replicate areaWords 0) (c .before .before .before .before .before .before .before .before .before .before .before .before .before .read-taps .last .1 .1 .0) h (c .before .before .before .before .before .before .before .before .before .before .before .before .before .read-taps .ensures) in
+    let p6 = c .before .are-sums-valid .ensures ∙ held-sums (a .count) bs (replicate areaWords 0) (c .before .before .before .before .before .before .before .before .before .before .before .before .before .read-taps .last .1 .1 .0) h (c .before .before .before .before .before .before .before .before .before .before .before .before .before .read-taps .ensures) in
+    rw (le-leb _ _ (c .before .before .before .before .before .before .before .before .before .before .before .before .before .before .before .before .if1 .left), le-leb _ _ (c .before .before .before .before .before .before .before .before .before .before .before .before .before .before .before .if2 .left), ← p3, c .before .before .before .before .before .before .before .before .before .if3 .taken, ← c .before .before .before .before .before .before .before .all-floats-valid-by .ensures, c .before .before .before .before .before .before .if4 .taken, ← p5, c .before .before .before .if5 .taken, ← p6, c .if6 .taken)
+
+returns-7 : tie.Need-returns-7
+returns-7 c =
+    let a = c .before .before .before .before .before .before .before .before .before .before .before .before .before .before .before .before .before .before .args in
+    let bs = drop headBytes (a .b .now) in
+    let h : a .count * tapWords ≤ areaWords = omega (arith, c .before .before .before .before .before .before .before .before .before .before .before .before .before .before .before .before .if1 .left) in
+    let p3 = c .before .before .before .before .before .before .before .before .before .before .all-in-range .ensures ∙ held-in-range (a .count) bs (replicate areaWords 0) (c .before .before .before .before .before .before .before .before .before .before .before .before .before .read-taps .last .1 .1 .0) h (c .before .before .before .before .before .before .before .before .before .before .before .before .before .read-taps .ensures) (a .images) in
+    let p5 = c .before .before .before .before .are-distinct .ensures ∙ held-distinct (a .count) bs (replicate areaWords 0) (c .before .before .before .before .before .before .before .before .before .before .before .before .before .read-taps .last .1 .1 .0) h (c .before .before .before .before .before .before .before .before .before .before .before .before .before .read-taps .ensures) in
+    let p6 = c .before .are-sums-valid .ensures ∙ held-sums (a .count) bs (replicate areaWords 0) (c .before .before .before .before .before .before .before .before .before .before .before .before .before .read-taps .last .1 .1 .0) h (c .before .before .before .before .before .before .before .before .before .before .before .before .before .read-taps .ensures) in
+    rw (le-leb _ _ (c .before .before .before .before .before .before .before .before .before .before .before .before .before .before .before .before .if1 .left), le-leb _ _ (c .before .before .before .before .before .before .before .before .before .before .before .before .before .before .before .if2 .left), ← p3, c .before .before .before .before .before .before .before .before .before .if3 .taken, ← c .before .before .before .before .before .before .before .all-floats-valid-by .ensures, c .before .before .before .before .before .before .if4 .taken, ← p5, c .before .before .before .if5 .taken, ← p6, c .if6 .left)
+
+pub first-refusal-of-bytes-spec : {M : Type 1} → statement M
+first-refusal-of-bytes-spec =
+    tie.close
+    (tie.spec
+    returns
+    returns-2
+    (λ c. refl)
+    read-taps-requires
+    slice-aggregate-all-in-range
+    all-in-range-requires
+    returns-3
+    slice-aggregate-all-floats-valid-by
+    all-floats-valid-by-requires
+    returns-4
+    slice-aggregate-are-distinct
+    are-distinct-requires
+    returns-5
+    slice-aggregate-are-sums-valid
+    are-sums-valid-requires
+    returns-6
+    returns-7)
