@@ -1,4 +1,6 @@
 // One stored case: what the packet's reader or writer answers, and whether that is the stored answer.
+ghost use mathlib.Core.Path.{_≡_};
+ghost use lib.ListN.{length};
 use crate::text;
 use libc::STDOUT_FILENO;
 
@@ -13,6 +15,27 @@ const WORDS: usize = 900;
 const BYTES: usize = 3500;
 
 const LONGEST: usize = 5619;
+
+// A tap area before a call.
+fn fresh_words() -> [u32; WORDS]
+    ensures { λ r. ⌜ length r ≡ 900 ⌝ }
+{
+    [FILL; WORDS]
+}
+
+// An output area before a call.
+fn fresh_bytes() -> [u8; BYTES]
+    ensures { λ r. ⌜ length r ≡ 3500 ⌝ }
+{
+    [FILL_BYTE; BYTES]
+}
+
+// Zeros, to which the start of a packet is stored.
+fn zeros() -> [u8; LONGEST]
+    ensures { λ r. ⌜ length r ≡ 5619 ⌝ }
+{
+    [0u8; LONGEST]
+}
 
 // Whether the words from `from` on are as they were.
 fn words_kept(a: &[u32], from: usize) -> bool {
@@ -106,7 +129,7 @@ fn print_name(kind: &[u8], line: &[u8]) -> usize {
 
 // Whether the taps that were read are written again as the bytes that they were read from, and nothing more.
 fn same_again(bytes: &[u8], count: usize, images: u32, rays: u32, taps: &[u32]) -> bool {
-    let mut out = [FILL_BYTE; BYTES];
+    let mut out = fresh_bytes();
     match packet::write(count, images, rays, taps, &mut out) {
         packet::Written::Bytes(n) => {
             n == bytes.len() && starts_with(&out, bytes) && bytes_kept(&out, n)
@@ -181,9 +204,9 @@ pub fn read_case(line: &[u8]) -> bool {
         rays: f[5],
         check: f[6],
     };
-    let mut bytes = [0u8; LONGEST];
+    let mut bytes = zeros();
     text::hex_bytes(line, at, &mut bytes);
-    let mut area = [FILL; WORDS];
+    let mut area = fresh_words();
     if WORDS < words {
         return print_verdict(false);
     }
@@ -223,11 +246,11 @@ pub fn write_case(line: &[u8]) -> bool {
     let words = f[0] as usize;
     let room = f[1] as usize;
     let n = f[6] as usize;
-    let mut area = [FILL; WORDS];
+    let mut area = fresh_words();
     let next = text::hex_words(line, at, &mut area);
-    let mut bytes = [0u8; LONGEST];
+    let mut bytes = zeros();
     text::hex_bytes(line, next, &mut bytes);
-    let mut out = [FILL_BYTE; BYTES];
+    let mut out = fresh_bytes();
     if WORDS < words {
         return print_verdict(false);
     }
