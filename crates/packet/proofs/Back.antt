@@ -15,9 +15,10 @@ use lib.Count.{trailingZeros}
 use borrow.Author.Tests.{le-leb, lt-leb, leb-true, eqb-true, eq-eqb, ne-eqb, ltb-true, lt-ltb}
 use Rattle.packet.specs.Limits.{bands, countBytes, headBytes, fixedBytes, fixedWords, tapWords, areaWords, outBytes, mostTaps, mostImages}
 use Rattle.packet.specs.Floats.{finiteBits, positiveBits, zeroBits}
-use Rattle.packet.specs.Tap.{Tap, bitMap, tapOf, tapsOf, inArea, wordsOf, allWords}
+use Rattle.packet.specs.Tap.{Tap, bitMap, tapOf, tapsOf, wordsOf, allWords}
 use Rattle.packet.specs.Bytes.{littleEndian, word, gainBytes, tapBytes, tapsBytes, encode, valueOf, wordOf, ones, tapSize, gainIn, gainsIn, tapIn, holdsTaps, tapsIn, countIn, imagesIn, raysIn, decode}
 use Rattle.packet.specs.Refusals.{all, inRange, validGain, validGains, validFloats, square, plusSquare, squaredGainSum, numberOf, firstFailed, tests}
+use Rattle.packet.specs.Helpers.{inArea}
 use Rattle.packet.specs.Reader.{whole, refusedRead}
 use Rattle.packet.specs.Writer.{refusedWrite}
 use Rattle.packet.proofs.Laws.{and-both, gain-length}

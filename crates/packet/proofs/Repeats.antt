@@ -17,7 +17,7 @@ use Rattle.order.proofs.Stable.{by-eq, sort-perm, Least, Chain, chain-sort}
 use Rattle.packet.specs.Limits.{tapWords}
 use Rattle.packet.specs.Tap.{tapsOf}
 use Rattle.packet.specs.Refusals.{member, distinct, numberOf}
-use Rattle.packet.specs.Keys.{keysOf, noneRepeats}
+use Rattle.packet.specs.Helpers.{keysOf, noneRepeats}
 use Rattle.packet.proofs.Laws.{tapsFrom, numbers-step, numbers-done, sets-front, taps-length}
 
 -- ---- the order of a list does not matter

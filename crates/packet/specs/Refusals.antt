@@ -84,10 +84,6 @@ noneExceeds (e ∷ f ∷ es) = not (lt e f) && noneExceeds (f ∷ es)
 abbrev pub validSums : List Float → Bool
 validSums es = all (lt leastSum) es && noneExceeds es
 
--- Every gain of a tap is finite, so that it has a square
-abbrev pub finiteGains : Tap → Bool
-finiteGains t = all finiteBits (t .gains)
-
 -- ---- the lowest that applies
 
 -- A refusal's number, and the test that keeps it away

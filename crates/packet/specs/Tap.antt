@@ -50,16 +50,3 @@ wordsOf t = t .order ∷ t .number ∷ t .x ∷ t .y ∷ t .z ∷ t .delay ∷ t
 unfoldable pub allWords : List Tap → List ℕ
 allWords [] = []
 allWords (t ∷ ts) = wordsOf t ++ allWords ts
-
--- A tap as a tap area holds it: no bit map is stored there, so it is that of the gains
-abbrev pub inArea : Tap → Tap
-inArea t = record {
-  bits = bitMap (t .gains);
-  order = t .order;
-  number = t .number;
-  x = t .x;
-  y = t .y;
-  z = t .z;
-  delay = t .delay;
-  gains = t .gains;
-}

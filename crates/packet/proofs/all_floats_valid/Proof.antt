@@ -22,16 +22,26 @@ loop-holds c = let a = c .before .args in (omega arith, ap (all validFloats) (sy
 
 returns : tie.Need-returns Inv-loop μ-loop
 returns c =
-    let a = c .before .before .before .before .before .before .args in
-    sym (c .before .before .before .before .loop .inv .1 ∙ all-no validFloats (a .count) (c .before .before .before .before .loop .i) (a .taps .now) (c .before .before .before .loop-test .taken) (sym (c .before .has-valid-floats .ensures ∙ floats-by (c .before .before .bit-map .result) (c .before .before .before .before .loop .i * tapWords) (a .taps .now) (c .before .before .bit-map .ensures)) ∙ c .if1 .left))
+    let c2 = c .before .before in
+    let c3 = c2 .before in
+    let c4 = c3 .before in
+    let c6 = c4 .before .before in
+    let a = c6 .args in
+    sym (c4 .loop .inv .1 ∙ all-no validFloats (a .count) (c4 .loop .i) (a .taps .now) (c3 .loop-test .taken) (sym (c .before .has-valid-floats .ensures ∙ floats-by (c2 .bit-map .result) (c4 .loop .i * tapWords) (a .taps .now) (c2 .bit-map .ensures)) ∙ c .if1 .left))
 
 loop-again : tie.Need-loop-again Inv-loop μ-loop
 loop-again c =
-    let a = c .before .before .before .before .before .before .args in
-    (omega arith, c .before .before .before .before .loop .inv .1 ∙ all-yes validFloats (a .count) (c .before .before .before .before .loop .i) (a .taps .now) (c .before .before .before .loop-test .taken) (sym (c .before .has-valid-floats .ensures ∙ floats-by (c .before .before .bit-map .result) (c .before .before .before .before .loop .i * tapWords) (a .taps .now) (c .before .before .bit-map .ensures)) ∙ c .if1 .taken))
+    let c2 = c .before .before in
+    let c3 = c2 .before in
+    let c4 = c3 .before in
+    let c6 = c4 .before .before in
+    let a = c6 .args in
+    (omega arith, c4 .loop .inv .1 ∙ all-yes validFloats (a .count) (c4 .loop .i) (a .taps .now) (c3 .loop-test .taken) (sym (c .before .has-valid-floats .ensures ∙ floats-by (c2 .bit-map .result) (c4 .loop .i * tapWords) (a .taps .now) (c2 .bit-map .ensures)) ∙ c .if1 .taken))
 
 returns-2 : tie.Need-returns-2 Inv-loop μ-loop
-returns-2 c = let a = c .before .before .before .args in sym (c .before .loop .inv .1 ∙ all-done validFloats (a .count) (c .before .loop .i) (a .taps .now) (c .loop-test .left))
+returns-2 c =
+    let c3 = c .before .before .before in
+    let a = c3 .args in sym (c .before .loop .inv .1 ∙ all-done validFloats (a .count) (c .before .loop .i) (a .taps .now) (c .loop-test .left))
 
 pub all-floats-valid-spec : {M : Type 1} → statement M
 all-floats-valid-spec =

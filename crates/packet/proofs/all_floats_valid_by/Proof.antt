@@ -7,9 +7,10 @@ use mathlib.Core.List.{map}
 use native.Mathlib.Omega.{arith}
 use lib.ListN.{length, drop, getD}
 use Rattle.packet.specs.Limits.{headBytes, tapWords}
-use Rattle.packet.specs.Tap.{inArea, tapsOf, tapOf}
+use Rattle.packet.specs.Tap.{tapsOf, tapOf}
 use Rattle.packet.specs.Bytes.{holdsTaps, tapsIn, tapSize}
 use Rattle.packet.specs.Refusals.{all, validFloats}
+use Rattle.packet.specs.Helpers.{inArea}
 use Rattle.packet.proofs.Laws.{tapsFrom}
 use Rattle.packet.proofs.Laws.{holds-room, holds-next, back-head, floats-in, floats-no, floats-yes, tapsIn-done, from-start}
 use Rattle.packet.proofs.all_floats_valid_by.Statement.{statement}
@@ -34,50 +35,68 @@ loop-holds c =
 
 shared-slice-read-has-valid-floats : tie.Need-shared-slice-read-has-valid-floats Inv-loop μ-loop
 shared-slice-read-has-valid-floats c =
-    let a = c .before .before .before .before .before .args in
-    let l = c .before .before .loop in
+    let c2 = c .before .before in
+    let c5 = c2 .before .before .before in
+    let a = c5 .args in
+    let l = c2 .loop in
     let r = holds-room (a .count) (l .i) (l .at) (a .b .now) (c .before .loop-test .taken) (l .inv .2) in
     omega arith
 
 returns : tie.Need-returns Inv-loop μ-loop
 returns c =
-    let a = c .before .before .before .before .before .before .before .args in
-    let l = c .before .before .before .before .loop in
-    let h = back-head (a .count) (l .i) (l .at) (a .b .now) (a .taps .now) (c .before .before .before .loop-test .taken) (l .inv .3) in
-    sym (l .inv .4 ∙ floats-no (a .count) (l .i) (l .at) (a .b .now) (c .before .before .before .loop-test .taken) (sym (floats-in (l .at) (a .b .now) (tapOf (drop (l .i * tapWords) (a .taps .now))) (h .0)) ∙ sym (c .before .has-valid-floats .ensures) ∙ c .if1 .left))
+    let c3 = c .before .before .before in
+    let c4 = c3 .before in
+    let c7 = c4 .before .before .before in
+    let a = c7 .args in
+    let l = c4 .loop in
+    let h = back-head (a .count) (l .i) (l .at) (a .b .now) (a .taps .now) (c3 .loop-test .taken) (l .inv .3) in
+    sym (l .inv .4 ∙ floats-no (a .count) (l .i) (l .at) (a .b .now) (c3 .loop-test .taken) (sym (floats-in (l .at) (a .b .now) (tapOf (drop (l .i * tapWords) (a .taps .now))) (h .0)) ∙ sym (c .before .has-valid-floats .ensures) ∙ c .if1 .left))
 
 shared-slice-read-tap-size : tie.Need-shared-slice-read-tap-size Inv-loop μ-loop
 shared-slice-read-tap-size c =
-    let a = c .before .before .before .before .before .before .before .before .args in
-    let l = c .before .before .before .before .before .loop in
-    let r = holds-room (a .count) (l .i) (l .at) (a .b .now) (c .before .before .before .before .loop-test .taken) (l .inv .2) in
+    let c4 = c .before .before .before .before in
+    let c5 = c4 .before in
+    let c8 = c5 .before .before .before in
+    let a = c8 .args in
+    let l = c5 .loop in
+    let r = holds-room (a .count) (l .i) (l .at) (a .b .now) (c4 .loop-test .taken) (l .inv .2) in
     omega arith
 
 add-at : tie.Need-add-at Inv-loop μ-loop
 add-at c =
-    let a = c .before .before .before .before .before .before .before .before .before .args in
-    let l = c .before .before .before .before .before .before .loop in
-    let r = holds-room (a .count) (l .i) (l .at) (a .b .now) (c .before .before .before .before .before .loop-test .taken) (l .inv .2) in
+    let c5 = c .before .before .before .before .before in
+    let c6 = c5 .before in
+    let c9 = c6 .before .before .before in
+    let a = c9 .args in
+    let l = c6 .loop in
+    let r = holds-room (a .count) (l .i) (l .at) (a .b .now) (c5 .loop-test .taken) (l .inv .2) in
     omega (arith, c .tap-size .ensures .0)
 
 loop-again : tie.Need-loop-again Inv-loop μ-loop
 loop-again c =
-    let a = c .before .before .before .before .before .before .before .before .before .args in
-    let l = c .before .before .before .before .before .before .loop in
+    let c2 = c .before .before in
+    let c3 = c2 .before in
+    let c5 = c3 .before .before in
+    let c6 = c5 .before in
+    let c9 = c6 .before .before .before in
+    let a = c9 .args in
+    let l = c6 .loop in
     let s = c .tap-size .ensures .0 in
-    let r = holds-room (a .count) (l .i) (l .at) (a .b .now) (c .before .before .before .before .before .loop-test .taken) (l .inv .2) in
-    let h = back-head (a .count) (l .i) (l .at) (a .b .now) (a .taps .now) (c .before .before .before .before .before .loop-test .taken) (l .inv .3) in (
+    let r = holds-room (a .count) (l .i) (l .at) (a .b .now) (c5 .loop-test .taken) (l .inv .2) in
+    let h = back-head (a .count) (l .i) (l .at) (a .b .now) (a .taps .now) (c5 .loop-test .taken) (l .inv .3) in (
       omega arith,
       omega arith,
-      ap (λ (k : ℕ). holdsTaps (a .count - (l .i + 1)) (drop (l .at + k) (a .b .now))) s ∙ holds-next (a .count) (l .i) (l .at) (a .b .now) (c .before .before .before .before .before .loop-test .taken) (l .inv .2),
+      ap (λ (k : ℕ). holdsTaps (a .count - (l .i + 1)) (drop (l .at + k) (a .b .now))) s ∙ holds-next (a .count) (l .i) (l .at) (a .b .now) (c5 .loop-test .taken) (l .inv .2),
       h .1 ∙ ap (λ (k : ℕ). map inArea (tapsIn (a .count - (l .i + 1)) (drop (l .at + k) (a .b .now)))) (sym s),
-      l .inv .4 ∙ floats-yes (a .count) (l .i) (l .at) (a .b .now) (c .before .before .before .before .before .loop-test .taken) (sym (floats-in (l .at) (a .b .now) (tapOf (drop (l .i * tapWords) (a .taps .now))) (h .0)) ∙ sym (c .before .before .before .has-valid-floats .ensures) ∙ c .before .before .if1 .taken)
+      l .inv .4 ∙ floats-yes (a .count) (l .i) (l .at) (a .b .now) (c5 .loop-test .taken) (sym (floats-in (l .at) (a .b .now) (tapOf (drop (l .i * tapWords) (a .taps .now))) (h .0)) ∙ sym (c3 .has-valid-floats .ensures) ∙ c2 .if1 .taken)
           ∙ ap (λ (k : ℕ). all validFloats (tapsIn (a .count - (l .i + 1)) (drop (l .at + k) (a .b .now)))) (sym s),
     )
 
 returns-2 : tie.Need-returns-2 Inv-loop μ-loop
 unfolding all
-returns-2 c = sym (c .before .loop .inv .4 ∙ ap (all validFloats) (tapsIn-done (c .before .before .before .before .args .count) (c .before .loop .i) (c .before .loop .at) (c .before .before .before .before .args .b .now) (c .loop-test .left)))
+returns-2 c =
+    let c4 = c .before .before .before .before in
+    sym (c .before .loop .inv .4 ∙ ap (all validFloats) (tapsIn-done (c4 .args .count) (c .before .loop .i) (c .before .loop .at) (c4 .args .b .now) (c .loop-test .left)))
 
 pub all-floats-valid-by-spec : {M : Type 1} → statement M
 all-floats-valid-by-spec =

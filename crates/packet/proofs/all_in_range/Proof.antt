@@ -21,16 +21,24 @@ loop-holds c = let a = c .before .args in (omega arith, ap (all (inRange (a .ima
 
 returns : tie.Need-returns Inv-loop μ-loop
 returns c =
-    let a = c .before .before .before .before .before .args in
-    sym (c .before .before .before .loop .inv .1 ∙ all-no (inRange (a .images)) (a .count) (c .before .before .before .loop .i) (a .taps .now) (c .before .before .loop-test .taken) (sym (c .before .is-in-range .ensures) ∙ c .if1 .left))
+    let c2 = c .before .before in
+    let c3 = c2 .before in
+    let c5 = c3 .before .before in
+    let a = c5 .args in
+    sym (c3 .loop .inv .1 ∙ all-no (inRange (a .images)) (a .count) (c3 .loop .i) (a .taps .now) (c2 .loop-test .taken) (sym (c .before .is-in-range .ensures) ∙ c .if1 .left))
 
 loop-again : tie.Need-loop-again Inv-loop μ-loop
 loop-again c =
-    let a = c .before .before .before .before .before .args in
-    (omega arith, c .before .before .before .loop .inv .1 ∙ all-yes (inRange (a .images)) (a .count) (c .before .before .before .loop .i) (a .taps .now) (c .before .before .loop-test .taken) (sym (c .before .is-in-range .ensures) ∙ c .if1 .taken))
+    let c2 = c .before .before in
+    let c3 = c2 .before in
+    let c5 = c3 .before .before in
+    let a = c5 .args in
+    (omega arith, c3 .loop .inv .1 ∙ all-yes (inRange (a .images)) (a .count) (c3 .loop .i) (a .taps .now) (c2 .loop-test .taken) (sym (c .before .is-in-range .ensures) ∙ c .if1 .taken))
 
 returns-2 : tie.Need-returns-2 Inv-loop μ-loop
-returns-2 c = let a = c .before .before .before .args in sym (c .before .loop .inv .1 ∙ all-done (inRange (a .images)) (a .count) (c .before .loop .i) (a .taps .now) (c .loop-test .left))
+returns-2 c =
+    let c3 = c .before .before .before in
+    let a = c3 .args in sym (c .before .loop .inv .1 ∙ all-done (inRange (a .images)) (a .count) (c .before .loop .i) (a .taps .now) (c .loop-test .left))
 
 pub all-in-range-spec : {M : Type 1} → statement M
 all-in-range-spec =

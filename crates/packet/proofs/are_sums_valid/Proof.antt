@@ -7,7 +7,8 @@ use mathlib.Core.List.{map}
 use native.Mathlib.Omega.{arith}
 use lib.Ieee.{nanBits}
 use Rattle.packet.specs.Tap.{tapsOf}
-use Rattle.packet.specs.Refusals.{all, finiteGains, squaredGainSum}
+use Rattle.packet.specs.Refusals.{all, squaredGainSum}
+use Rattle.packet.specs.Helpers.{finiteGains}
 use Rattle.packet.proofs.Laws.{falling, infinity, tapsFrom}
 use Rattle.packet.proofs.Laws.{from-start, from-done, finite-gains-both, falling-step, falling-valid}
 use Rattle.packet.proofs.are_sums_valid.Statement.{statement}
@@ -29,24 +30,41 @@ loop-holds c =
     (omega arith, ap (all finiteGains) e ∙ c .before .pre .1, ap (λ l. falling infinity (map squaredGainSum l)) (sym e))
 
 squared-gain-sum-requires : tie.Need-squared-gain-sum-requires Inv-loop μ-loop
-squared-gain-sum-requires c κs = (omega arith, finite-gains-both (c .before .before .before .args .count) (c .before .loop .i) (c .before .before .before .args .taps .now) (c .loop-test .taken) (c .before .loop .inv .1) .0)
+squared-gain-sum-requires c κs =
+    let c3 = c .before .before .before in
+    (omega arith, finite-gains-both (c3 .args .count) (c .before .loop .i) (c3 .args .taps .now) (c .loop-test .taken) (c .before .loop .inv .1) .0)
 
 returns : tie.Need-returns Inv-loop μ-loop
-returns c = sym (c .before .before .before .loop .inv .2 ∙ rw (falling-step (c .before .before .before .before .before .args .count) (c .before .before .before .loop .i) (c .before .before .before .before .before .args .taps .now) (c .before .before .loop-test .taken) (c .before .before .before .loop .last), ← c .before .squared-gain-sum .ensures, c .if1 .left)) ∙ falling-valid _
+returns c =
+    let c2 = c .before .before in
+    let c3 = c2 .before in
+    let c5 = c3 .before .before in
+    sym (c3 .loop .inv .2 ∙ rw (falling-step (c5 .args .count) (c3 .loop .i) (c5 .args .taps .now) (c2 .loop-test .taken) (c3 .loop .last), ← c .before .squared-gain-sum .ensures, c .if1 .left)) ∙ falling-valid _
 
 returns-2 : tie.Need-returns-2 Inv-loop μ-loop
-returns-2 c = sym (c .before .before .before .before .loop .inv .2 ∙ rw (falling-step (c .before .before .before .before .before .before .args .count) (c .before .before .before .before .loop .i) (c .before .before .before .before .before .before .args .taps .now) (c .before .before .before .loop-test .taken) (c .before .before .before .before .loop .last), ← c .before .before .squared-gain-sum .ensures, c .before .if1 .taken, c .if2 .taken)) ∙ falling-valid _
+returns-2 c =
+    let c2 = c .before .before in
+    let c3 = c2 .before in
+    let c4 = c3 .before in
+    let c6 = c4 .before .before in
+    sym (c4 .loop .inv .2 ∙ rw (falling-step (c6 .args .count) (c4 .loop .i) (c6 .args .taps .now) (c3 .loop-test .taken) (c4 .loop .last), ← c2 .squared-gain-sum .ensures, c .before .if1 .taken, c .if2 .taken)) ∙ falling-valid _
 
 loop-again : tie.Need-loop-again Inv-loop μ-loop
-loop-again c = (
-  omega arith,
-  finite-gains-both (c .before .before .before .before .before .before .args .count) (c .before .before .before .before .loop .i) (c .before .before .before .before .before .before .args .taps .now) (c .before .before .before .loop-test .taken) (c .before .before .before .before .loop .inv .1) .1,
-  c .before .before .before .before .loop .inv .2 ∙ rw (falling-step (c .before .before .before .before .before .before .args .count) (c .before .before .before .before .loop .i) (c .before .before .before .before .before .before .args .taps .now) (c .before .before .before .loop-test .taken) (c .before .before .before .before .loop .last), ← c .before .before .squared-gain-sum .ensures, c .before .if1 .taken, c .if2 .left),
-)
+loop-again c =
+    let c2 = c .before .before in
+    let c3 = c2 .before in
+    let c4 = c3 .before in
+    let c6 = c4 .before .before in (
+      omega arith,
+      finite-gains-both (c6 .args .count) (c4 .loop .i) (c6 .args .taps .now) (c3 .loop-test .taken) (c4 .loop .inv .1) .1,
+      c4 .loop .inv .2 ∙ rw (falling-step (c6 .args .count) (c4 .loop .i) (c6 .args .taps .now) (c3 .loop-test .taken) (c4 .loop .last), ← c2 .squared-gain-sum .ensures, c .before .if1 .taken, c .if2 .left),
+    )
 
 returns-3 : tie.Need-returns-3 Inv-loop μ-loop
 unfolding falling
-returns-3 c = sym (c .before .loop .inv .2 ∙ ap (λ l. falling (c .before .loop .last) (map squaredGainSum l)) (from-done (c .before .before .before .args .count) (c .before .loop .i) (c .before .before .before .args .taps .now) (c .loop-test .left))) ∙ falling-valid _
+returns-3 c =
+    let c3 = c .before .before .before in
+    sym (c .before .loop .inv .2 ∙ ap (λ l. falling (c .before .loop .last) (map squaredGainSum l)) (from-done (c3 .args .count) (c .before .loop .i) (c3 .args .taps .now) (c .loop-test .left))) ∙ falling-valid _
 
 pub are-sums-valid-spec : {M : Type 1} → statement M
 are-sums-valid-spec =

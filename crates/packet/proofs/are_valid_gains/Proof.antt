@@ -19,16 +19,24 @@ loop-holds c = (omega arith, refl)
 
 returns : tie.Need-returns Inv-loop μ-loop
 returns c =
-    let a = c .before .before .before .before .before .before .args in
-    sym (c .before .before .before .before .loop .inv .1 ∙ gains-no (a .at) (c .before .before .before .before .loop .k) (c .before .before .before .before .loop .m) (a .taps .now) (c .before .before .before .loop-test .taken) (c .before .before .before .before .before .before .pre) (sym (c .before .is-valid-gain .ensures) ∙ c .if1 .left))
+    let c3 = c .before .before .before in
+    let c4 = c3 .before in
+    let c6 = c4 .before .before in
+    let a = c6 .args in
+    sym (c4 .loop .inv .1 ∙ gains-no (a .at) (c4 .loop .k) (c4 .loop .m) (a .taps .now) (c3 .loop-test .taken) (c6 .pre) (sym (c .before .is-valid-gain .ensures) ∙ c .if1 .left))
 
 loop-again : tie.Need-loop-again Inv-loop μ-loop
 loop-again c =
-    let a = c .before .before .before .before .before .before .args in
-    (omega arith, c .before .before .before .before .loop .inv .1 ∙ gains-yes (a .at) (c .before .before .before .before .loop .k) (c .before .before .before .before .loop .m) (a .taps .now) (c .before .before .before .loop-test .taken) (c .before .before .before .before .before .before .pre) (sym (c .before .is-valid-gain .ensures) ∙ c .if1 .taken))
+    let c3 = c .before .before .before in
+    let c4 = c3 .before in
+    let c6 = c4 .before .before in
+    let a = c6 .args in
+    (omega arith, c4 .loop .inv .1 ∙ gains-yes (a .at) (c4 .loop .k) (c4 .loop .m) (a .taps .now) (c3 .loop-test .taken) (c6 .pre) (sym (c .before .is-valid-gain .ensures) ∙ c .if1 .taken))
 
 returns-2 : tie.Need-returns-2 Inv-loop μ-loop
-returns-2 c = let a = c .before .before .before .args in sym (c .before .loop .inv .1 ∙ gains-all (a .at) (c .before .loop .k) (c .before .loop .m) (a .taps .now) (c .loop-test .left))
+returns-2 c =
+    let c3 = c .before .before .before in
+    let a = c3 .args in sym (c .before .loop .inv .1 ∙ gains-all (a .at) (c .before .loop .k) (c .before .loop .m) (a .taps .now) (c .loop-test .left))
 
 pub are-valid-gains-spec : {M : Type 1} → statement M
 are-valid-gains-spec =

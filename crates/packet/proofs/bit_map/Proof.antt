@@ -19,18 +19,31 @@ unfolding bitMap
 loop-holds c = (omega arith, ap bitMap (sym (window-done (c .before .args .at) 8 (c .before .args .taps .now) (omega arith))))
 
 mul-m : tie.Need-mul-m Inv-loop μ-loop
-mul-m c = omega (arith, bits-window (c .before .before .before .before .before .args .at) (c .before .before .before .loop .k) (c .before .before .before .before .before .args .taps .now) (c .before .before .loop-test .taken))
+mul-m c =
+    let c2 = c .before .before in
+    let c3 = c2 .before in
+    let c5 = c3 .before .before in
+    omega (arith, bits-window (c5 .args .at) (c3 .loop .k) (c5 .args .taps .now) (c2 .loop-test .taken))
 
 add-m : tie.Need-add-m Inv-loop μ-loop
-add-m c = omega (arith, bits-window (c .before .before .before .before .before .args .at) (c .before .before .before .loop .k) (c .before .before .before .before .before .args .taps .now) (c .before .before .loop-test .taken))
+add-m c =
+    let c2 = c .before .before in
+    let c3 = c2 .before in
+    let c5 = c3 .before .before in
+    omega (arith, bits-window (c5 .args .at) (c3 .loop .k) (c5 .args .taps .now) (c2 .loop-test .taken))
 
 loop-again : tie.Need-loop-again Inv-loop μ-loop
 loop-again c =
-    let a = c .before .before .before .before .before .args in
-    (omega arith, (λ i. c .gain-bit .ensures .0 i + 2 * c .before .before .before .loop .inv .1 i) ∙ sym (bits-step (a .at) (c .before .before .before .loop .k) (a .taps .now) (c .before .before .loop-test .taken) (c .before .before .before .loop .inv .0) (c .before .before .before .before .before .pre)))
+    let c2 = c .before .before in
+    let c3 = c2 .before in
+    let c5 = c3 .before .before in
+    let a = c5 .args in
+    (omega arith, (λ i. c .gain-bit .ensures .0 i + 2 * c3 .loop .inv .1 i) ∙ sym (bits-step (a .at) (c3 .loop .k) (a .taps .now) (c2 .loop-test .taken) (c3 .loop .inv .0) (c5 .pre)))
 
 returns : tie.Need-returns Inv-loop μ-loop
-returns c = c .before .loop .inv .1 ∙ ap bitMap (window-zero (c .before .before .before .args .at) (c .before .loop .k) (c .before .before .before .args .taps .now) (c .loop-test .left))
+returns c =
+    let c3 = c .before .before .before in
+    c .before .loop .inv .1 ∙ ap bitMap (window-zero (c3 .args .at) (c .before .loop .k) (c3 .args .taps .now) (c .loop-test .left))
 
 pub bit-map-spec : {M : Type 1} → statement M
 bit-map-spec =

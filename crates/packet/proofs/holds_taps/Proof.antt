@@ -25,23 +25,33 @@ loop-holds c =
 
 returns : tie.Need-returns Inv-loop μ-loop
 returns c =
-    let a = c .before .before .before .before .args in
-    sym (c .before .before .loop .inv .2 ∙ holds-short (a .count) (c .before .before .loop .i) (c .before .before .loop .at) (a .b .now) (c .before .loop-test .taken) (omega arith))
+    let c2 = c .before .before in
+    let c4 = c2 .before .before in
+    let a = c4 .args in
+    sym (c2 .loop .inv .2 ∙ holds-short (a .count) (c2 .loop .i) (c2 .loop .at) (a .b .now) (c .before .loop-test .taken) (omega arith))
 
 returns-2 : tie.Need-returns-2 Inv-loop μ-loop
 returns-2 c =
-    let a = c .before .before .before .before .before .before .before .args in
+    let c4 = c .before .before .before .before in
+    let c5 = c4 .before in
+    let c7 = c5 .before .before in
+    let a = c7 .args in
     let e = c .before .tap-size .ensures .0 in
-    sym (c .before .before .before .before .before .loop .inv .2 ∙ holds-short (a .count) (c .before .before .before .before .before .loop .i) (c .before .before .before .before .before .loop .at) (a .b .now) (c .before .before .before .before .loop-test .taken) (omega arith))
+    sym (c5 .loop .inv .2 ∙ holds-short (a .count) (c5 .loop .i) (c5 .loop .at) (a .b .now) (c4 .loop-test .taken) (omega arith))
 
 loop-again : tie.Need-loop-again Inv-loop μ-loop
 loop-again c =
-    let a = c .before .before .before .before .before .before .before .args in
+    let c4 = c .before .before .before .before in
+    let c5 = c4 .before in
+    let c7 = c5 .before .before in
+    let a = c7 .args in
     let e = c .before .tap-size .ensures .0 in
-    (omega arith, omega arith, c .before .before .before .before .before .loop .inv .2 ∙ holds-go (a .count) (c .before .before .before .before .before .loop .i) (c .before .before .before .before .before .loop .at) (a .b .now) (c .before .before .before .before .loop-test .taken) (omega arith) ∙ ap (λ (k : ℕ). holdsTaps (a .count - (c .before .before .before .before .before .loop .i + 1)) (drop (c .before .before .before .before .before .loop .at + k) (a .b .now))) (sym e))
+    (omega arith, omega arith, c5 .loop .inv .2 ∙ holds-go (a .count) (c5 .loop .i) (c5 .loop .at) (a .b .now) (c4 .loop-test .taken) (omega arith) ∙ ap (λ (k : ℕ). holdsTaps (a .count - (c5 .loop .i + 1)) (drop (c5 .loop .at + k) (a .b .now))) (sym e))
 
 returns-3 : tie.Need-returns-3 Inv-loop μ-loop
-returns-3 c = let a = c .before .before .before .args in sym (c .before .loop .inv .2 ∙ holds-done (a .count) (c .before .loop .i) (c .before .loop .at) (a .b .now) (c .loop-test .left))
+returns-3 c =
+    let c3 = c .before .before .before in
+    let a = c3 .args in sym (c .before .loop .inv .2 ∙ holds-done (a .count) (c .before .loop .i) (c .before .loop .at) (a .b .now) (c .loop-test .left))
 
 pub holds-taps-spec : {M : Type 1} → statement M
 holds-taps-spec =

@@ -7,7 +7,10 @@ returns : tie.Need-returns
 returns c = rw (← c .before .before .is-finite .ensures, c .before .if1 .taken, c .if2 .taken)
 
 returns-2 : tie.Need-returns-2
-returns-2 c = rw (← c .before .before .before .is-finite .ensures, c .before .before .if1 .taken, c .before .if2 .left, c .is-positive .ensures)
+returns-2 c =
+    let c2 = c .before .before in
+    let c3 = c2 .before in
+    rw (← c3 .is-finite .ensures, c2 .if1 .taken, c .before .if2 .left, c .is-positive .ensures)
 
 returns-3 : tie.Need-returns-3
 returns-3 c = rw (← c .before .is-finite .ensures, c .if1 .left)

@@ -5,7 +5,7 @@ use mathlib.Core.Path.{_≡_, refl, sym, ap, _∙_}
 use native.Mathlib.Omega.{arith}
 use lib.ListN.{length, drop}
 use borrow.Author.Tests.{eq-eqb, ne-eqb}
-use Rattle.packet.specs.Keys.{noneRepeats}
+use Rattle.packet.specs.Helpers.{noneRepeats}
 use Rattle.packet.proofs.Repeats.{repeats-step, repeats-done}
 use Rattle.packet.proofs.neighbours_differ.Statement.{statement}
 use Rattle.packet.proofs.neighbours_differ.Tie as tie
@@ -21,16 +21,22 @@ loop-holds c = (omega arith, refl)
 
 returns : tie.Need-returns Inv-loop μ-loop
 returns c =
-    let k = c .before .before .before .before .before .args .keys .now in
-    let l = c .before .before .before .before .loop in
-    sym (l .inv .1 ∙ rw (repeats-step k (l .i) (l .inv .0) (c .before .before .before .loop-test .taken), eq-eqb _ _ (c .if1 .taken)))
+    let c3 = c .before .before .before in
+    let c4 = c3 .before in
+    let c5 = c4 .before in
+    let k = c5 .args .keys .now in
+    let l = c4 .loop in
+    sym (l .inv .1 ∙ rw (repeats-step k (l .i) (l .inv .0) (c3 .loop-test .taken), eq-eqb _ _ (c .if1 .taken)))
 
 loop-again : tie.Need-loop-again Inv-loop μ-loop
 loop-again c =
-    let k = c .before .before .before .before .before .args .keys .now in
-    let l = c .before .before .before .before .loop in
+    let c3 = c .before .before .before in
+    let c4 = c3 .before in
+    let c5 = c4 .before in
+    let k = c5 .args .keys .now in
+    let l = c4 .loop in
     let e : l .i + 1 - 1 ≡ l .i = omega arith in
-    (omega arith, l .inv .1 ∙ rw (repeats-step k (l .i) (l .inv .0) (c .before .before .before .loop-test .taken), ne-eqb _ _ (c .if1 .left), e))
+    (omega arith, l .inv .1 ∙ rw (repeats-step k (l .i) (l .inv .0) (c3 .loop-test .taken), ne-eqb _ _ (c .if1 .left), e))
 
 returns-2 : tie.Need-returns-2 Inv-loop μ-loop
 returns-2 c = sym (c .before .loop .inv .1 ∙ repeats-done (c .before .before .args .keys .now) (c .before .loop .i) (c .before .loop .inv .0) (c .loop-test .left))

@@ -8,7 +8,7 @@ use lib.ListN.{length, set, length-set}
 use lib.Seq.{sets}
 use Rattle.packet.specs.Tap.{tapsOf}
 use Rattle.packet.specs.Refusals.{numberOf}
-use Rattle.packet.specs.Keys.{keysOf}
+use Rattle.packet.specs.Helpers.{keysOf}
 use Rattle.packet.proofs.Laws.{tapsFrom, from-start}
 use Rattle.packet.proofs.Repeats.{keys-step, keys-done}
 use Rattle.packet.proofs.number_keys.Statement.{statement}
@@ -27,9 +27,12 @@ loop-holds c =
 
 loop-again : tie.Need-loop-again Inv-loop μ-loop
 loop-again c =
-    let a = c .before .before .before .before .before .before .args in
-    let l = c .before .before .before .loop in
-    let h = c .before .before .loop-test .taken in (
+    let c2 = c .before .before in
+    let c3 = c2 .before in
+    let c6 = c3 .before .before .before in
+    let a = c6 .args in
+    let l = c3 .loop in
+    let h = c2 .loop-test .taken in (
       omega arith,
       simp length-set (l .inv .1),
       ap (λ x. sets (set (l .keys) (l .i) (x * 4294967296)) (l .i + 1) (keysOf (map numberOf (tapsFrom (length (a .keys .now)) (l .i + 1) (a .taps .now))))) (c .long .ensures .0)
@@ -41,7 +44,8 @@ same-length c = c .before .loop .inv .1
 
 returns : tie.Need-returns Inv-loop μ-loop
 returns c =
-    let a = c .before .before .before .before .args in
+    let c4 = c .before .before .before .before in
+    let a = c4 .args in
     keys-done (length (a .keys .now)) (c .before .loop .i) (a .taps .now) (c .before .loop .keys) (a .keys .now) (omega arith) refl (c .before .loop .inv .2)
 
 pub number-keys-spec : {M : Type 1} → statement M

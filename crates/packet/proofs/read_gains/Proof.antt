@@ -35,8 +35,10 @@ add-p c =
 
 loop-again : tie.Need-loop-again Inv-loop μ-loop
 loop-again c =
-    let a = c .before .before .before .before .before .args in
-    let l = c .before .before .loop in
+    let c2 = c .before .before in
+    let c5 = c2 .before .before .before in
+    let a = c5 .args in
+    let l = c2 .loop in
     let o = ones-step (l .k) (l .m) (c .before .loop-test .taken) in
     (omega arith, simp length-set (l .inv .1), omega arith, take-gain (l .area) (a .b .now) (a .base) (l .k) (l .m) (l .p) (c .read-gain .result) _ (c .before .loop-test .taken) (c .read-gain .ensures) (l .inv .3))
 
@@ -45,8 +47,9 @@ same-length c = c .before .loop .inv .1
 
 returns : tie.Need-returns Inv-loop μ-loop
 returns c =
+    let c4 = c .before .before .before .before in
     let l = c .before .loop in
-    ap (λ (v : List ℕ). sets (l .area) (c .before .before .before .before .args .base + l .k) v) (sym (gains-done (l .k) (l .m) (drop (l .p) (c .before .before .before .before .args .b .now)) (c .loop-test .left))) ∙ l .inv .3
+    ap (λ (v : List ℕ). sets (l .area) (c4 .args .base + l .k) v) (sym (gains-done (l .k) (l .m) (drop (l .p) (c4 .args .b .now)) (c .loop-test .left))) ∙ l .inv .3
 
 pub read-gains-spec : {M : Type 1} → statement M
 read-gains-spec =

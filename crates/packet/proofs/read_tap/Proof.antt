@@ -30,7 +30,16 @@ same-length : tie.Need-same-length
 same-length c = c .before .before .read-gains .kept .1 .1 .1 .0 ∙ simp length-set
 
 returns : tie.Need-returns
-returns c = let a = c .before .before .before .before .before .before .before .before .before .before .before .before .before .before .args in c .before .before .read-gains .ensures ∙ read-tap-sets (a .area .now) (a .b .now) (a .base) (a .at) (c .before .before .before .before .before .before .before .before .before .wide .result) (c .before .before .before .before .before .before .before .before .read-word .result) (c .before .before .before .before .before .before .before .read-word2 .result) (c .before .before .before .before .before .before .read-word3 .result) (c .before .before .before .before .before .read-word4 .result) (c .before .before .before .before .read-word5 .result) (c .before .before .before .before .before .before .before .before .before .wide .ensures .0) (c .before .before .before .before .before .before .before .before .read-word .ensures) (c .before .before .before .before .before .before .before .read-word2 .ensures) (c .before .before .before .before .before .before .read-word3 .ensures) (c .before .before .before .before .before .read-word4 .ensures) (c .before .before .before .before .read-word5 .ensures)
+returns c =
+    let c2 = c .before .before in
+    let c4 = c2 .before .before in
+    let c5 = c4 .before in
+    let c6 = c5 .before in
+    let c7 = c6 .before in
+    let c8 = c7 .before in
+    let c9 = c8 .before in
+    let c14 = c9 .before .before .before .before .before in
+    let a = c14 .args in c2 .read-gains .ensures ∙ read-tap-sets (a .area .now) (a .b .now) (a .base) (a .at) (c9 .wide .result) (c8 .read-word .result) (c7 .read-word2 .result) (c6 .read-word3 .result) (c5 .read-word4 .result) (c4 .read-word5 .result) (c9 .wide .ensures .0) (c8 .read-word .ensures) (c7 .read-word2 .ensures) (c6 .read-word3 .ensures) (c5 .read-word4 .ensures) (c4 .read-word5 .ensures)
 
 pub read-tap-spec : {M : Type 1} → statement M
 read-tap-spec =

@@ -27,43 +27,57 @@ loop-holds c =
 
 read-tap-requires : tie.Need-read-tap-requires Inv-loop μ-loop
 read-tap-requires c κs =
-    let a = c .before .before .before .before .before .args in
-    let l = c .before .before .loop in
+    let c2 = c .before .before in
+    let c5 = c2 .before .before .before in
+    let a = c5 .args in
+    let l = c2 .loop in
     let r = holds-room (a .count) (l .i) (l .at) (a .b .now) (c .before .loop-test .taken) (l .inv .3) in
     (omega arith, omega arith)
 
 shared-slice-read-tap-size : tie.Need-shared-slice-read-tap-size Inv-loop μ-loop
 shared-slice-read-tap-size c =
-    let a = c .before .before .before .before .before .before .before .before .before .args in
-    let l = c .before .before .before .before .before .before .loop in
-    let r = holds-room (a .count) (l .i) (l .at) (a .b .now) (c .before .before .before .before .before .loop-test .taken) (l .inv .3) in
+    let c5 = c .before .before .before .before .before in
+    let c6 = c5 .before in
+    let c9 = c6 .before .before .before in
+    let a = c9 .args in
+    let l = c6 .loop in
+    let r = holds-room (a .count) (l .i) (l .at) (a .b .now) (c5 .loop-test .taken) (l .inv .3) in
     omega arith
 
 add-at : tie.Need-add-at Inv-loop μ-loop
 add-at c =
-    let a = c .before .before .before .before .before .before .before .before .before .before .args in
-    let l = c .before .before .before .before .before .before .before .loop in
-    let r = holds-room (a .count) (l .i) (l .at) (a .b .now) (c .before .before .before .before .before .before .loop-test .taken) (l .inv .3) in
+    let c6 = c .before .before .before .before .before .before in
+    let c7 = c6 .before in
+    let c10 = c7 .before .before .before in
+    let a = c10 .args in
+    let l = c7 .loop in
+    let r = holds-room (a .count) (l .i) (l .at) (a .b .now) (c6 .loop-test .taken) (l .inv .3) in
     omega (arith, c .tap-size .ensures .0)
 
 loop-again : tie.Need-loop-again Inv-loop μ-loop
 loop-again c =
-    let a = c .before .before .before .before .before .before .before .before .before .before .args in
-    let l = c .before .before .before .before .before .before .before .loop in
+    let c4 = c .before .before .before .before in
+    let c6 = c4 .before .before in
+    let c7 = c6 .before in
+    let c10 = c7 .before .before .before in
+    let a = c10 .args in
+    let l = c7 .loop in
     let s = c .tap-size .ensures .0 in
-    let r = holds-room (a .count) (l .i) (l .at) (a .b .now) (c .before .before .before .before .before .before .loop-test .taken) (l .inv .3) in (
+    let r = holds-room (a .count) (l .i) (l .at) (a .b .now) (c6 .loop-test .taken) (l .inv .3) in (
       omega arith,
-      c .before .before .before .before .read-tap .kept .1 .1 .0 ∙ l .inv .1,
+      c4 .read-tap .kept .1 .1 .0 ∙ l .inv .1,
       omega arith,
-      ap (λ (k : ℕ). holdsTaps (a .count - (l .i + 1)) (drop (l .at + k) (a .b .now))) s ∙ holds-next (a .count) (l .i) (l .at) (a .b .now) (c .before .before .before .before .before .before .loop-test .taken) (l .inv .3),
-      read-taps-sets (a .count) (l .i) (l .at) (a .b .now) (l .area) (c .before .before .before .before .read-tap .last .1 .1 .0) _ (c .tap-size .result) (c .before .before .before .before .before .before .loop-test .taken) s (c .before .before .before .before .read-tap .ensures) (l .inv .4),
+      ap (λ (k : ℕ). holdsTaps (a .count - (l .i + 1)) (drop (l .at + k) (a .b .now))) s ∙ holds-next (a .count) (l .i) (l .at) (a .b .now) (c6 .loop-test .taken) (l .inv .3),
+      read-taps-sets (a .count) (l .i) (l .at) (a .b .now) (l .area) (c4 .read-tap .last .1 .1 .0) _ (c .tap-size .result) (c6 .loop-test .taken) s (c4 .read-tap .ensures) (l .inv .4),
     )
 
 same-length : tie.Need-same-length Inv-loop μ-loop
 same-length c = c .before .loop .inv .1
 
 returns : tie.Need-returns Inv-loop μ-loop
-returns c = read-taps-done (c .before .before .before .before .args .count) (c .before .loop .i) (c .before .loop .at) (c .before .before .before .before .args .b .now) (c .before .loop .area) _ (c .loop-test .left) (c .before .loop .inv .4)
+returns c =
+    let c4 = c .before .before .before .before in
+    read-taps-done (c4 .args .count) (c .before .loop .i) (c .before .loop .at) (c4 .args .b .now) (c .before .loop .area) _ (c .loop-test .left) (c .before .loop .inv .4)
 
 pub read-taps-spec : {M : Type 1} → statement M
 read-taps-spec =

@@ -6,7 +6,9 @@ use Rattle.packet.proofs.read_word.Statement.{statement}
 use Rattle.packet.proofs.read_word.Tie as tie
 
 returns : tie.Need-returns
-returns c = word-at _ (c .before .before .before .before .before .before .before .before .before .args .at) (c .before .before .before .before .before .before .before .before .before .args .b .now) (omega arith)
+returns c =
+    let c9 = c .before .before .before .before .before .before .before .before .before in
+    word-at _ (c9 .args .at) (c9 .args .b .now) (omega arith)
 
 pub read-word-spec : {M : Type 1} → statement M
 read-word-spec =

@@ -22,19 +22,27 @@ loop-holds : tie.Need-loop-holds Inv-loop μ-loop
 loop-holds c = (omega arith, c .before .pre .1, refl)
 
 square-requires : tie.Need-square-requires Inv-loop μ-loop
-square-requires c κs = let a = c .before .before .before .before .args in finite-both (a .at) (c .before .before .loop .k) (a .taps .now) (c .before .loop-test .taken) (c .before .before .before .before .pre .0) (c .before .before .loop .inv .1) .0
+square-requires c κs =
+    let c2 = c .before .before in
+    let c4 = c2 .before .before in
+    let a = c4 .args in finite-both (a .at) (c2 .loop .k) (a .taps .now) (c .before .loop-test .taken) (c4 .pre .0) (c2 .loop .inv .1) .0
 
 loop-again : tie.Need-loop-again Inv-loop μ-loop
 loop-again c =
-    let a = c .before .before .before .before .before .args in (
+    let c2 = c .before .before in
+    let c3 = c2 .before in
+    let c5 = c3 .before .before in
+    let a = c5 .args in (
       omega arith,
-      finite-both (a .at) (c .before .before .before .loop .k) (a .taps .now) (c .before .before .loop-test .taken) (c .before .before .before .before .before .pre .0) (c .before .before .before .loop .inv .1) .1,
-      c .before .before .before .loop .inv .2 ∙ square-step (a .at) (c .before .before .before .loop .k) (a .taps .now) (c .before .before .loop-test .taken) (c .before .before .before .before .before .pre .0) (c .before .before .before .loop .s)
-          ∙ ap (λ (q : Float). foldl plusSquare (add binary32 (c .before .before .before .loop .s) q) (window (a .at) (c .before .before .before .loop .k + 1) (a .taps .now))) (sym (c .square .ensures)),
+      finite-both (a .at) (c3 .loop .k) (a .taps .now) (c2 .loop-test .taken) (c5 .pre .0) (c3 .loop .inv .1) .1,
+      c3 .loop .inv .2 ∙ square-step (a .at) (c3 .loop .k) (a .taps .now) (c2 .loop-test .taken) (c5 .pre .0) (c3 .loop .s)
+          ∙ ap (λ (q : Float). foldl plusSquare (add binary32 (c3 .loop .s) q) (window (a .at) (c3 .loop .k + 1) (a .taps .now))) (sym (c .square .ensures)),
     )
 
 returns : tie.Need-returns Inv-loop μ-loop
-returns c = let a = c .before .before .before .args in sym (c .before .loop .inv .2 ∙ ap (foldl plusSquare (c .before .loop .s)) (window-done (a .at) (c .before .loop .k) (a .taps .now) (c .loop-test .left)))
+returns c =
+    let c3 = c .before .before .before in
+    let a = c3 .args in sym (c .before .loop .inv .2 ∙ ap (foldl plusSquare (c .before .loop .s)) (window-done (a .at) (c .before .loop .k) (a .taps .now) (c .loop-test .left)))
 
 pub squared-gain-sum-spec : {M : Type 1} → statement M
 squared-gain-sum-spec =

@@ -6,7 +6,10 @@ use Rattle.packet.proofs.write_gain.Statement.{statement}
 use Rattle.packet.proofs.write_gain.Tie as tie
 
 returns : tie.Need-returns
-returns c = (omega arith, simp (eq-eqb _ _ (c .before .before .before .before .if1 .taken)) (c .before .before .write-word .ensures))
+returns c =
+    let c2 = c .before .before in
+    let c4 = c2 .before .before in
+    (omega arith, simp (eq-eqb _ _ (c4 .if1 .taken)) (c2 .write-word .ensures))
 
 returns-2 : tie.Need-returns-2
 returns-2 c = (omega (arith, c .if1 .left), simp (ne-eqb _ _ (c .if1 .left)))

@@ -22,14 +22,18 @@ loop-holds c = (omega arith, refl, omega arith, refl, refl)
 
 loop-again : tie.Need-loop-again Inv-loop μ-loop
 loop-again c =
-    let a = c .before .before .before .before .before .before .before .before .before .args in
-    let l = c .before .before .before .before .before .before .loop in
-    let e = c .before .before .write-gain .ensures in
-    let n = write-gain-length (a .at) (l .k) (l .m) (a .taps .now) (c .before .before .before .before .before .loop-test .taken) (c .before .before .before .before .before .before .before .before .before .pre .0) in (
+    let c2 = c .before .before in
+    let c5 = c2 .before .before .before in
+    let c6 = c5 .before in
+    let c9 = c6 .before .before .before in
+    let a = c9 .args in
+    let l = c6 .loop in
+    let e = c2 .write-gain .ensures in
+    let n = write-gain-length (a .at) (l .k) (l .m) (a .taps .now) (c5 .loop-test .taken) (c9 .pre .0) in (
       omega arith,
-      c .before .before .write-gain .kept .0 ∙ l .inv .1,
+      c2 .write-gain .kept .0 ∙ l .inv .1,
       omega (arith, e .0),
-      write-gain-sets (a .at) (l .k) (l .m) (a .taps .now) (c .before .before .before .before .before .loop-test .taken) (c .before .before .before .before .before .before .before .before .before .pre .0) (l .out) (c .before .before .write-gain .last .0) (l .p) (c .before .before .write-gain .result) (e .0) (e .1) ∙ l .inv .3,
+      write-gain-sets (a .at) (l .k) (l .m) (a .taps .now) (c5 .loop-test .taken) (c9 .pre .0) (l .out) (c2 .write-gain .last .0) (l .p) (c2 .write-gain .result) (e .0) (e .1) ∙ l .inv .3,
       omega (arith, e .0, n),
     )
 
@@ -38,9 +42,10 @@ same-length c = c .before .loop .inv .1
 
 returns : tie.Need-returns Inv-loop μ-loop
 returns c =
+    let c4 = c .before .before .before .before in
     let l = c .before .loop in
-    let d = gainBytes-done (c .before .before .before .before .args .at) (l .k) (l .m) (c .before .before .before .before .args .taps .now) (c .loop-test .left) in
-    let z : length (gainBytes (l .m) (window (c .before .before .before .before .args .at) (l .k) (c .before .before .before .before .args .taps .now))) ≡ 0 = ap length d in
+    let d = gainBytes-done (c4 .args .at) (l .k) (l .m) (c4 .args .taps .now) (c .loop-test .left) in
+    let z : length (gainBytes (l .m) (window (c4 .args .at) (l .k) (c4 .args .taps .now))) ≡ 0 = ap length d in
     record { stored = ap (sets (l .out) (l .p)) (sym d) ∙ l .inv .3; next = omega (arith, z, l .inv .4); short = omega arith }
 
 pub write-gains-spec : {M : Type 1} → statement M

@@ -29,23 +29,29 @@ loop-holds c =
 
 write-tap-requires : tie.Need-write-tap-requires Inv-loop μ-loop
 write-tap-requires c κs =
-    let a = c .before .before .before .before .before .args in
-    let l = c .before .before .loop in
+    let c2 = c .before .before in
+    let c5 = c2 .before .before .before in
+    let a = c5 .args in
+    let l = c2 .loop in
     let o = order-fits (a .images) (a .count) (l .i) (a .taps .now) (c .before .loop-test .taken) (l .inv .3) in
-    (omega arith, omega (arith, c .before .before .before .before .before .pre), o .0)
+    (omega arith, omega (arith, c5 .pre), o .0)
 
 loop-again : tie.Need-loop-again Inv-loop μ-loop
 loop-again c =
-    let a = c .before .before .before .before .before .before .before .before .args in
-    let l = c .before .before .before .before .before .loop in
-    let o = order-fits (a .images) (a .count) (l .i) (a .taps .now) (c .before .before .before .before .loop-test .taken) (l .inv .3) in
-    let e = c .before .before .write-tap .ensures in
-    let n = write-taps-length (a .count) (l .i) (a .taps .now) (c .before .before .before .before .loop-test .taken) in (
+    let c2 = c .before .before in
+    let c4 = c2 .before .before in
+    let c5 = c4 .before in
+    let c8 = c5 .before .before .before in
+    let a = c8 .args in
+    let l = c5 .loop in
+    let o = order-fits (a .images) (a .count) (l .i) (a .taps .now) (c4 .loop-test .taken) (l .inv .3) in
+    let e = c2 .write-tap .ensures in
+    let n = write-taps-length (a .count) (l .i) (a .taps .now) (c4 .loop-test .taken) in (
       omega arith,
-      c .before .before .write-tap .kept .1 .1 .0 ∙ l .inv .1,
+      c2 .write-tap .kept .1 .1 .0 ∙ l .inv .1,
       omega (arith, e .short),
       o .1,
-      write-taps-sets (a .count) (l .i) (l .p) (c .before .before .write-tap .result) (a .taps .now) (l .out) (c .before .before .write-tap .last .1 .1 .0) (c .before .before .before .before .loop-test .taken) (e .stored) (e .next) ∙ l .inv .4,
+      write-taps-sets (a .count) (l .i) (l .p) (c2 .write-tap .result) (a .taps .now) (l .out) (c2 .write-tap .last .1 .1 .0) (c4 .loop-test .taken) (e .stored) (e .next) ∙ l .inv .4,
       omega (arith, e .next, n, l .inv .5),
     )
 
@@ -54,11 +60,12 @@ same-length c = c .before .loop .inv .1
 
 returns : tie.Need-returns Inv-loop μ-loop
 returns c =
-    let a = c .before .before .before .before .args in
+    let c4 = c .before .before .before .before in
+    let a = c4 .args in
     let l = c .before .loop in
     let d = bytes-done (a .count) (l .i) (a .taps .now) (c .loop-test .left) in
     let z : length (tapsBytes (tapsFrom (a .count) (l .i) (a .taps .now))) ≡ 0 = ap length d in
-    (omega (arith, z, l .inv .5), omega (arith, c .before .before .before .before .pre), ap (sets (l .out) (l .p)) (sym d) ∙ l .inv .4)
+    (omega (arith, z, l .inv .5), omega (arith, c4 .pre), ap (sets (l .out) (l .p)) (sym d) ∙ l .inv .4)
 
 pub write-taps-spec : {M : Type 1} → statement M
 write-taps-spec =
