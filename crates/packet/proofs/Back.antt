@@ -15,7 +15,7 @@ use lib.Count.{trailingZeros}
 use borrow.Author.Tests.{le-leb, lt-leb, leb-true, eqb-true, eq-eqb, ne-eqb, ltb-true, lt-ltb}
 use Rattle.packet.specs.Limits.{bands, countBytes, headBytes, fixedBytes, fixedWords, tapWords, areaWords, outBytes, mostTaps, mostImages}
 use Rattle.packet.specs.Floats.{finiteBits, positiveBits, zeroBits}
-use Rattle.packet.specs.Tap.{Tap, bitMap, tapOf, tapsOf, wordsOf, allWords}
+use Rattle.packet.specs.Tap.{Tap, bitMap, readBackGain, readBack, tapOf, tapsOf, wordsOf, allWords}
 use Rattle.packet.specs.Bytes.{littleEndian, word, gainBytes, tapBytes, tapsBytes, encode, valueOf, wordOf, ones, tapSize, gainIn, gainsIn, tapIn, holdsTaps, tapsIn, countIn, imagesIn, raysIn, decode}
 use Rattle.packet.specs.Refusals.{all, inRange, validGain, validGains, validFloats, square, plusSquare, squaredGainSum, numberOf, firstFailed, tests}
 use Rattle.packet.specs.Helpers.{inArea}
@@ -59,10 +59,6 @@ bytes-drop k bs b i = rw (getD-drop k bs i 0) (b (k + i))
 
 -- ---- gains: written, and read back
 
--- −0 as +0
-abbrev pub cleanGain : ℕ → ℕ
-cleanGain g = cond (zeroBits g) 0 g
-
 low-bit : (z : Bool) (n : ℕ) → (cond z 0 1 + 2 * n) % 2 ≡ cond z 0 1
 low-bit true n = omega arith
 low-bit false n = omega arith
@@ -77,12 +73,12 @@ unfolding gainsIn
 gain-round k g m n gs r true e f h = rw (e, f)
 gain-round k g m n gs r false e f h = rw (e, f) (ap (λ (w : ℕ). w ∷ gainsIn k n (gainBytes n gs ++ r)) (word-back g (gainBytes n gs ++ r) h))
 
-gains-round : (gs r : List ℕ) → Words gs → gainsIn (length gs) (bitMap gs) (gainBytes (bitMap gs) gs ++ r) ≡ map cleanGain gs
+gains-round : (gs r : List ℕ) → Words gs → gainsIn (length gs) (bitMap gs) (gainBytes (bitMap gs) gs ++ r) ≡ map readBackGain gs
 unfolding gainsIn bitMap gainBytes
 gains-round [] r w = refl
 gains-round (g ∷ gs) r w =
     gain-round (length gs) g (bitMap (g ∷ gs)) (bitMap gs) gs r (zeroBits g) (low-bit (zeroBits g) (bitMap gs)) (high-bits (zeroBits g) (bitMap gs)) (w 0)
-    ∙ ap (λ (l : List ℕ). cleanGain g ∷ l) (gains-round gs r (λ i. w (suc i)))
+    ∙ ap (λ (l : List ℕ). readBackGain g ∷ l) (gains-round gs r (λ i. w (suc i)))
 
 gainBytes-length : (m : ℕ) (gs : List ℕ) → length (gainBytes m gs) ≡ 4 * ones (length gs) m
 unfolding gainBytes ones
@@ -96,18 +92,6 @@ gainBytes-length m (g ∷ gs) =
 
 -- ---- a tap: written, and read back
 
-abbrev pub clean : Tap → Tap
-clean t = record {
-  bits = t .bits;
-  order = t .order;
-  number = t .number;
-  x = t .x;
-  y = t .y;
-  z = t .z;
-  delay = t .delay;
-  gains = map cleanGain (t .gains);
-}
-
 -- a tap of words of 32 bits, with eight gains and their bit map
 pub record Fine (t : Tap) : Type 0 where
   pub bits-are : t .bits ≡ bitMap (t .gains)
@@ -119,11 +103,11 @@ pub record Fine (t : Tap) : Type 0 where
   pub delay-fits : t .delay < 4294967296
   pub gains-fit : Words (t .gains)
 
-tap-gains-round : (t : Tap) (r : List ℕ) → Fine t → gainsIn bands (t .bits) (gainBytes (t .bits) (t .gains) ++ r) ≡ map cleanGain (t .gains)
+tap-gains-round : (t : Tap) (r : List ℕ) → Fine t → gainsIn bands (t .bits) (gainBytes (t .bits) (t .gains) ++ r) ≡ map readBackGain (t .gains)
 tap-gains-round t r f =
     (λ i. gainsIn (sym (f .eight) i) (f .bits-are i) (gainBytes (f .bits-are i) (t .gains) ++ r)) ∙ gains-round (t .gains) r (f .gains-fit)
 
-tap-round : (t : Tap) (r : List ℕ) → Fine t → tapIn (tapBytes t ++ r) ≡ clean t
+tap-round : (t : Tap) (r : List ℕ) → Fine t → tapIn (tapBytes t ++ r) ≡ readBack t
 unfolding tapIn
 tap-round t r f =
     let e = tap-gains-round t r f in
@@ -147,12 +131,12 @@ abbrev pub AllFine : List Tap → Type 0
 AllFine [] = Unit
 AllFine (t ∷ ts) = Fine t × AllFine ts
 
-pub taps-round : (ts : List Tap) → AllFine ts → tapsIn (length ts) (tapsBytes ts) ≡ map clean ts
+pub taps-round : (ts : List Tap) → AllFine ts → tapsIn (length ts) (tapsBytes ts) ≡ map readBack ts
 unfolding tapsIn tapsBytes
 taps-round [] f = refl
 taps-round (t ∷ ts) f =
     (λ i. tap-round t (tapsBytes ts) (f .0) i ∷ tapsIn (length ts) (drop-at (tapBytes t) (tapsBytes ts) (tapSize (t .bits)) (tap-length t (f .0)) i))
-    ∙ ap (λ (l : List Tap). clean t ∷ l) (taps-round ts (f .1))
+    ∙ ap (λ (l : List Tap). readBack t ∷ l) (taps-round ts (f .1))
 
 pub taps-exact : (ts : List Tap) → AllFine ts → holdsTaps (length ts) (tapsBytes ts) ≡ true
 unfolding holdsTaps tapsBytes
@@ -195,12 +179,12 @@ tapsOf-fine (suc n) a w h =
 
 -- ---- the tests do not tell −0 from +0
 
-range-clean : (images : ℕ) (ts : List Tap) → all (inRange images) (map clean ts) ≡ all (inRange images) ts
+range-clean : (images : ℕ) (ts : List Tap) → all (inRange images) (map readBack ts) ≡ all (inRange images) ts
 unfolding all
 range-clean images [] = refl
 range-clean images (t ∷ ts) = ap (λ (b : Bool). inRange images t && b) (range-clean images ts)
 
-numbers-clean : (ts : List Tap) → map numberOf (map clean ts) ≡ map numberOf ts
+numbers-clean : (ts : List Tap) → map numberOf (map readBack ts) ≡ map numberOf ts
 numbers-clean [] = refl
 numbers-clean (t ∷ ts) = ap (λ (l : List ℕ). t .number ∷ l) (numbers-clean ts)
 
@@ -210,21 +194,21 @@ valid-gain-clean g m true e f =
     let l : g % 2147483648 ≡ 0 = eqb-true (g % 2147483648) 0 e in
     rw (f, l)
 
-valid-gains-clean : (gs : List ℕ) → validGains (bitMap gs) (map cleanGain gs) ≡ validGains (bitMap gs) gs
+valid-gains-clean : (gs : List ℕ) → validGains (bitMap gs) (map readBackGain gs) ≡ validGains (bitMap gs) gs
 unfolding validGains bitMap
 valid-gains-clean [] = refl
 valid-gains-clean (g ∷ gs) =
     let m : ℕ = bitMap (g ∷ gs) in
     let h : m / 2 ≡ bitMap gs = high-bits (zeroBits g) (bitMap gs) in
-    let ih : validGains (m / 2) (map cleanGain gs) ≡ validGains (m / 2) gs = rw h (valid-gains-clean gs) in
+    let ih : validGains (m / 2) (map readBackGain gs) ≡ validGains (m / 2) gs = rw h (valid-gains-clean gs) in
     λ i. valid-gain-clean g m (zeroBits g) refl (low-bit (zeroBits g) (bitMap gs)) i && ih i
 
-floats-clean : (t : Tap) → Fine t → validFloats (clean t) ≡ validFloats t
+floats-clean : (t : Tap) → Fine t → validFloats (readBack t) ≡ validFloats t
 floats-clean t f =
-    let e : validGains (t .bits) (map cleanGain (t .gains)) ≡ validGains (t .bits) (t .gains) = rw (f .bits-are) (valid-gains-clean (t .gains)) in
+    let e : validGains (t .bits) (map readBackGain (t .gains)) ≡ validGains (t .bits) (t .gains) = rw (f .bits-are) (valid-gains-clean (t .gains)) in
     ap (λ (b : Bool). finiteBits (t .x) && (finiteBits (t .y) && (finiteBits (t .z) && (positiveBits (t .delay) && b)))) e
 
-all-floats-valid-clean : (ts : List Tap) → AllFine ts → all validFloats (map clean ts) ≡ all validFloats ts
+all-floats-valid-clean : (ts : List Tap) → AllFine ts → all validFloats (map readBack ts) ≡ all validFloats ts
 unfolding all
 all-floats-valid-clean [] f = refl
 all-floats-valid-clean (t ∷ ts) f = λ i. floats-clean t (f .0) i && all-floats-valid-clean ts (f .1) i
@@ -246,17 +230,17 @@ square-clean g true e h =
         pick (yes k) = let e : 0 ≡ g = omega arith in ap square e
         pick (no k) = let e : 0x8000_0000 ≡ g = omega arith in sym square-zero ∙ ap square e
 
-sum-clean : (s : Float) (gs : List ℕ) → Words gs → foldl plusSquare s (map cleanGain gs) ≡ foldl plusSquare s gs
+sum-clean : (s : Float) (gs : List ℕ) → Words gs → foldl plusSquare s (map readBackGain gs) ≡ foldl plusSquare s gs
 sum-clean s [] w = refl
 sum-clean s (g ∷ gs) w =
-    ap (λ (q : Float). foldl plusSquare (add binary32 s q) (map cleanGain gs)) (square-clean g (zeroBits g) refl (w 0))
+    ap (λ (q : Float). foldl plusSquare (add binary32 s q) (map readBackGain gs)) (square-clean g (zeroBits g) refl (w 0))
     ∙ sum-clean (plusSquare s g) gs (λ i. w (suc i))
 
-sums-clean : (ts : List Tap) → AllFine ts → map squaredGainSum (map clean ts) ≡ map squaredGainSum ts
+sums-clean : (ts : List Tap) → AllFine ts → map squaredGainSum (map readBack ts) ≡ map squaredGainSum ts
 sums-clean [] f = refl
 sums-clean (t ∷ ts) f = λ i. sum-clean (ofBits binary32 0) (t .gains) (f .0 .gains-fit) i ∷ sums-clean ts (f .1) i
 
-pub tests-clean : (count images : ℕ) (ts : List Tap) → AllFine ts → firstFailed (tests count images (map clean ts)) ≡ firstFailed (tests count images ts)
+pub tests-clean : (count images : ℕ) (ts : List Tap) → AllFine ts → firstFailed (tests count images (map readBack ts)) ≡ firstFailed (tests count images ts)
 tests-clean count images ts f = rw (range-clean images ts, all-floats-valid-clean ts f, numbers-clean ts, sums-clean ts f)
 
 -- ---- what an acceptance tells

@@ -15,14 +15,14 @@ use borrow.Author.Tests.{le-leb, leb-true}
 use Rattle.packet.specs.declared.Reading.the-variants as reading
 use Rattle.packet.specs.declared.Written.the-variants as written
 use Rattle.packet.specs.Limits.{mostTaps, countBytes, headBytes, tapWords, areaWords, outBytes}
-use Rattle.packet.specs.Tap.{Tap, tapsOf, allWords}
+use Rattle.packet.specs.Tap.{Tap, tapsOf, allWords, readBack}
 use Rattle.packet.specs.Bytes.{littleEndian, encode, tapsBytes, tapsIn, holdsTaps, countIn, imagesIn, raysIn, decode}
 use Rattle.packet.specs.Refusals.{firstFailed, tests}
 use Rattle.packet.specs.Reader.{whole, refusedRead, readAnswer, readArea}
 use Rattle.packet.specs.Writer.{refusedWrite, packet, writeAnswer, writeOut}
 use Rattle.packet.proofs.Laws.{and-both, read-back, taps-length}
 use Rattle.packet.proofs.Answers.{by-tests, by-tests-write, passed, read-taken, write-taken}
-use Rattle.packet.proofs.Back.{Bytes, Words, AllFine, clean, value-back, word-back, taps-round, taps-exact, tapsOf-fine, tests-clean, bytes-drop, taps-again, packet-back, accepts-read, accepts-write, valid-floats}
+use Rattle.packet.proofs.Back.{Bytes, Words, AllFine, value-back, word-back, taps-round, taps-exact, tapsOf-fine, tests-clean, bytes-drop, taps-again, packet-back, accepts-read, accepts-write, valid-floats}
 
 -- ---- written, and read back
 
@@ -42,7 +42,7 @@ module _ (count images rays : ℕ) (a : List ℕ) (w : Words a) (hc : count < 25
   rays-back = word-back rays [] hr
 
   -- the taps of the packet are the taps written
-  pub taps-back : decode (packet count images rays a) ≡ map clean (tapsOf count a)
+  pub taps-back : decode (packet count images rays a) ≡ map readBack (tapsOf count a)
   taps-back =
       ap (λ (k : ℕ). tapsIn k (tapsBytes (tapsOf count a))) (count-back ∙ sym (taps-length count a))
       ∙ taps-round (tapsOf count a) fine
@@ -80,7 +80,7 @@ module _ (count images rays : ℕ) (a out t : List ℕ) (w : Words a) (hi : imag
 
   -- What the writer accepts is read back as those taps, a gain of −0 as +0: into any tap area that is long enough.
   pub written-read : (readAnswer (packet count images rays a) t ≡ reading.Taps count images rays)
-      × (readArea (packet count images rays a) t ≡ allWords (map clean (tapsOf count a)) ++ drop (length (allWords (map clean (tapsOf count a)))) t)
+      × (readArea (packet count images rays a) t ≡ allWords (map readBack (tapsOf count a)) ++ drop (length (allWords (map readBack (tapsOf count a)))) t)
   written-read =
       let q = read-taken (packet count images rays a) t reader-accepts-written in
       let n = count-back count images rays a w hc hi hr ha in

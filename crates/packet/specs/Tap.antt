@@ -1,7 +1,7 @@
 -- A tap, and the taps of a tap area: words of 32 bits, a float as its bits.
 use Prim.Native.Nat.{ℕ, zero, suc, _+_, _*_}
 use mathlib.Core.Bool.{cond}
-use mathlib.Core.List.{List, [], _∷_, _++_}
+use mathlib.Core.List.{List, [], _∷_, _++_, map}
 use lib.ListN.{getD, take, drop}
 use Rattle.packet.specs.Limits.{bands, fixedWords, tapWords}
 use Rattle.packet.specs.Floats.{zeroBits}
@@ -50,3 +50,22 @@ wordsOf t = t .order ∷ t .number ∷ t .x ∷ t .y ∷ t .z ∷ t .delay ∷ t
 unfoldable pub allWords : List Tap → List ℕ
 allWords [] = []
 allWords (t ∷ ts) = wordsOf t ++ allWords ts
+
+-- ---- what the writer's packet is read as
+
+-- "A zero gain has no bit and is read as +0"
+abbrev pub readBackGain : ℕ → ℕ
+readBackGain g = cond (zeroBits g) 0 g
+
+-- The tap that is read where this one was written: a gain of −0 is +0, and all else is the same
+abbrev pub readBack : Tap → Tap
+readBack t = record {
+  bits = t .bits;
+  order = t .order;
+  number = t .number;
+  x = t .x;
+  y = t .y;
+  z = t .z;
+  delay = t .delay;
+  gains = map readBackGain (t .gains);
+}

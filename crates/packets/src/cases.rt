@@ -160,10 +160,11 @@ fn print_taps(count: usize, images: u32, rays: u32, again: bool) {
 
 // Whether the taps read are the stored ones, and the words past them are as they were.
 fn taps_agree(taps: &[u32], count: usize, check: u64) -> bool {
-    if 64 < count {
+    if packet::MOST_TAPS < count {
         return false;
     }
-    check_words(taps, count * 14) == check && words_kept(taps, count * 14)
+    check_words(taps, count * packet::TAP_WORDS) == check
+        && words_kept(taps, count * packet::TAP_WORDS)
 }
 
 // Whether the counts are the stored ones.
