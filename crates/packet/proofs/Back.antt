@@ -21,7 +21,8 @@ use Rattle.packet.specs.Refusals.{all, inRange, validGain, validGains, v
 use Rattle.packet.specs.Helpers.{inArea}
 use Rattle.packet.specs.Reader.{whole, refusedRead}
 use Rattle.packet.specs.Writer.{refusedWrite}
-use Rattle.packet.proofs.Laws.{and-both, gain-length}
+use Rattle.packet.proofs.Runs.{and-both}
+use Rattle.packet.proofs.ToBytes.{gain-length}
 use Rattle.packet.proofs.Answers.{cond-zero}
 
 -- lists of bytes, and of words of 32 bits

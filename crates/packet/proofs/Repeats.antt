@@ -18,7 +18,8 @@ use Rattle.packet.specs.Limits.{tapWords}
 use Rattle.packet.specs.Tap.{tapsOf}
 use Rattle.packet.specs.Refusals.{member, distinct, numberOf}
 use Rattle.packet.specs.Helpers.{keysOf, noneRepeats}
-use Rattle.packet.proofs.Laws.{tapsFrom, numbers-step, numbers-done, sets-front, taps-length}
+use Rattle.packet.proofs.Runs.{sets-front}
+use Rattle.packet.proofs.Areas.{tapsFrom, numbers-step, numbers-done, taps-length}
 
 -- ---- the order of a list does not matter
 

@@ -20,7 +20,9 @@ use Rattle.packet.specs.Bytes.{littleEndian, encode, tapsBytes, tapsIn, 
 use Rattle.packet.specs.Refusals.{firstFailed, tests}
 use Rattle.packet.specs.Reader.{whole, refusedRead, readAnswer, readArea}
 use Rattle.packet.specs.Writer.{refusedWrite, packet, writeAnswer, writeOut}
-use Rattle.packet.proofs.Laws.{and-both, read-back, taps-length}
+use Rattle.packet.proofs.Runs.{and-both}
+use Rattle.packet.proofs.Areas.{taps-length}
+use Rattle.packet.proofs.FromBytes.{read-back}
 use Rattle.packet.proofs.Answers.{by-tests, by-tests-write, passed, read-taken, write-taken}
 use Rattle.packet.proofs.Back.{Bytes, Words, AllFine, value-back, word-back, taps-round, taps-exact, tapsOf-fine, tests-clean, bytes-drop, taps-again, packet-back, accepts-read, accepts-write, valid-floats}
 

@@ -6,8 +6,7 @@ use native.Mathlib.Omega.{arith}
 use Rattle.packet.specs.Limits.{tapWords}
 use Rattle.packet.specs.Tap.{tapsOf}
 use Rattle.packet.specs.Refusals.{all, validFloats}
-use Rattle.packet.proofs.Laws.{tapsFrom}
-use Rattle.packet.proofs.Laws.{from-start, all-no, all-yes, all-done, floats-by}
+use Rattle.packet.proofs.Areas.{tapsFrom, from-start, all-no, all-yes, all-done, floats-by}
 use Rattle.packet.proofs.all_floats_valid.Statement.{statement}
 use Rattle.packet.proofs.all_floats_valid.Tie as tie
 

@@ -11,8 +11,8 @@ use Rattle.packet.specs.Tap.{tapsOf, tapOf}
 use Rattle.packet.specs.Bytes.{holdsTaps, tapsIn, tapSize}
 use Rattle.packet.specs.Refusals.{all, validFloats}
 use Rattle.packet.specs.Helpers.{inArea}
-use Rattle.packet.proofs.Laws.{tapsFrom}
-use Rattle.packet.proofs.Laws.{holds-room, holds-next, back-head, floats-in, floats-no, floats-yes, tapsIn-done, from-start}
+use Rattle.packet.proofs.Areas.{tapsFrom, from-start}
+use Rattle.packet.proofs.FromBytes.{holds-room, holds-next, back-head, floats-in, floats-no, floats-yes, tapsIn-done}
 use Rattle.packet.proofs.all_floats_valid_by.Statement.{statement}
 use Rattle.packet.proofs.all_floats_valid_by.Tie as tie
 

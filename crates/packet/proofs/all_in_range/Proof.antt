@@ -5,8 +5,7 @@ use mathlib.Core.Path.{_≡_, sym, ap, _∙_}
 use native.Mathlib.Omega.{arith}
 use Rattle.packet.specs.Tap.{tapsOf}
 use Rattle.packet.specs.Refusals.{all, inRange}
-use Rattle.packet.proofs.Laws.{tapsFrom}
-use Rattle.packet.proofs.Laws.{from-start, all-no, all-yes, all-done}
+use Rattle.packet.proofs.Areas.{tapsFrom, from-start, all-no, all-yes, all-done}
 use Rattle.packet.proofs.all_in_range.Statement.{statement}
 use Rattle.packet.proofs.all_in_range.Tie as tie
 

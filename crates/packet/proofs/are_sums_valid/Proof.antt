@@ -9,8 +9,8 @@ use lib.Ieee.{nanBits}
 use Rattle.packet.specs.Tap.{tapsOf}
 use Rattle.packet.specs.Refusals.{all, squaredGainSum}
 use Rattle.packet.specs.Helpers.{finiteGains}
-use Rattle.packet.proofs.Laws.{falling, infinity, tapsFrom}
-use Rattle.packet.proofs.Laws.{from-start, from-done, finite-gains-both, falling-step, falling-valid}
+use Rattle.packet.proofs.Areas.{tapsFrom, from-start, from-done}
+use Rattle.packet.proofs.Sums.{falling, infinity, finite-gains-both, falling-step, falling-valid}
 use Rattle.packet.proofs.are_sums_valid.Statement.{statement}
 use Rattle.packet.proofs.are_sums_valid.Tie as tie
 

@@ -4,7 +4,7 @@ use Prim.Native.Nat.{_≤_, _-_}
 use mathlib.Core.Path.{_≡_, refl, sym, _∙_}
 use native.Mathlib.Omega.{arith}
 use Rattle.packet.specs.Refusals.{validGains}
-use Rattle.packet.proofs.Laws.{window, gains-no, gains-yes, gains-all}
+use Rattle.packet.proofs.Areas.{window, gains-no, gains-yes, gains-all}
 use Rattle.packet.proofs.are_valid_gains.Statement.{statement}
 use Rattle.packet.proofs.are_valid_gains.Tie as tie
 

@@ -4,7 +4,7 @@ use Prim.Native.Nat.{ℕ, _≤_, _-_, _+_, _*_}
 use mathlib.Core.Path.{_≡_, refl, sym, ap, _∙_}
 use native.Mathlib.Omega.{arith}
 use Rattle.packet.specs.Tap.{bitMap}
-use Rattle.packet.proofs.Laws.{window, window-done, bits-step, bits-window, window-zero}
+use Rattle.packet.proofs.Areas.{window, window-done, bits-step, bits-window, window-zero}
 use Rattle.packet.proofs.bit_map.Statement.{statement}
 use Rattle.packet.proofs.bit_map.Tie as tie
 

@@ -8,7 +8,8 @@ use lib.ListN.{drop, replicate}
 use Rattle.packet.specs.Limits.{headBytes, tapWords, areaWords}
 use Rattle.packet.specs.Refusals.{all}
 use Rattle.packet.specs.Helpers.{finiteGains}
-use Rattle.packet.proofs.Laws.{valid-finite, finite-gains-in-area}
+use Rattle.packet.proofs.Areas.{valid-finite}
+use Rattle.packet.proofs.FromBytes.{finite-gains-in-area}
 use Rattle.packet.proofs.Answers.{held, held-in-range, held-distinct, held-sums}
 use Rattle.packet.proofs.first_refusal_of_bytes.Statement.{statement}
 use Rattle.packet.proofs.first_refusal_of_bytes.Tie as tie

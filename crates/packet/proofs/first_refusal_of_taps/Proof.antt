@@ -3,7 +3,7 @@ use borrow.Author.Needs.{needs}
 use mathlib.Core.Path.{_≡_, refl, sym, ap, _∙_}
 use native.Mathlib.Omega.{arith}
 use borrow.Author.Tests.{le-leb, lt-leb}
-use Rattle.packet.proofs.Laws.{valid-finite}
+use Rattle.packet.proofs.Areas.{valid-finite}
 use Rattle.packet.proofs.first_refusal_of_taps.Statement.{statement}
 use Rattle.packet.proofs.first_refusal_of_taps.Tie as tie
 

@@ -1,6 +1,6 @@
 -- `packet::has_valid_floats` meets its contract: each return by the tests on the way.
 use borrow.Author.Needs.{needs}
-use Rattle.packet.proofs.Laws.{floats-at}
+use Rattle.packet.proofs.Areas.{floats-at}
 use Rattle.packet.proofs.has_valid_floats.Statement.{statement}
 use Rattle.packet.proofs.has_valid_floats.Tie as tie
 

@@ -7,7 +7,7 @@ use lib.ListN.{length, drop, getD}
 use borrow.Author.Tests.{le-leb, lt-leb}
 use Rattle.packet.specs.Limits.{headBytes}
 use Rattle.packet.specs.Bytes.{holdsTaps, tapSize}
-use Rattle.packet.proofs.Laws.{holds-step, holds-done, holds-short, holds-go}
+use Rattle.packet.proofs.FromBytes.{holds-step, holds-done, holds-short, holds-go}
 use Rattle.packet.proofs.holds_taps.Statement.{statement}
 use Rattle.packet.proofs.holds_taps.Tie as tie
 

@@ -1,7 +1,7 @@
 -- `packet::is_in_range` meets its contract: each return by the tests on the way.
 use borrow.Author.Needs.{needs}
 use borrow.Author.Tests.{le-leb, lt-leb}
-use Rattle.packet.proofs.Laws.{range-at}
+use Rattle.packet.proofs.Areas.{range-at}
 use Rattle.packet.proofs.is_in_range.Statement.{statement}
 use Rattle.packet.proofs.is_in_range.Tie as tie
 

@@ -9,7 +9,7 @@ use lib.Seq.{sets}
 use Rattle.packet.specs.Tap.{tapsOf}
 use Rattle.packet.specs.Refusals.{numberOf}
 use Rattle.packet.specs.Helpers.{keysOf}
-use Rattle.packet.proofs.Laws.{tapsFrom, from-start}
+use Rattle.packet.proofs.Areas.{tapsFrom, from-start}
 use Rattle.packet.proofs.Repeats.{keys-step, keys-done}
 use Rattle.packet.proofs.number_keys.Statement.{statement}
 use Rattle.packet.proofs.number_keys.Tie as tie

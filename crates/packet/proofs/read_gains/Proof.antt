@@ -8,7 +8,7 @@ use native.Mathlib.Nat.{add-zero}
 use lib.ListN.{length, drop, length-set}
 use lib.Seq.{sets}
 use Rattle.packet.specs.Bytes.{gainsIn, ones}
-use Rattle.packet.proofs.Laws.{take-gain, ones-step, gains-done}
+use Rattle.packet.proofs.FromBytes.{take-gain, ones-step, gains-done}
 use Rattle.packet.proofs.read_gains.Statement.{statement}
 use Rattle.packet.proofs.read_gains.Tie as tie
 

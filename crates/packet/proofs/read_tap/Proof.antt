@@ -4,7 +4,7 @@ use Prim.Native.Nat.{_≤_, _-_, _+_, _*_, ℕ}
 use mathlib.Core.Path.{_≡_, refl, sym, ap, _∙_}
 use native.Mathlib.Omega.{arith}
 use lib.ListN.{length-set}
-use Rattle.packet.proofs.Laws.{read-tap-sets}
+use Rattle.packet.proofs.FromBytes.{read-tap-sets}
 use Rattle.packet.proofs.read_tap.Statement.{statement}
 use Rattle.packet.proofs.read_tap.Tie as tie
 

@@ -9,7 +9,7 @@ use lib.Seq.{sets}
 use Rattle.packet.specs.Limits.{headBytes, tapWords}
 use Rattle.packet.specs.Tap.{allWords}
 use Rattle.packet.specs.Bytes.{holdsTaps, tapsIn, tapSize}
-use Rattle.packet.proofs.Laws.{holds-room, holds-next, read-taps-sets, read-taps-done}
+use Rattle.packet.proofs.FromBytes.{holds-room, holds-next, read-taps-sets, read-taps-done}
 use Rattle.packet.proofs.read_taps.Statement.{statement}
 use Rattle.packet.proofs.read_taps.Tie as tie
 

@@ -1,7 +1,7 @@
 -- `packet::read_word` meets its contract: four bytes are summed.
 use borrow.Author.Needs.{needs}
 use native.Mathlib.Omega.{arith}
-use Rattle.packet.proofs.Laws.{word-at}
+use Rattle.packet.proofs.FromBytes.{word-at}
 use Rattle.packet.proofs.read_word.Statement.{statement}
 use Rattle.packet.proofs.read_word.Tie as tie
 

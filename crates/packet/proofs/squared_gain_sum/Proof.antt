@@ -8,7 +8,8 @@ use native.Mathlib.Omega.{arith}
 use lib.Ieee.{Float, binary32, add}
 use Rattle.packet.specs.Floats.{finiteBits}
 use Rattle.packet.specs.Refusals.{all, squaredSum, plusSquare}
-use Rattle.packet.proofs.Laws.{window, finite-both, square-step, window-done}
+use Rattle.packet.proofs.Areas.{window, window-done}
+use Rattle.packet.proofs.Sums.{finite-both, square-step}
 use Rattle.packet.proofs.squared_gain_sum.Statement.{statement}
 use Rattle.packet.proofs.squared_gain_sum.Tie as tie
 

@@ -7,7 +7,8 @@ use native.Mathlib.Omega.{arith}
 use lib.ListN.{length}
 use lib.Seq.{sets}
 use Rattle.packet.specs.Bytes.{gainBytes}
-use Rattle.packet.proofs.Laws.{window, write-gain-sets, write-gain-length, gainBytes-done}
+use Rattle.packet.proofs.Areas.{window}
+use Rattle.packet.proofs.ToBytes.{write-gain-sets, write-gain-length, gainBytes-done}
 use Rattle.packet.proofs.write_gains.Statement.{statement}
 use Rattle.packet.proofs.write_gains.Tie as tie
 

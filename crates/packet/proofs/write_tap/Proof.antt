@@ -7,7 +7,8 @@ use lib.ListN.{length, getD, set, length-set}
 use lib.Seq.{sets}
 use Rattle.packet.specs.Tap.{Tap}
 use Rattle.packet.specs.Bytes.{tapBytes}
-use Rattle.packet.proofs.Laws.{write-tap-sets, tapAt, tap-at}
+use Rattle.packet.proofs.Areas.{tapAt, tap-at}
+use Rattle.packet.proofs.ToBytes.{write-tap-sets}
 use Rattle.packet.proofs.write_tap.Statement.{statement}
 use Rattle.packet.proofs.write_tap.Tie as tie
 

@@ -10,8 +10,8 @@ use Rattle.packet.specs.Limits.{headBytes, longestTap}
 use Rattle.packet.specs.Tap.{tapsOf, tapOf}
 use Rattle.packet.specs.Bytes.{tapsBytes, tapBytes}
 use Rattle.packet.specs.Refusals.{all, inRange}
-use Rattle.packet.proofs.Laws.{tapsFrom}
-use Rattle.packet.proofs.Laws.{from-start, order-fits, write-taps-sets, write-taps-length, bytes-done}
+use Rattle.packet.proofs.Areas.{tapsFrom, from-start, order-fits}
+use Rattle.packet.proofs.ToBytes.{write-taps-sets, write-taps-length, bytes-done}
 use Rattle.packet.proofs.write_taps.Statement.{statement}
 use Rattle.packet.proofs.write_taps.Tie as tie
 
