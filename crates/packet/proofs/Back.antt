@@ -3,19 +3,19 @@
 use Prim.Native.Nat.{ℕ, zero, suc, _+_, _*_, _/_, _%_, _^_, _≤_, _<_}
 use mathlib.Core.Path.{_≡_, refl, sym, ap, _∙_}
 use mathlib.Core.Bool.{Bool, true, false, cond, not, _&&_, _||_}
-use mathlib.Core.List.{List, [], _∷_, _++_, map, foldl, append-assoc, append-nil}
+use mathlib.Core.List.{List, [], _∷_, _++_, map, foldl}
 use native.Mathlib.Omega.{arith}
 use native.Mathlib.Decide.{decLt}
-use native.Mathlib.Nat.{pow-succ', div-div-eq-div-mul}
-use lib.ListN.{length, getD, take, drop, length-append, length-take, length-drop, length-map}
-use lib.Seq.{drop-drop, drop-at, take-at, getD-drop, getD-take}
-use lib.Dec.{T, leb, ltb, eqb}
+use native.Mathlib.Nat.{pow-succ'}
+use lib.ListN.{length, getD, take, drop, length-append, length-take, length-drop}
+use lib.Seq.{drop-drop, drop-at, getD-drop}
+use lib.Dec.{leb, ltb, eqb}
 use lib.Ieee.{Float, binary32, ofBits, ofFields, mul, odd, round, size, span, climb, units, add}
 use lib.Count.{trailingZeros}
-use borrow.Author.Tests.{le-leb, lt-leb, leb-true, eqb-true, eq-eqb, ne-eqb, ltb-true, lt-ltb}
+use borrow.Author.Tests.{le-leb, leb-true, eqb-true, eq-eqb, ne-eqb, ltb-true}
 use Rattle.packet.specs.Limits.{bands, countBytes, headBytes, fixedBytes, fixedWords, tapWords, areaWords, outBytes, mostTaps, mostImages}
 use Rattle.packet.specs.Floats.{finiteBits, positiveBits, zeroBits}
-use Rattle.packet.specs.Tap.{Tap, bitMap, readBackGain, readBack, tapOf, tapsOf, wordsOf, allWords}
+use Rattle.packet.specs.Tap.{Tap, bitMap, readBackGain, readBack, tapOf, tapsOf}
 use Rattle.packet.specs.Bytes.{littleEndian, word, gainBytes, tapBytes, tapsBytes, encode, valueOf, wordOf, ones, tapSize, gainIn, gainsIn, tapIn, holdsTaps, tapsIn, countIn, imagesIn, raysIn, decode}
 use Rattle.packet.specs.Refusals.{all, inRange, validGain, validGains, validFloats, square, plusSquare, squaredGainSum, numberOf, firstFailed, tests}
 use Rattle.packet.specs.Helpers.{inArea}

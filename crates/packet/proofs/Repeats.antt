@@ -1,6 +1,6 @@
 -- An image number comes twice exactly where two neighbours in the sorted numbers are equal: `distinct` does not depend on the order of the list,
 -- and in a sorted list a number's equals stand right after it.
-use Prim.Native.Nat.{ℕ, zero, suc, _+_, _-_, _*_, _/_, _≤_, _<_}
+use Prim.Native.Nat.{ℕ, suc, _+_, _-_, _*_, _/_, _≤_, _<_}
 use mathlib.Core.Path.{_≡_, refl, sym, ap, subst, _∙_}
 use mathlib.Core.Bool.{Bool, true, false, not, _&&_, _||_}
 use mathlib.Core.List.{List, [], _∷_, _++_, map, append-nil}
@@ -10,7 +10,7 @@ use native.Mathlib.Numerals.{add-one}
 use lib.ListN.{length, getD, take, drop, set, replicate, length-replicate, length-map, length-drop, drop-of-length-le}
 use lib.Seq.{sets, drop-cons, length-take-le}
 use lib.Dec.{eqb}
-use borrow.Author.Tests.{eq-eqb, ne-eqb, eqb-true, eqb-false}
+use borrow.Author.Tests.{eq-eqb, ne-eqb}
 use Rattle.order.specs.Sort.{sortBy, Perm, none, skip, swap, then}
 use Rattle.order.specs.Radix.{upper}
 use Rattle.order.proofs.Stable.{by-eq, sort-perm, Least, Chain, chain-sort}

@@ -38,9 +38,6 @@ sets-step l b k x v =
     let e : suc (b + k) ≡ b + (k + 1) = omega arith in
     ap (λ (j : ℕ). sets (set l (b + k) x) j v) e
 
-pub sets-four : (l : List ℕ) (i a b c d : ℕ) → set (set (set (set l i a) (i + 1) b) (i + 2) c) (i + 3) d ≡ sets l i (a ∷ b ∷ c ∷ d ∷ [])
-sets-four l i a b c d = rw (add-one i, add-two i, add-three i)
-
 pub sets-six : (l : List ℕ) (i a b c d e f : ℕ) (v : List ℕ)
     → sets (set (set (set (set (set (set l i a) (i + 1) b) (i + 2) c) (i + 3) d) (i + 4) e) (i + 5) f) (i + 6) v ≡ sets l i (a ∷ b ∷ c ∷ d ∷ e ∷ f ∷ v)
 sets-six l i a b c d e f v = rw (add-one i, add-two i, add-three i, add-four i, add-five i, add-six i)

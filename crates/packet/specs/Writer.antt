@@ -1,6 +1,6 @@
 -- What the writer answers, and what its output area then holds: for any count, images and rays, any tap area a and any output area out, as it is found.
 use Prim.Native.Nat.{ℕ}
-use mathlib.Core.List.{List, [], _∷_, _++_}
+use mathlib.Core.List.{List, _∷_, _++_}
 use lib.ListN.{length, drop}
 use lib.Dec.{leb}
 use Rattle.packet.specs.declared.Written.{Written}

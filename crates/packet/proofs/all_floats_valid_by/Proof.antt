@@ -1,14 +1,14 @@
 -- `packet::all_floats_valid_by` meets its contract: the test of the packet's taps from each turn on is the test of all of them; the area's taps are theirs but for the bit maps.
 use borrow.Author.Needs.{needs}
 use Prim.Native.Nat.{_≤_, _-_, _+_, _*_, ℕ}
-use mathlib.Core.Path.{_≡_, refl, sym, ap, _∙_}
+use mathlib.Core.Path.{_≡_, sym, ap, _∙_}
 use mathlib.Core.Bool.{true}
 use mathlib.Core.List.{map}
 use native.Mathlib.Omega.{arith}
-use lib.ListN.{length, drop, getD}
+use lib.ListN.{length, drop}
 use Rattle.packet.specs.Limits.{headBytes, tapWords}
-use Rattle.packet.specs.Tap.{tapsOf, tapOf}
-use Rattle.packet.specs.Bytes.{holdsTaps, tapsIn, tapSize}
+use Rattle.packet.specs.Tap.{tapOf}
+use Rattle.packet.specs.Bytes.{holdsTaps, tapsIn}
 use Rattle.packet.specs.Refusals.{all, validFloats}
 use Rattle.packet.specs.Helpers.{inArea}
 use Rattle.packet.proofs.Areas.{tapsFrom, from-start}

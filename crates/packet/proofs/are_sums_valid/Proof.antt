@@ -1,7 +1,7 @@
 -- `packet::are_sums_valid` meets its contract: the sums from each turn on are valid after the last one seen where all are; the first follows infinity.
 use borrow.Author.Needs.{needs}
-use Prim.Native.Nat.{ℕ, _≤_, _-_}
-use mathlib.Core.Path.{_≡_, refl, sym, ap, _∙_}
+use Prim.Native.Nat.{_≤_, _-_}
+use mathlib.Core.Path.{_≡_, sym, ap, _∙_}
 use mathlib.Core.Bool.{true}
 use mathlib.Core.List.{map}
 use native.Mathlib.Omega.{arith}

@@ -1,7 +1,7 @@
 -- `packet::bit_map` meets its contract: from the last band down, the map so far is that of the gains from there on.
 use borrow.Author.Needs.{needs}
-use Prim.Native.Nat.{ℕ, _≤_, _-_, _+_, _*_}
-use mathlib.Core.Path.{_≡_, refl, sym, ap, _∙_}
+use Prim.Native.Nat.{_≤_, _-_, _+_, _*_}
+use mathlib.Core.Path.{_≡_, sym, ap, _∙_}
 use native.Mathlib.Omega.{arith}
 use Rattle.packet.specs.Tap.{bitMap}
 use Rattle.packet.proofs.Areas.{window, window-done, bits-step, bits-window, window-zero}

@@ -1,6 +1,5 @@
 -- `packet::first_refusal_of_bytes` meets its contract: each return is the first test that fails, for the packet's taps as the local area holds them.
-use borrow.Author.Needs.{needs}
-use mathlib.Core.Path.{_≡_, refl, sym, ap, _∙_}
+use mathlib.Core.Path.{refl, sym, ap, _∙_}
 use native.Mathlib.Omega.{arith}
 use borrow.Author.Tests.{le-leb, lt-leb}
 use Prim.Native.Nat.{_*_, _≤_}

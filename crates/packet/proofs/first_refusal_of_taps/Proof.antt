@@ -1,6 +1,6 @@
 -- `packet::first_refusal_of_taps` meets its contract: each return is the first test that fails.
 use borrow.Author.Needs.{needs}
-use mathlib.Core.Path.{_≡_, refl, sym, ap, _∙_}
+use mathlib.Core.Path.{sym, _∙_}
 use native.Mathlib.Omega.{arith}
 use borrow.Author.Tests.{le-leb, lt-leb}
 use Rattle.packet.proofs.Areas.{valid-finite}

@@ -1,5 +1,4 @@
 -- `packet::gain_bit` meets its contract: by the two ways of the test.
-use borrow.Author.Needs.{needs}
 use borrow.Author.Tests.{eq-eqb, ne-eqb}
 use native.Mathlib.Omega.{arith}
 use Rattle.packet.proofs.gain_bit.Statement.{statement}

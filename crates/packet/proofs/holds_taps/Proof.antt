@@ -1,13 +1,12 @@
 -- `packet::holds_taps` meets its contract: the bytes from each turn on hold the taps left where all hold all.
 use borrow.Author.Needs.{needs}
 use Prim.Native.Nat.{ℕ, _≤_, _-_, _+_}
-use mathlib.Core.Path.{_≡_, refl, sym, ap, _∙_}
+use mathlib.Core.Path.{_≡_, sym, ap, _∙_}
 use native.Mathlib.Omega.{arith}
-use lib.ListN.{length, drop, getD}
-use borrow.Author.Tests.{le-leb, lt-leb}
+use lib.ListN.{length, drop}
 use Rattle.packet.specs.Limits.{headBytes}
-use Rattle.packet.specs.Bytes.{holdsTaps, tapSize}
-use Rattle.packet.proofs.FromBytes.{holds-step, holds-done, holds-short, holds-go}
+use Rattle.packet.specs.Bytes.{holdsTaps}
+use Rattle.packet.proofs.FromBytes.{holds-done, holds-short, holds-go}
 use Rattle.packet.proofs.holds_taps.Statement.{statement}
 use Rattle.packet.proofs.holds_taps.Tie as tie
 

@@ -1,5 +1,4 @@
 -- `packet::is_positive` meets its contract: each return by the tests on the way.
-use borrow.Author.Needs.{needs}
 use borrow.Author.Tests.{lt-ltb, le-ltb}
 use Rattle.packet.proofs.is_positive.Statement.{statement}
 use Rattle.packet.proofs.is_positive.Tie as tie

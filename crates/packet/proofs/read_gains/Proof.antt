@@ -1,6 +1,6 @@
 -- `packet::read_gains` meets its contract: what is left to store gives the same area from each turn on.
 use borrow.Author.Needs.{needs}
-use Prim.Native.Nat.{_≤_, _-_, _+_, _*_, _/_, _%_, ℕ}
+use Prim.Native.Nat.{_≤_, _-_, _+_, _*_, ℕ}
 use mathlib.Core.Path.{_≡_, refl, sym, ap, _∙_}
 use mathlib.Core.List.{List}
 use native.Mathlib.Omega.{arith}

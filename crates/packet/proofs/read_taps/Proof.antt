@@ -1,14 +1,14 @@
 -- `packet::read_taps` meets its contract: what is left to store gives the same area from each turn on.
 use borrow.Author.Needs.{needs}
 use Prim.Native.Nat.{_≤_, _-_, _+_, _*_, ℕ}
-use mathlib.Core.Path.{_≡_, refl, sym, ap, _∙_}
+use mathlib.Core.Path.{_≡_, refl, ap, _∙_}
 use mathlib.Core.Bool.{true}
 use native.Mathlib.Omega.{arith}
-use lib.ListN.{length, drop, getD}
+use lib.ListN.{length, drop}
 use lib.Seq.{sets}
 use Rattle.packet.specs.Limits.{headBytes, tapWords}
 use Rattle.packet.specs.Tap.{allWords}
-use Rattle.packet.specs.Bytes.{holdsTaps, tapsIn, tapSize}
+use Rattle.packet.specs.Bytes.{holdsTaps, tapsIn}
 use Rattle.packet.proofs.FromBytes.{holds-room, holds-next, read-taps-sets, read-taps-done}
 use Rattle.packet.proofs.read_taps.Statement.{statement}
 use Rattle.packet.proofs.read_taps.Tie as tie

@@ -1,5 +1,4 @@
 -- `packet::sorted_numbers_differ` meets its contract: by the law that repeated numbers are neighbours once sorted.
-use borrow.Author.Needs.{needs}
 use mathlib.Core.Path.{sym, ap, _∙_}
 use Rattle.order.specs.Sort.{sortBy}
 use Rattle.order.specs.Radix.{upper}

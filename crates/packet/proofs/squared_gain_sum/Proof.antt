@@ -1,9 +1,9 @@
 -- `packet::squared_gain_sum` meets its contract: the sum so far and the gains left give the sum of all.
 use borrow.Author.Needs.{needs}
-use Prim.Native.Nat.{ℕ, _≤_, _-_, _+_}
+use Prim.Native.Nat.{_≤_, _-_, _+_}
 use mathlib.Core.Path.{_≡_, refl, sym, ap, _∙_}
 use mathlib.Core.Bool.{true}
-use mathlib.Core.List.{List, foldl}
+use mathlib.Core.List.{foldl}
 use native.Mathlib.Omega.{arith}
 use lib.Ieee.{Float, binary32, add}
 use Rattle.packet.specs.Floats.{finiteBits}

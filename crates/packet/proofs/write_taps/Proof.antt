@@ -1,14 +1,14 @@
 -- `packet::write_taps` meets its contract: what is left to store gives the same bytes from each turn on.
 use borrow.Author.Needs.{needs}
-use Prim.Native.Nat.{_≤_, _-_, _+_, _*_, ℕ}
+use Prim.Native.Nat.{_≤_, _-_, _+_, _*_}
 use mathlib.Core.Path.{_≡_, refl, sym, ap, _∙_}
 use mathlib.Core.Bool.{true}
 use native.Mathlib.Omega.{arith}
-use lib.ListN.{length, drop}
+use lib.ListN.{length}
 use lib.Seq.{sets}
 use Rattle.packet.specs.Limits.{headBytes, longestTap}
-use Rattle.packet.specs.Tap.{tapsOf, tapOf}
-use Rattle.packet.specs.Bytes.{tapsBytes, tapBytes}
+use Rattle.packet.specs.Tap.{tapsOf}
+use Rattle.packet.specs.Bytes.{tapsBytes}
 use Rattle.packet.specs.Refusals.{all, inRange}
 use Rattle.packet.proofs.Areas.{tapsFrom, from-start, order-fits}
 use Rattle.packet.proofs.ToBytes.{write-taps-sets, write-taps-length, bytes-done}
