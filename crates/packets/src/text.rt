@@ -1,0 +1,139 @@
+// The words, numbers and hexadecimal digits of a line.
+ghost use Prim.Native.Nat.{_<_, _≤_};
+ghost use lib.ListN.{length};
+
+// A number, and the place after it.
+pub struct Found {
+    value: u64,
+    next: usize,
+}
+
+// The byte at a place; past the end, a line feed.
+pub fn byte_at(s: &[u8], at: usize) -> u8 {
+    if at < s.len() { s[at] } else { b'\n' }
+}
+
+// The place after the line that `at` is in.
+pub fn line_end(s: &[u8], at: usize) -> usize
+    requires { ⌜ at < length (now s) ⌝ }
+    ensures { λ r. ⌜ (at < r) × (r ≤ length (now (s .entry))) ⌝ }
+{
+    let mut i = at;
+    while i < s.len() {
+        i += 1;
+        if s[i - 1] == b'\n' {
+            return i;
+        }
+    }
+    i
+}
+
+// The place of the first byte from `at` on that is a space, or that is none.
+pub fn find(s: &[u8], at: usize, space: bool) -> usize {
+    let mut i = at;
+    while i < s.len() {
+        if (s[i] == b' ') == space {
+            return i;
+        }
+        i += 1;
+    }
+    i
+}
+
+// One decimal digit more, for numbers of at most ten digits.
+fn push_digit(n: u64, digit: u8) -> u64 {
+    if n < 1000000000 {
+        if b'0' <= digit {
+            return n * 10 + (digit - b'0') as u64;
+        }
+    }
+    n
+}
+
+// The decimal number at a place.
+pub fn number(s: &[u8], at: usize) -> Found {
+    let mut n: u64 = 0;
+    let mut i = at;
+    while i < s.len() {
+        if s[i] < b'0' {
+            return Found { value: n, next: i };
+        }
+        n = push_digit(n, s[i]);
+        i += 1;
+    }
+    Found { value: n, next: i }
+}
+
+// The numbers of the next seven words. Answers the place after them.
+pub fn numbers(s: &[u8], at: usize, to: &mut [u64; 7]) -> usize {
+    let mut i = at;
+    let mut k = 0;
+    while k < 7 {
+        let n = number(s, find(s, i, false));
+        to[k] = n.value;
+        i = n.next;
+        k += 1;
+    }
+    i
+}
+
+// The value of a hexadecimal digit, 16 for another byte.
+fn hex(c: u8) -> u8 {
+    if b'0' <= c {
+        if c <= b'9' {
+            return c - b'0';
+        }
+    }
+    if b'a' <= c {
+        if c <= b'f' {
+            return c - b'a' + 10;
+        }
+    }
+    16
+}
+
+// Digit number k of bytes, the upper half of each byte first.
+fn push_byte(to: &mut [u8], k: usize, digit: u8) {
+    if k / 2 < to.len() {
+        to[k / 2] = to[k / 2] % 16 * 16 + digit % 16;
+    }
+}
+
+// Digit number k of words of 32 bits, eight digits a word.
+fn push_word(to: &mut [u32], k: usize, digit: u8) {
+    if k / 8 < to.len() {
+        to[k / 8] = to[k / 8] % 0x1000_0000 * 16 + (digit % 16) as u32;
+    }
+}
+
+// The bytes in hexadecimal from `at` up to the line's end, to `to`, which is zeros.
+pub fn hex_bytes(s: &[u8], at: usize, to: &mut [u8]) {
+    let mut i = at;
+    let mut k = 0;
+    while i < s.len() {
+        let d = hex(s[i]);
+        i += 1;
+        if d < 16 {
+            push_byte(to, k, d);
+            k += 1;
+        }
+    }
+}
+
+// The words in hexadecimal from `at` up to `=` or the line's end, to `to`. Answers the place after them.
+pub fn hex_words(s: &[u8], at: usize, to: &mut [u32]) -> usize {
+    let mut i = at;
+    let mut k = 0;
+    while i < s.len() {
+        let d = hex(s[i]);
+        i += 1;
+        if s[i - 1] == b'=' {
+            return i;
+        }
+        if d < 16 {
+            push_word(to, k, d);
+            k += 1;
+        }
+    }
+    i
+}
