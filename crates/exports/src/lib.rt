@@ -1,5 +1,7 @@
 // What C and Rust call: each function stands for one of the port, with numbers and slices alone. A `&[T]` passes as a pointer and then
 // a length. include/bivelondry.h declares them; reference/crates/port wraps them for Rust and tests what a `requires` asks.
+use packet::Reading;
+use packet::Written;
 use placing::Loaded;
 use scene::Areas;
 use scene::Settings;
@@ -12,6 +14,10 @@ ghost use Rattle.float.specs.Sqrt.{sqrtOf};
 ghost use Rattle.float.specs.Compare.{minOf, maxOf, clampOf, absOf};
 ghost use Rattle.float.specs.Round.{roundOf};
 ghost use Rattle.bands.specs.Distance.{gainOf};
+ghost use Rattle.order.specs.Sort.{keyOf, sortBy, Below};
+ghost use Rattle.order.specs.Radix.{upper};
+ghost use Rattle.packet.specs.Reader.{readAnswer, readArea, readRefusal, readCounts};
+ghost use Rattle.packet.specs.Writer.{writeAnswer, writeOut, writeRefusal, writeLength};
 ghost use Rattle.scene.specs.Scene.{scene};
 ghost use Rattle.placing.specs.Loading.{firstRefusal};
 ghost use Rattle.exports.specs.Model.{curveOf, modelOf};
@@ -94,6 +100,86 @@ pub extern "C" fn biv_distance_gain(
         },
         distance,
     )
+}
+
+// ---- the sort
+
+#[no_mangle]
+pub extern "C" fn biv_sort_words(a: &mut [u64], scratch: &mut [u64])
+    requires { ⌜ length (now scratch) ≡ length (now a) ⌝ }
+    ensures { λ _. ⌜ now (a .exit) ≡ sortBy upper (now (a .entry)) ⌝ }
+{
+    order::sort_words(a, scratch);
+}
+
+#[no_mangle]
+pub extern "C" fn biv_sort_by_key(
+    keys: &[u64],
+    index: &mut [u32],
+    words: &mut [u64],
+    scratch: &mut [u64],
+)
+    requires { ⌜ length (now index) ≤ length (now words) ⌝ }
+    requires { ⌜ length (now index) ≤ length (now scratch) ⌝ }
+    requires { ⌜ Below (length (now keys)) (now index) ⌝ }
+    ensures { λ _. ⌜ now (index .exit) ≡ sortBy (keyOf (now (keys .entry))) (now (index .entry)) ⌝ }
+{
+    order::sort_by_key(keys, index, words, scratch);
+}
+
+// ---- the packet
+
+// Answers the refusal, or 0. `found` gets count, images and rays, zeros after a refusal.
+#[no_mangle]
+pub extern "C" fn biv_packet_read(bytes: &[u8], taps: &mut [u32], found: &mut [usize]) -> u32
+    requires { ⌜ 3 ≤ length (now found) ⌝ }
+    ensures { λ r. ⌜ (r ≡ readRefusal (readAnswer (now (bytes .entry)) (now (taps .entry)))) × (now (found .exit) ≡ sets (now (found .entry)) 0 (readCounts (readAnswer (now (bytes .entry)) (now (taps .entry))))) × (now (taps .exit) ≡ readArea (now (bytes .entry)) (now (taps .entry))) ⌝ }
+{
+    let reading = packet::read(bytes, taps);
+    match reading {
+        Reading::Taps {
+            count,
+            images,
+            rays,
+        } => {
+            found[0] = count;
+            found[1] = images as usize;
+            found[2] = rays as usize;
+            0
+        }
+        Reading::Refused(k) => {
+            found[0] = 0;
+            found[1] = 0;
+            found[2] = 0;
+            k
+        }
+    }
+}
+
+// Answers the refusal, or 0. `found` gets the packet's length, 0 after a refusal.
+#[no_mangle]
+pub extern "C" fn biv_packet_write(
+    count: usize,
+    images: u32,
+    rays: u32,
+    taps: &[u32],
+    out: &mut [u8],
+    found: &mut [usize],
+) -> u32
+    requires { ⌜ 1 ≤ length (now found) ⌝ }
+    ensures { λ r. ⌜ (r ≡ writeRefusal (writeAnswer count images rays (now (taps .entry)) (now (out .entry)))) × (now (found .exit) ≡ sets (now (found .entry)) 0 (writeLength (writeAnswer count images rays (now (taps .entry)) (now (out .entry))) ∷ [])) × (now (out .exit) ≡ writeOut count images rays (now (taps .entry)) (now (out .entry))) ⌝ }
+{
+    let written = packet::write(count, images, rays, taps, out);
+    match written {
+        Written::Bytes(n) => {
+            found[0] = n;
+            0
+        }
+        Written::Refused(k) => {
+            found[0] = 0;
+            k
+        }
+    }
 }
 
 // ---- the scene
