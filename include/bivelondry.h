@@ -22,7 +22,25 @@ float biv_abs(float x);                            /* absOf */
 /* bands/specs/Distance.antt, gainOf. The curve is 0 for Inverse, else Linear. */
 float biv_distance_gain(uint32_t curve, float reference_distance, float rolloff_factor, float min_distance, float max_distance, float distance);
 
-/* ---- the scene: a slice is a pointer and then a length */
+/* ---- the sort: a slice is a pointer and then a length */
+
+/* order/specs/Sort.antt. Sorts words by their upper 32 bits, stably; scratch is as long as a. */
+void biv_sort_words(uint64_t *a, size_t a_len, uint64_t *scratch, size_t scratch_len);
+
+/* Sorts positions of keys by their keys, stably: each position is below keys_len; words and scratch are as long as index or longer. */
+void biv_sort_by_key(const uint64_t *keys, size_t keys_len, uint32_t *index, size_t index_len, uint64_t *words, size_t words_len,
+                     uint64_t *scratch, size_t scratch_len);
+
+/* ---- the packet */
+
+/* packet/specs/Reader.antt. Answers the refusal (5, 8 to 11) or 0; found[0..3] are count, images and rays, 0 after a refusal. */
+uint32_t biv_packet_read(const uint8_t *bytes, size_t bytes_len, uint32_t *taps, size_t taps_len, size_t *found, size_t found_len);
+
+/* packet/specs/Writer.antt. Answers the refusal (5, 9 to 11) or 0; found[0] is the packet's length, 0 after a refusal. */
+uint32_t biv_packet_write(size_t count, uint32_t images, uint32_t rays, const uint32_t *taps, size_t taps_len, uint8_t *out, size_t out_len,
+                          size_t *found, size_t found_len);
+
+/* ---- the scene */
 
 /* placing/specs/Loading.antt. Answers the first refusal of 1 to 6 that applies; or 0, with found[0..3] the triangles kept, the placings
  * made and the whole triples. counts has 5 words: max_reflection_order, max_reflections, max_reflection_planes, plane_merge (0 or not),

@@ -9,6 +9,16 @@ mod ffi {
         pub fn biv_max(a: f32, b: f32) -> f32;
         pub fn biv_clamp(x: f32, low: f32, high: f32) -> f32;
         pub fn biv_abs(x: f32) -> f32;
+        pub fn biv_sort_words(a: *mut u64, a_len: usize, scratch: *mut u64, scratch_len: usize);
+        #[rustfmt::skip]
+        pub fn biv_sort_by_key(
+            keys: *const u64, keys_len: usize, index: *mut u32, index_len: usize, words: *mut u64, words_len: usize, scratch: *mut u64, scratch_len: usize,
+        );
+        pub fn biv_packet_read(bytes: *const u8, bytes_len: usize, taps: *mut u32, taps_len: usize, found: *mut usize, found_len: usize) -> u32;
+        #[rustfmt::skip]
+        pub fn biv_packet_write(
+            count: usize, images: u32, rays: u32, taps: *const u32, taps_len: usize, out: *mut u8, out_len: usize, found: *mut usize, found_len: usize,
+        ) -> u32;
         #[rustfmt::skip]
         pub fn biv_load_scene(
             counts: *const u32, counts_len: usize, floats: *const f32, floats_len: usize, c: u32,
@@ -52,6 +62,58 @@ pub fn abs(x: f32) -> f32 {
 /// `DistanceModel::gain`, for the curves Inverse and Linear.
 pub fn distance_gain(linear: bool, reference: f32, rolloff: f32, least: f32, greatest: f32, distance: f32) -> f32 {
     unsafe { ffi::biv_distance_gain(linear as u32, reference, rolloff, least, greatest, distance) }
+}
+
+/// Sorts words by their upper 32 bits, stably. The scratch area is as long as the words.
+pub fn sort_words(a: &mut [u64], scratch: &mut [u64]) {
+    assert_eq!(a.len(), scratch.len());
+    // SAFETY: the two areas are distinct and of equal length.
+    unsafe { ffi::biv_sort_words(a.as_mut_ptr(), a.len(), scratch.as_mut_ptr(), scratch.len()) }
+}
+
+/// Sorts positions of `keys` by their keys, stably.
+pub fn sort_by_key(keys: &[u64], index: &mut [u32], words: &mut [u64], scratch: &mut [u64]) {
+    assert!(index.len() <= words.len() && index.len() <= scratch.len());
+    assert!(index.iter().all(|&i| (i as usize) < keys.len()), "a position is past the keys");
+    // SAFETY: as asserted; the areas are distinct.
+    #[rustfmt::skip]
+    unsafe {
+        ffi::biv_sort_by_key(
+            keys.as_ptr(), keys.len(), index.as_mut_ptr(), index.len(), words.as_mut_ptr(), words.len(), scratch.as_mut_ptr(), scratch.len(),
+        )
+    }
+}
+
+/// Count, images and rays of a packet.
+#[derive(Clone, Copy, Debug, PartialEq, Eq)]
+pub struct Read {
+    pub count: usize,
+    pub images: u32,
+    pub rays: u32,
+}
+
+/// Words of a tap area: order, number, direction, delay and gains of each of 64 taps.
+pub const TAP_WORDS: usize = 14;
+pub const TAPS: usize = 64;
+
+/// Reads a packet into a tap area; the error is document 01's refusal.
+pub fn packet_read(bytes: &[u8], taps: &mut [u32]) -> Result<Read, u32> {
+    let mut found = [0usize; 3];
+    // SAFETY: each pointer goes with its own length, and found has three.
+    match unsafe { ffi::biv_packet_read(bytes.as_ptr(), bytes.len(), taps.as_mut_ptr(), taps.len(), found.as_mut_ptr(), found.len()) } {
+        0 => Ok(Read { count: found[0], images: found[1] as u32, rays: found[2] as u32 }),
+        k => Err(k),
+    }
+}
+
+/// Writes the packet of the first `count` taps; its length, or document 01's refusal.
+pub fn packet_write(count: usize, images: u32, rays: u32, taps: &[u32], out: &mut [u8]) -> Result<usize, u32> {
+    let mut found = [0usize];
+    // SAFETY: as for `packet_read`.
+    match unsafe { ffi::biv_packet_write(count, images, rays, taps.as_ptr(), taps.len(), out.as_mut_ptr(), out.len(), found.as_mut_ptr(), found.len()) } {
+        0 => Ok(found[0]),
+        k => Err(k),
+    }
 }
 
 /// A scene as the port takes it: document 01's scene parts, and the settings as two lists.

@@ -1,0 +1,159 @@
+//! Times of the port and of the Rust on the same input, in one process, in turn: the best of several rounds each, and their ratio.
+//! Results are compared first. Areas are lent as they were left by the round before, not cleared, unless said.
+use oracle::{Case, Mesh, Row, Settings, IDENTITY};
+use port::{Areas, Lent, CANDIDATE_FLOATS, CANDIDATE_WORDS, COLUMNS, OUTPUT, TAPS, TAP_WORDS};
+use std::hint::black_box;
+use std::time::Instant;
+
+const ROUNDS: usize = 40;
+
+fn main() {
+    println!("{:44} {:>12} {:>12} {:>7}", "", "port", "Rust", "ratio");
+    roots();
+    sorts();
+    fronts();
+    packets();
+}
+
+fn line(what: &str, port: f64, rust: f64) {
+    println!("{what:44} {:>9.3} us {:>9.3} us {:>7.2}", port / 1e3, rust / 1e3, port / rust);
+}
+
+/// Nanoseconds of one run of each, the two in turn so that both meet the same load; the input is made anew for each run.
+fn both<T>(mut make: impl FnMut() -> T, mut port: impl FnMut(&mut T), mut rust: impl FnMut(&mut T)) -> (f64, f64) {
+    let mut best = (f64::MAX, f64::MAX);
+    for _ in 0..ROUNDS {
+        let mut input = make();
+        let start = Instant::now();
+        port(&mut input);
+        best.0 = best.0.min(start.elapsed().as_nanos() as f64);
+        black_box(&input);
+        let mut input = make();
+        let start = Instant::now();
+        rust(&mut input);
+        best.1 = best.1.min(start.elapsed().as_nanos() as f64);
+        black_box(&input);
+    }
+    best
+}
+
+/// splitmix64.
+struct Random(u64);
+
+impl Random {
+    fn bits(&mut self) -> u64 {
+        self.0 = self.0.wrapping_add(0x9e37_79b9_7f4a_7c15);
+        let z = (self.0 ^ (self.0 >> 30)).wrapping_mul(0xbf58_476d_1ce4_e5b9);
+        let z = (z ^ (z >> 27)).wrapping_mul(0x94d0_49bb_1331_11eb);
+        z ^ (z >> 31)
+    }
+
+    fn unit(&mut self) -> f32 {
+        (self.bits() >> 40) as f32 / 16_777_216.0
+    }
+}
+
+fn roots() {
+    let mut r = Random(1);
+    let xs: Vec<f32> = (0..4096).map(|_| r.unit() * 1e4).collect();
+    assert!(xs.iter().all(|&x| port::sqrt(x).to_bits() == x.sqrt().to_bits()));
+    let (a, b) = both(|| (), |_| { xs.iter().for_each(|&x| { black_box(port::sqrt(x)); }) }, |_| { xs.iter().for_each(|&x| { black_box(black_box(x).sqrt()); }) });
+    line("sqrt, 4,096 of them, by calls", a, b);
+}
+
+fn sorts() {
+    let mut r = Random(2);
+    for n in [16, 4096, 250_000] {
+        for kind in ["u32", "u64", "sorted"] {
+            let sets = (65_536 / n).max(1);
+            let mut keys: Vec<u64> = (0..n).map(|_| if kind == "u32" { r.bits() >> 32 } else { r.bits() }).collect();
+            if kind == "sorted" {
+                keys.sort();
+            }
+            let index: Vec<u32> = (0..n as u32).collect();
+            let (mut words, mut scratch) = (vec![0; n], vec![0; n]);
+            let (mut p, mut q) = (index.clone(), index.clone());
+            port::sort_by_key(&keys, &mut p, &mut words, &mut scratch);
+            q.sort_by_key(|&i| keys[i as usize]);
+            assert_eq!(p, q);
+            let make = || vec![index.clone(); sets];
+            let (a, b) = both(
+                make,
+                |v| v.iter_mut().for_each(|x| port::sort_by_key(&keys, x, &mut words, &mut scratch)),
+                |v| v.iter_mut().for_each(|x| x.sort_by_key(|&i| keys[i as usize])),
+            );
+            line(&format!("sort_by_key, {n} positions, {kind} keys"), a / sets as f64, b / sets as f64);
+        }
+    }
+}
+
+/// n random triangles of one mesh.
+fn soup(n: usize) -> Case {
+    let mut r = Random(n as u64);
+    let mut m = Mesh { positions: Vec::new(), indices: (0..3 * n as u32).collect(), handle: 0, transform: IDENTITY };
+    for _ in 0..n {
+        let a: [f32; 3] = std::array::from_fn(|_| r.unit() * 8.0 - 4.0);
+        m.positions.push(a);
+        for _ in 0..2 {
+            m.positions.push(std::array::from_fn(|k| a[k] + r.unit() - 0.5));
+        }
+    }
+    let row = Row { absorption: [0.2; 8], transmission: [0.0; 8] };
+    Case { name: format!("soup-{n}"), settings: Settings::default(), materials: vec![row], meshes: vec![m], source: [0.0; 3], listener: [1.0; 3], separated: false }
+}
+
+fn lent(c: &Case) -> Lent {
+    let s = &c.settings;
+    let m = &c.meshes[0];
+    Lent {
+        counts: [s.order, s.max_reflections, s.planes, s.merge_on as u32, s.linear as u32],
+        #[rustfmt::skip]
+        floats: [
+            s.fade, s.max_distance, s.speed, s.rate, s.merge_cos, s.merge_offset, s.buried, s.reference, s.rolloff, s.min_distance, s.far_distance,
+        ],
+        room: 0,
+        meshes: vec![m.positions.len() as u32, m.indices.len() as u32, m.handle],
+        transforms: m.transform.to_vec(),
+        positions: m.positions.iter().flatten().copied().collect(),
+        indices: m.indices.clone(),
+        materials: c.materials.iter().flat_map(|r| r.absorption.into_iter().chain(r.transmission)).collect(),
+        rows: 1,
+    }
+}
+
+fn fronts() {
+    for n in [12, 500, 4096] {
+        let c = soup(n);
+        let l = lent(&c);
+        let mut a = Areas {
+            columns: vec![0.0; COLUMNS * n],
+            handles: vec![0; n],
+            candidate_floats: CANDIDATE_FLOATS,
+            candidate_words: CANDIDATE_WORDS,
+            output: OUTPUT,
+        };
+        let backend = oracle::unbuilt(&c, false, &oracle::Overrides::default());
+        let sets = (8192 / n).max(1);
+        let (p, q) = both(|| (), |_| (0..sets).for_each(|_| { black_box(port::load_scene(&l, &mut a)); }), |_| (0..sets).for_each(|_| { black_box(backend.oracle_place()); }));
+        line(&format!("load_scene against triangles_from_scene, {n}"), p / sets as f64, q / sets as f64);
+    }
+}
+
+fn packets() {
+    let mut taps = vec![0u32; TAPS * TAP_WORDS];
+    for (k, t) in taps.chunks_exact_mut(TAP_WORDS).enumerate() {
+        let gain = (1.0 - k as f32 / 100.0).to_bits();
+        t[..6].copy_from_slice(&[1 + k as u32 % 8, 1 + k as u32, 0x3f19_999a, 0x3f4c_cccd, 0, 0x443b_8000]);
+        t[6..].fill(gain);
+    }
+    let mut out = vec![0u8; OUTPUT];
+    let len = port::packet_write(TAPS, 1000, 36, &taps, &mut out).expect("a packet");
+    let mut back = vec![0u32; TAPS * TAP_WORDS];
+    assert_eq!(port::packet_read(&out[..len], &mut back).map(|r| r.count), Ok(TAPS));
+    assert_eq!(back, taps);
+    let (w, _) = both(|| (), |_| (0..100).for_each(|_| { black_box(port::packet_write(TAPS, 1000, 36, &taps, &mut out).is_ok()); }), |_| ());
+    let packet = out[..len].to_vec();
+    let (r, _) = both(|| (), |_| (0..100).for_each(|_| { black_box(port::packet_read(&packet, &mut back).is_ok()); }), |_| ());
+    let rate = |ns: f64| len as f64 * 100.0 / ns * 1e3;
+    println!("packet of {TAPS} taps, {len} bytes: written at {:.0} MB/s ({:.2} us), read at {:.0} MB/s ({:.2} us)", rate(w), w / 1e5, rate(r), r / 1e5);
+}
