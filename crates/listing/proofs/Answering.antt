@@ -7,7 +7,7 @@ use mathlib.Core.List.{List, [], _∷_, _++_, append-nil}
 use native.Mathlib.Omega.{arith}
 use native.Mathlib.Nat.{sub-zero}
 use native.Mathlib.Numerals.{add-one}
-use lib.ListN.{length, getD, take, drop, set, drop-of-length-le}
+use lib.ListN.{length, getD, take, drop, set, drop-of-length-le, length-append}
 use lib.Seq.{sets, sets-eq}
 use lib.Dec.{leb}
 use lib.Pow.{shr-shr}
@@ -225,3 +225,20 @@ module _ (text records out : List ℕ) where
         let f = wrote-front refusedText out out′ len w k in
         answered-for Refused (Head 0 len) records out′ e (ap (Head 0) (f .0)) refl
         (f .1 ∙ ap (λ (n : ℕ). refusedText ++ drop n out) (f .0))
+
+  -- what a caller of `answer` asks: the first line is within the output
+  pub answer-within :
+      (total len : ℕ) (r : Reply) (records′ out′ : List ℕ) → Answered text records out r records′ out′ → r ≡ Head total len →
+      len ≤ length out′
+  unfolding answerOf outOf
+  answer-within total len r records′ out′ a e = by (room records out) (sym e ∙ a .answer) (a .head)
+    where
+      by :
+          (b : Bool) →
+          Head total len ≡ cond b (Head (length (imagesFor (requestOf text))) (length (headFor (requestOf text)))) NoRoom →
+          out′ ≡ cond b (headFor (requestOf text) ++ drop (length (headFor (requestOf text))) out) out → len ≤ length out′
+      by true p q =
+          let n : len ≡ length (headFor (requestOf text)) = cc in
+          let t = ap length q ∙ length-append (headFor (requestOf text)) (drop (length (headFor (requestOf text))) out) in
+          omega arith
+      by false p q = let z : _≡_ {A = ℕ} 0 1 = cc in absurd (omega arith)

@@ -211,3 +211,17 @@ pub chunked :
 chunked records total from o next len o′ e h w =
     let f = wrote-front (linesOf records from (next - from)) o o′ len w h in
     record { next = e; len = f .0; text = f .1 }
+
+-- what a caller of `lines` asks: the chunk is within the output, and one that has a line ends within the total
+pub chunk-within :
+    (records : List ℕ) (total from : ℕ) (o : List ℕ) (r : Chunk) (o′ : List ℕ) → Chunked records total from o r o′ → r .len ≤ length o′
+chunk-within records total from o r o′ k =
+    let t = ap length (k .text) ∙ length-append (linesOf records from (r .next - from)) (drop (r .len) o) in
+    let l = k .len in
+    omega arith
+
+pub chunk-total :
+    (records : List ℕ) (total from : ℕ) (o : List ℕ) (r : Chunk) (o′ : List ℕ) → Chunked records total from o r o′ → from < r .next →
+    r .next ≤ total
+unfolding chunkEnd
+chunk-total records total from o r o′ k h = let e = k .next in omega arith
