@@ -122,7 +122,7 @@ listed-head planes order mask records out total len records′ out′ e h w a =
 
 -- ---- a request that is not refused is in range
 
-cond-images : (b : Bool) (r : Request) (n o m : ℕ) → cond b r Refused ≡ Images n o m → r ≡ Images n o m
+pub cond-images : (b : Bool) (r : Request) (n o m : ℕ) → cond b r Refused ≡ Images n o m → r ≡ Images n o m
 cond-images true r n o m e = e
 cond-images false r n o m e = cc
 
@@ -146,7 +146,7 @@ asked-range (a ∷ b ∷ c ∷ []) n o m e =
     (cond-images (isDecimal a && (isDecimal b && isDecimal c)) (checked (valueOf a) (valueOf b) (valueOf c)) n o m e)
 asked-range (a ∷ b ∷ c ∷ d ∷ l) n o m e = let z : _≡_ {A = ℕ} 0 1 = cc in absurd (omega arith)
 
-request-range : (t : List ℕ) (n o m : ℕ) → requestOf t ≡ Images n o m → inRange n o m ≡ true
+pub request-range : (t : List ℕ) (n o m : ℕ) → requestOf t ≡ Images n o m → inRange n o m ≡ true
 unfolding requestOf
 request-range t n o m e =
     asked-range (words (take (lineEnd t) t)) n o m

@@ -71,7 +71,7 @@ module _ (w : List ℕ) where
       some zero z = absurd (z refl)
       some (suc n) z = omega arith
 
-  decimal-digits : isDecimal w ≡ true → all isDigit w ≡ true
+  pub decimal-digits : isDecimal w ≡ true → all isDigit w ≡ true
   unfolding isDecimal
   decimal-digits e = and-right (leb 1 (length w)) (all isDigit w) e
 
@@ -125,7 +125,7 @@ module _ (l : List ℕ) (i : ℕ) where
   space-end h inv = let z : spaceAt (drop i l) ≡ 0 = ap spaceAt (drop-of-length-le l h) in omega arith
 
 -- no space: one word
-words-none : (l : List ℕ) → length l ≤ spaceAt l → words l ≡ l ∷ []
+pub words-none : (l : List ℕ) → length l ≤ spaceAt l → words l ≡ l ∷ []
 unfolding words spaceAt
 words-none [] h = refl
 words-none (b ∷ l) h = by (eqb b 32) h (words-none l)
@@ -137,7 +137,7 @@ words-none (b ∷ l) h = by (eqb b 32) h (words-none l)
     by false h k = ap (onto b) (k (omega arith))
 
 -- a space: the word before it, and the words behind it
-words-some : (l : List ℕ) → spaceAt l < length l → words l ≡ take (spaceAt l) l ∷ words (drop (suc (spaceAt l)) l)
+pub words-some : (l : List ℕ) → spaceAt l < length l → words l ≡ take (spaceAt l) l ∷ words (drop (suc (spaceAt l)) l)
 unfolding words spaceAt
 words-some [] h = absurd (omega arith)
 words-some (b ∷ l) h = by (eqb b 32) h (words-some l)

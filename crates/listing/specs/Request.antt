@@ -1,8 +1,10 @@
 -- Document 01, "The program `images` reads three decimals ..": which texts are taken, and what they ask for.
 -- A line feed at the end may be there or not; leading zeros may stand; an empty text and all that follows the line are refused.
-use Prim.Native.Nat.{ℕ, zero, suc, _+_, _-_, _*_, _^_}
+use Prim.Native.Nat.{ℕ, suc, _+_, _-_, _*_, _^_, _≤_}
+use mathlib.Core.Path.{_≡_}
+use mathlib.Core.Logic.{_⊎_}
 use mathlib.Core.Bool.{Bool, true, cond, _&&_}
-use mathlib.Core.List.{List, [], _∷_, foldl}
+use mathlib.Core.List.{List, [], _∷_, _++_, foldl}
 use lib.ListN.{length, getD, take}
 use lib.Dec.{leb, ltb, eqb}
 use Rattle.listing.specs.declared.Request.{Request}
@@ -52,6 +54,9 @@ unfoldable pub words : List ℕ → List (List ℕ)
 words [] = [] ∷ []
 words (b ∷ l) = cond (eqb b 32) ([] ∷ words l) (onto b (words l))
 
+abbrev pub space : List ℕ
+space = 32 ∷ []
+
 -- the place of the first space, or the length
 unfoldable pub spaceAt : List ℕ → ℕ
 spaceAt [] = 0
@@ -80,3 +85,20 @@ lineEnd text = cond (eqb (getD text (length text - 1) 0) 10) (length text - 1) (
 -- what a text asks for: "on one line with one space between them"
 unfoldable pub requestOf : List ℕ → Request
 requestOf text = cond (leb (length text) mostText) (asked (words (take (lineEnd text) text))) Refused
+
+-- the same said of the text as a whole, which `proofs/Accepted.antt` proves to be what `requestOf` takes: "three decimals .. on one line with
+-- one space between them", and a line feed or nothing behind them
+pub record Line (text : List ℕ) (planes order mask : ℕ) : Type 0 where
+  pub first : List ℕ
+  pub second : List ℕ
+  pub third : List ℕ
+  pub feed : List ℕ
+  pub is : text ≡ first ++ space ++ second ++ space ++ third ++ feed
+  pub decimals : (isDecimal first ≡ true) × (isDecimal second ≡ true) × (isDecimal third ≡ true)
+  pub end : (feed ≡ []) ⊎ (feed ≡ 10 ∷ [])
+  pub values : (valueOf first ≡ planes) × (valueOf second ≡ order) × (valueOf third ≡ mask)
+
+pub record Accepted (text : List ℕ) (planes order mask : ℕ) : Type 0 where
+  pub short : length text ≤ mostText
+  pub line : Line text planes order mask
+  pub range : inRange planes order mask ≡ true
