@@ -106,8 +106,8 @@ unfolding requestOf join
 taken t n o m e =
     let short = leb-true (length t) mostText (cond-test (leb (length t) mostText) (asked (words (take (lineEnd t) t))) n o m e) in
     let w =
-      asked-three (words (take (lineEnd t) t)) n o m
-      (cond-images (leb (length t) mostText) (asked (words (take (lineEnd t) t))) n o m e) in
+    asked-three (words (take (lineEnd t) t)) n o m
+    (cond-images (leb (length t) mostText) (asked (words (take (lineEnd t) t))) n o m e) in
     let l : take (lineEnd t) t ≡ w .a ++ 32 ∷ (w .b ++ 32 ∷ w .c) = sym (join-words (take (lineEnd t) t)) ∙ ap join (w .are) in
     let r : w .a ++ 32 ∷ (w .b ++ 32 ∷ w .c) ≡ w .a ++ space ++ w .b ++ space ++ w .c = simp append-assoc in
     record {
@@ -160,7 +160,7 @@ plain-end p c e z =
     let l = length-append p c in
     let k : length (p ++ c) - 1 ≡ length p + (length c - 1) = omega arith in
     let f : getD c (length c - 1) 0 ≡ 10 =
-      sym (ap (λ (n : ℕ). getD (p ++ c) n 0) k ∙ getD-append-add p c (length c - 1) 0) ∙ z in
+    sym (ap (λ (n : ℕ). getD (p ++ c) n 0) k ∙ getD-append-add p c (length c - 1) 0) ∙ z in
     let d = digit-range (getD c (length c - 1) 0) (decimal-at c e (length c - 1) (omega arith)) in
     let g = d .0 in
     omega arith
@@ -192,9 +192,9 @@ three a b c f ea eb ec h s =
     let p : List ℕ = a ++ space ++ b ++ space in
     let l : p ++ c ≡ a ++ 32 ∷ (b ++ 32 ∷ c) = simp append-assoc in
     let w : words (p ++ c) ≡ a ∷ b ∷ c ∷ [] =
-      ap words l
-      ∙ words-word a (b ++ 32 ∷ c) (decimal-digits a ea)
-      ∙ ap (λ (x : List (List ℕ)). a ∷ x) (words-word b c (decimal-digits b eb) ∙ ap (λ (x : List (List ℕ)). b ∷ x) (words-last c (decimal-digits c ec))) in
+    ap words l
+    ∙ words-word a (b ++ 32 ∷ c) (decimal-digits a ea)
+    ∙ ap (λ (x : List (List ℕ)). a ∷ x) (words-word b c (decimal-digits b eb) ∙ ap (λ (x : List (List ℕ)). b ∷ x) (words-last c (decimal-digits c ec))) in
     sym (request-short ((p ++ c) ++ f) s)
     ∙ ap (λ (x : List ℕ). asked (words x)) (line-of p c f ec h)
     ∙ ap asked w
@@ -207,7 +207,7 @@ takes t n o m x =
     let d = l .decimals in
     let v = l .values in
     let s : length (l .first ++ space ++ l .second ++ space ++ l .third ++ l .feed) ≤ mostText =
-      subst (λ (y : List ℕ). length y ≤ mostText) (l .is) (x .short) in
+    subst (λ (y : List ℕ). length y ≤ mostText) (l .is) (x .short) in
     ap requestOf (l .is)
     ∙ three (l .first) (l .second) (l .third) (l .feed) (d .0) (d .1) (d .2) (l .end) s
     ∙ ap (λ (y : ℕ). checked y (valueOf (l .second)) (valueOf (l .third))) (v .0)

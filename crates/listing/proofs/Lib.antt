@@ -3,3 +3,4 @@ pub mod Reading
 pub mod Writing
 pub mod Answering
 pub mod Accepted
+pub mod Whole
