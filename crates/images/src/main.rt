@@ -1,11 +1,12 @@
 // Reads planes, order and mask from standard input, and prints the images that they give: the total, then number and sequence of each.
 use libc::STDIN_FILENO;
 use libc::STDOUT_FILENO;
+use listing::RECORDS;
 use listing::Reply;
 
 // Room for the records of 250,000 images. A function of its own, so that no proof looks into so long a list.
-fn room() -> [u8; 2_250_000] {
-    [0; 2_250_000]
+fn room() -> [u8; RECORDS] {
+    [0; RECORDS]
 }
 
 // Prints the lines of all images, as many at a time as have room in `out`.

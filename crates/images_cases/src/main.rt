@@ -4,6 +4,7 @@ ghost use Prim.Native.Nat.{_≤_, _<_};
 ghost use lib.ListN.{length};
 use libc::STDIN_FILENO;
 use libc::STDOUT_FILENO;
+use listing::RECORDS;
 use listing::Reply;
 
 // The digest is a polynomial in 31 over the bytes, modulo this prime.
@@ -12,8 +13,8 @@ const PRIME: u64 = 4_294_967_291;
 const FEW: usize = 100;
 
 // Room for the records of 250,000 images. A function of its own, so that no proof looks into so long a list.
-fn room() -> [u8; 2_250_000] {
-    [0; 2_250_000]
+fn room() -> [u8; RECORDS] {
+    [0; RECORDS]
 }
 
 fn print(bytes: &[u8]) {

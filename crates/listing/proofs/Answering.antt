@@ -12,12 +12,12 @@ use lib.Seq.{sets, sets-eq}
 use lib.Dec.{leb}
 use lib.Pow.{shr-shr}
 use borrow.Author.Tests.{le-leb, lt-leb, leb-true}
-use Rattle.sequences.specs.Allowed.{visited, most, mostOrder as deepest, mostPlanes as widest}
+use Rattle.sequences.specs.Allowed.{visited, most, mostOrder, mostPlanes as widest}
 use Rattle.sequences.specs.Run.{listed}
 use Rattle.sequences.specs.Contract as sequences
 use Rattle.sequences.specs.declared.Enumeration.{Enumeration}
 use Rattle.sequences.specs.declared.Enumeration.the-variants as enumeration
-use Rattle.listing.specs.Request.{requestOf, asked, checked, inRange, words, lineEnd, isDecimal, valueOf, mostText, mostPlanes, mostOrder}
+use Rattle.listing.specs.Request.{requestOf, asked, checked, inRange, words, lineEnd, isDecimal, valueOf, mostText, mostPlanes}
 use Rattle.listing.specs.Text.{Wrote, headerOf, refusedText, mostHeader}
 use Rattle.listing.specs.Printed.{onOf, imagesOf, imagesFor, headFor, room, answerOf, recordsOf, outOf, Answered, Listed}
 use Rattle.listing.specs.declared.Request.{Request}
@@ -77,7 +77,7 @@ module _ (planes order mask : ℕ) (on records : List ℕ) (few : planes ≤ mos
   fit : sequences.fits (take planes on) order records ≡ true
   fit =
       let l : length (take planes on) ≡ planes = ap length these ∙ length-on planes mask in
-      ap₂ (λ (b b′ : Bool). b && (b′ && leb (most * 9) (length records))) (le-leb order deepest deep)
+      ap₂ (λ (b b′ : Bool). b && (b′ && leb (most * 9) (length records))) (le-leb order mostOrder deep)
       (le-leb (length (take planes on)) widest (omega arith))
       ∙ le-leb (most * 9) (length records) wide
 

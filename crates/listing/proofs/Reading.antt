@@ -12,7 +12,8 @@ use lib.Seq.{drop-cons, take-suc, take-all}
 use lib.Pow.{pow-mono}
 use lib.Dec.{leb, ltb, eqb}
 use borrow.Author.Tests.{eq-eqb, ne-eqb, eqb-true, le-leb, lt-leb, leb-true, le-ltb}
-use Rattle.listing.specs.Request.{mostPlanes, mostOrder, mostText, cap, isDigit, all, isDecimal, push, valueOf, words, onto, spaceAt, inRange, checked, asked, lineEnd, requestOf}
+use Rattle.listing.specs.Request.{mostPlanes, mostText, cap, isDigit, all, isDecimal, push, valueOf, words, onto, spaceAt, inRange, checked, asked, lineEnd, requestOf}
+use Rattle.sequences.specs.Allowed.{mostOrder}
 use Rattle.listing.specs.declared.Request.{Request}
 use Rattle.listing.specs.declared.Request.the-variants.{Images, Refused}
 

@@ -7,16 +7,13 @@ use mathlib.Core.Bool.{Bool, true, cond, _&&_}
 use mathlib.Core.List.{List, [], _∷_, _++_, foldl}
 use lib.ListN.{length, getD, take}
 use lib.Dec.{leb, ltb, eqb}
+use Rattle.sequences.specs.Allowed.{mostOrder}
 use Rattle.listing.specs.declared.Request.{Request}
 use Rattle.listing.specs.declared.Request.the-variants.{Images, Refused}
 
 -- "planes (1 to 16)"
 abbrev pub mostPlanes : ℕ
 mostPlanes = 16
-
--- "order (1 to 8)"
-abbrev pub mostOrder : ℕ
-mostOrder = 8
 
 -- a longer text is refused
 abbrev pub mostText : ℕ

@@ -4,10 +4,15 @@ ghost use mathlib.Core.Bool.{true};
 ghost use mathlib.Core.List.{[], _∷_};
 ghost use Prim.Native.Nat.{_+_, _*_, _^_, _≤_, _<_, min};
 ghost use lib.ListN.{length};
+ghost use Rattle.sequences.specs.Allowed.{most, mostOrder};
+ghost use Rattle.sequences.specs.Run.{perRecord};
 ghost use Rattle.listing.specs.Request as request;
 ghost use Rattle.listing.specs.Text as text;
 ghost use Rattle.listing.specs.Printed as printed;
 use sequences::Enumeration;
+use sequences::MAX_IMAGE_NODES;
+use sequences::MAX_IMAGE_ORDER;
+use sequences::RECORD;
 use sequences::enumerate;
 
 // The longest text that is read.
@@ -18,12 +23,8 @@ const CAP: usize = 100_000;
 
 const PLANES: usize = 16;
 
-const ORDER: usize = 8;
-
-// The bytes of a record of `sequences`, and of the records of 250,000 images.
-const RECORD: usize = 9;
-
-const RECORDS: usize = 2_250_000;
+// The bytes of the records of all images.
+pub const RECORDS: usize = MAX_IMAGE_NODES * RECORD;
 
 // The most digits of a number, and the most bytes of a header and of a line.
 const DIGITS: usize = 20;
@@ -124,7 +125,8 @@ fn power(planes: usize) -> usize
 fn in_range(planes: usize, order: usize, mask: usize) -> bool
     ensures { λ r. ⌜ r ≡ request.inRange planes order mask ⌝ }
 {
-    planes >= 1 && (planes <= PLANES && (order >= 1 && (order <= ORDER && mask < power(planes))))
+    planes >= 1
+        && (planes <= PLANES && (order >= 1 && (order <= MAX_IMAGE_ORDER && mask < power(planes))))
 }
 
 // Three words, of which the third may hold further spaces.
@@ -252,7 +254,7 @@ fn put_planes(planes: &[u8], out: &mut [u8], at: usize) -> usize
 }
 
 fn put_line(number: usize, planes: &[u8], out: &mut [u8], at: usize) -> usize
-    requires { ⌜ (length (now planes) ≤ 8) × (at + text.mostLine ≤ length (now out)) ⌝ }
+    requires { ⌜ (length (now planes) ≤ mostOrder) × (at + text.mostLine ≤ length (now out)) ⌝ }
     ensures { λ r. ⌜ text.Wrote (text.lineOf number (now (planes .entry))) (now (out .entry)) at (now (out .exit)) r ⌝ }
 {
     let a = put_digits(number, DIGITS, out, at);
@@ -263,11 +265,11 @@ fn put_line(number: usize, planes: &[u8], out: &mut [u8], at: usize) -> usize
 
 // The line of the image whose record is number k from 0.
 fn put_image(records: &[u8], k: usize, out: &mut [u8], at: usize) -> usize
-    requires { ⌜ (k * 9 + 9 ≤ length (now records)) × (at + text.mostLine ≤ length (now out)) ⌝ }
+    requires { ⌜ (k * perRecord + perRecord ≤ length (now records)) × (at + text.mostLine ≤ length (now out)) ⌝ }
     ensures { λ r. ⌜ text.Wrote (text.lineOf (k + 1) (text.planesAt (now (records .entry)) k)) (now (out .entry)) at (now (out .exit)) r ⌝ }
 {
     let from = k * RECORD;
-    let to = from + least(records[from + ORDER] as usize, ORDER);
+    let to = from + least(records[from + MAX_IMAGE_ORDER] as usize, MAX_IMAGE_ORDER);
     put_line(k + 1, &records[from..to], out, at)
 }
 
@@ -329,7 +331,7 @@ fn list_images(
     records: &mut [u8],
     out: &mut [u8],
 ) -> Reply
-    requires { ⌜ (planes ≤ 16) × (order ≤ 8) × (2250000 ≤ length (now records)) × (text.mostHeader ≤ length (now out)) ⌝ }
+    requires { ⌜ (planes ≤ request.mostPlanes) × (order ≤ mostOrder) × (most * perRecord ≤ length (now records)) × (text.mostHeader ≤ length (now out)) ⌝ }
     ensures { λ r. ⌜ printed.Listed planes order mask (now (records .entry)) (now (out .entry)) r (now (records .exit)) (now (out .exit)) ⌝ }
 {
     let mut on = [0u8; PLANES];
