@@ -1,6 +1,6 @@
 -- A text is taken exactly when it is three decimals on one line with one space between them, in range, and perhaps a line feed behind them.
 -- One way the words of the line are joined again; the other way each decimal is a word, since it has no space.
-use Prim.Native.Nat.{ℕ, zero, suc, _+_, _-_, _≤_, _<_}
+use Prim.Native.Nat.{ℕ, suc, _+_, _-_, _≤_, _<_}
 use mathlib.Core.Path.{_≡_, refl, sym, ap, subst, _∙_}
 use mathlib.Core.Bool.{Bool, true, false, cond, _&&_}
 use mathlib.Core.Logic.{_⊎_, inl, inr, ⊎-elim, _↔_}
@@ -10,8 +10,8 @@ use native.Mathlib.Decide.{decLt}
 use lib.ListN.{length, getD, take, drop, drop-of-length-le, length-append, take-append-drop}
 use lib.Seq.{drop-cons, take-at, getD-append-add, getD-at}
 use lib.Dec.{leb, eqb}
-use borrow.Author.Tests.{eq-eqb, ne-eqb, eqb-true, le-leb, leb-true}
-use Rattle.listing.specs.Request.{mostText, isDigit, all, isDecimal, valueOf, words, onto, space, spaceAt, inRange, checked, asked, lineEnd, requestOf, Line, Accepted}
+use borrow.Author.Tests.{ne-eqb, eqb-true, leb-true}
+use Rattle.listing.specs.Request.{mostText, isDigit, all, isDecimal, valueOf, words, onto, space, spaceAt, inRange, checked, asked, lineEnd, requestOf, Accepted}
 use Rattle.listing.specs.declared.Request.{Request}
 use Rattle.listing.specs.declared.Request.the-variants.{Images, Refused}
 use Rattle.listing.proofs.Reading.{and-left, and-right, words-none, words-some, decimal-digits, decimal-at, digit-range, line-feed, line-plain, request-short}

@@ -1,7 +1,7 @@
 -- Laws of what `answer` leaves: the bytes of the mask, the answer of `enumerate` for a request in range, and the first line.
 -- By unfolding the definitions, by induction over the planes, and by cases on each test.
 use Prim.Native.Nat.{ℕ, zero, suc, _+_, _-_, _*_, _/_, _%_, _^_, _≤_, _<_}
-use mathlib.Core.Path.{_≡_, refl, sym, ap, ap₂, subst, _∙_}
+use mathlib.Core.Path.{_≡_, refl, sym, ap, ap₂, _∙_}
 use mathlib.Core.Bool.{Bool, true, false, cond, _&&_}
 use mathlib.Core.List.{List, [], _∷_, _++_, append-nil}
 use native.Mathlib.Omega.{arith}
@@ -15,6 +15,8 @@ use borrow.Author.Tests.{le-leb, lt-leb, leb-true}
 use Rattle.sequences.specs.Allowed.{visited, most, mostOrder, mostPlanes as widest}
 use Rattle.sequences.specs.Run.{listed}
 use Rattle.sequences.specs.Contract as sequences
+use Rattle.sequences.specs.Count.{images, firsts}
+use Rattle.sequences.proofs.Counting.{visited-length}
 use Rattle.sequences.specs.declared.Enumeration.{Enumeration}
 use Rattle.sequences.specs.declared.Enumeration.the-variants as enumeration
 use Rattle.listing.specs.Request.{requestOf, asked, checked, inRange, words, lineEnd, isDecimal, valueOf, mostText, mostPlanes}
@@ -68,6 +70,12 @@ on-bit (suc n) m (suc p) h =
     ∙ ap (λ (k : ℕ). k % 2) (shr-shr m 1 p ∙ ap (λ (k : ℕ). m / 2 ^ k) (let e : 1 + p ≡ suc p = omega arith in e))
 
 -- ---- the images of a request in range
+
+-- how many they are: the count law of `sequences`
+pub images-count : (planes order mask : ℕ) → length (imagesOf planes order mask) ≡ images planes (firsts (onOf planes mask)) order
+unfolding imagesOf
+images-count planes order mask =
+    visited-length (onOf planes mask) order ∙ ap (λ (n : ℕ). images n (firsts (onOf planes mask)) order) (length-on planes mask)
 
 module _ (planes order mask : ℕ) (on records : List ℕ) (few : planes ≤ mostPlanes) (deep : order ≤ mostOrder)
     (wide : most * 9 ≤ length records) (is : on ≡ onOf mostPlanes mask) where

@@ -1,9 +1,9 @@
 -- Laws of the words and decimals of a text, which the functions that read the request cite.
 -- By unfolding the definitions, by induction over the bytes, and by cases on each test.
-use Prim.Native.Nat.{ℕ, zero, suc, _+_, _-_, _*_, _^_, _≤_, _<_, min}
+use Prim.Native.Nat.{ℕ, zero, suc, _+_, _-_, _^_, _≤_, _<_, min}
 use mathlib.Core.Path.{_≡_, refl, sym, ap, _∙_}
 use mathlib.Core.Bool.{Bool, true, false, cond, _&&_}
-use mathlib.Core.List.{List, [], _∷_, _++_, foldl, foldl-append}
+use mathlib.Core.List.{List, [], _∷_, foldl, foldl-append}
 use native.Mathlib.Omega.{arith}
 use native.Mathlib.Decide.{decLt}
 use native.Mathlib.Numerals.{add-one}
@@ -11,10 +11,9 @@ use lib.ListN.{length, getD, take, drop, drop-of-length-le, length-drop}
 use lib.Seq.{drop-cons, take-suc, take-all}
 use lib.Pow.{pow-mono}
 use lib.Dec.{leb, ltb, eqb}
-use borrow.Author.Tests.{eq-eqb, ne-eqb, eqb-true, le-leb, lt-leb, leb-true, le-ltb}
+use borrow.Author.Tests.{eq-eqb, ne-eqb, le-leb, lt-leb, leb-true, le-ltb}
 use Rattle.listing.specs.Request.{mostPlanes, mostText, cap, isDigit, all, isDecimal, push, valueOf, words, onto, spaceAt, inRange, checked, asked, lineEnd, requestOf}
 use Rattle.sequences.specs.Allowed.{mostOrder}
-use Rattle.listing.specs.declared.Request.{Request}
 use Rattle.listing.specs.declared.Request.the-variants.{Images, Refused}
 
 pub and-false : (x : Bool) {y : Bool} → y ≡ false → (x && y) ≡ false

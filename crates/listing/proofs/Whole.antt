@@ -1,23 +1,23 @@
 -- The first line that `answer` leaves and the pieces that `lines` writes, one after the other, are the whole text `printed`.
 -- By induction over the images: a record is read back as its sequence, and the lines of two runs of records join.
 use Prim.Native.Nat.{ℕ, zero, suc, _+_, _-_, _*_, _/_, _%_, _^_, _≤_, _<_, min}
-use mathlib.Core.Path.{_≡_, refl, sym, ap, ap₂, subst, _∙_}
+use mathlib.Core.Path.{_≡_, refl, sym, ap, ap₂, _∙_}
 use mathlib.Core.Bool.{Bool, true, false, cond}
 use mathlib.Core.Logic.{inl, inr}
-use mathlib.Core.List.{List, [], _∷_, _++_, append-assoc, append-nil, foldl, foldl-append}
+use mathlib.Core.List.{List, [], _∷_, _++_, append-assoc, foldl, foldl-append}
 use native.Mathlib.Omega.{arith}
 use native.Mathlib.Nat.{pow-succ', add-zero, zero-add, sub-zero}
 use lib.ListN.{length, getD, take, drop, replicate, length-append, length-replicate}
 use lib.Seq.{take-append-le, take-append-seam, take-take, take-at, drop-at, drop-drop, getD-at, length-take-le}
 use lib.Dec.{ltb}
-use borrow.Author.Tests.{ltb-true, ltb-false}
-use Rattle.sequences.specs.Allowed.{visited, below, upto, may}
+use borrow.Author.Tests.{ltb-true}
+use Rattle.sequences.specs.Allowed.{below, upto, may}
 use Rattle.sequences.specs.Members.{In}
 use Rattle.sequences.specs.Run.{record9, listed}
 use Rattle.sequences.proofs.Laws.{length-record9}
 use Rattle.sequences.proofs.Numbers.{is-visited}
 use Rattle.listing.specs.Request.{requestOf, words, isDecimal, all, isDigit, valueOf, push, inRange, lineEnd}
-use Rattle.listing.specs.Text.{mostLine, digitsOf, decimalOf, planesOf, lineOf, headerOf, linesFrom, planesIn, planesAt, linesOf, chunkEnd, Chunked}
+use Rattle.listing.specs.Text.{mostLine, digitsOf, planesOf, lineOf, headerOf, linesFrom, planesIn, planesAt, linesOf, chunkEnd, Chunked}
 use Rattle.listing.specs.Printed.{onOf, imagesOf, imagesFor, headFor, printed, room, answerOf, recordsOf, outOf, Answered}
 use Rattle.listing.specs.declared.Request.{Request}
 use Rattle.listing.specs.declared.Request.the-variants.{Images, Refused}

@@ -1,17 +1,19 @@
 -- Laws of the pieces of the text: how what is written is put together, and how long it is at most.
 -- By unfolding the definitions, and by induction over digits, planes and lines.
 use Prim.Native.Nat.{ℕ, zero, suc, _+_, _-_, _*_, _/_, _%_, _≤_, _<_, min}
-use mathlib.Core.Path.{_≡_, refl, sym, ap, ap₂, subst, _∙_}
+use mathlib.Core.Path.{_≡_, refl, sym, ap, _∙_}
 use mathlib.Core.Bool.{Bool, true, false, cond}
 use mathlib.Core.List.{List, [], _∷_, _++_, append-nil, append-assoc}
 use native.Mathlib.Omega.{arith}
-use native.Mathlib.Nat.{add-zero, zero-add, suc-add, add-suc}
+use native.Mathlib.Nat.{add-zero, zero-add}
 use native.Mathlib.Numerals.{add-one}
 use lib.ListN.{length, getD, take, drop, set, length-append, length-take}
 use lib.Seq.{sets, sets-eq, take-suc, take-all, getD-drop}
 use lib.Dec.{ltb}
 use borrow.Author.Tests.{lt-ltb, le-ltb}
-use Rattle.sequences.proofs.Laws.{sets-append, sets-more}
+use Rattle.sequences.specs.Allowed.{mostOrder}
+use Rattle.sequences.specs.Run.{perRecord}
+use Rattle.sequences.proofs.Laws.{sets-append}
 use Rattle.listing.specs.Text.{mostDigits, mostHeader, mostLine, digitsOf, decimalOf, planesOf, lineOf, headerOf, planesAt, linesOf, Wrote, chunkEnd, Chunked}
 use Rattle.listing.specs.declared.Chunk.{Chunk}
 
@@ -120,10 +122,10 @@ pub line-is : (n : ℕ) (q : List ℕ) → lineOf n q ≡ ((decimalOf n ++ 58 �
 unfolding lineOf
 line-is n q = ap (λ (l : List ℕ). l ++ 10 ∷ []) (sym (append-assoc (decimalOf n) (58 ∷ []) (planesOf q)))
 
-pub planes-short : (q : List ℕ) → length q ≤ 8 → length (planesOf q) ≤ 168
+pub planes-short : (q : List ℕ) → length q ≤ mostOrder → length (planesOf q) ≤ mostOrder * (1 + mostDigits)
 planes-short q h = let l = planes-length q in omega arith
 
-line-length : (n : ℕ) (q : List ℕ) → length q ≤ 8 → length (lineOf n q) ≤ mostLine
+line-length : (n : ℕ) (q : List ℕ) → length q ≤ mostOrder → length (lineOf n q) ≤ mostLine
 line-length n q h =
     let d = digits-length mostDigits n in
     let l = planes-short q h in
@@ -145,7 +147,7 @@ header-length total =
 
 -- ---- lines from records
 
-pub planes-few : (area : List ℕ) (k : ℕ) → length (planesAt area k) ≤ 8
+pub planes-few : (area : List ℕ) (k : ℕ) → length (planesAt area k) ≤ mostOrder
 unfolding planesAt
 planes-few area k =
     let e = length-take (min (getD (drop (k * 9) area) 8 0) 8) (drop (k * 9) area) in
@@ -190,7 +192,7 @@ image-length area n k = line-length n (planesAt area k) (planes-few area k)
 
 pub chunk-room :
     (total from r o next : ℕ) → from ≤ next → next < chunkEnd total from r o →
-    (next * 9 + 9 ≤ r) × ((next - from) * 190 + 190 ≤ o) × (next < total)
+    (next * perRecord + perRecord ≤ r) × ((next - from) * mostLine + mostLine ≤ o) × (next < total)
 unfolding chunkEnd
 chunk-room total from r o next g h = (omega arith, omega arith, omega arith)
 
@@ -200,7 +202,7 @@ chunk-from total from r o = omega arith
 
 -- what a chunk takes is within the output
 pub chunk-fits :
-    (total from r o next len : ℕ) → next ≡ chunkEnd total from r o → len ≤ (next - from) * 190 → len ≤ o
+    (total from r o next len : ℕ) → next ≡ chunkEnd total from r o → len ≤ (next - from) * mostLine → len ≤ o
 unfolding chunkEnd
 chunk-fits total from r o next len e h = omega arith
 

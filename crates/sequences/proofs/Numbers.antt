@@ -8,7 +8,7 @@ use native.Mathlib.Omega.{arith}
 use native.Mathlib.Decide.{decLt}
 use lib.ListN.{length, getD, take, length-take}
 use Rattle.sequences.specs.Allowed.{most, allowed, visited}
-use Rattle.sequences.specs.Members.{IsAllowed, In, Before, InOrder, Once, Image, IsVisited, IsNumbered}
+use Rattle.sequences.specs.Members.{IsAllowed, In, Before, InOrder, Image, IsVisited, IsNumbered}
 use Rattle.sequences.proofs.Membership.{allowed-only, allowed-all, allowed-order, order-once, before-not}
 
 -- ---- the first n of a list in order

@@ -20,22 +20,32 @@ same-length c = c .before .before .before .before .lines .kept .1 .1 .1 .0 ∙ c
 slice-reshare-prefix-write-all : tie.Need-slice-reshare-prefix-write-all Inv-loop μ-loop
 slice-reshare-prefix-write-all c =
     let a = c .before .before .before .before .before .before .before .before .before .args in
-    chunk-within (a .records .now) (a .total) (c .before .before .before .before .before .before .loop .from) (c .before .before .before .before .before .before .loop .out) (c .before .before .before .before .lines .result) (c .before .before .before .before .lines .last .1 .1 .1 .0) (c .before .before .before .before .lines .ensures)
+    let at-loop = c .before .before .before .before .before .before .loop in
+    let at-lines = c .before .before .before .before .lines in
+    chunk-within (a .records .now) (a .total) (at-loop .from) (at-loop .out) (at-lines .result) (at-lines .last .1 .1 .1 .0) (at-lines .ensures)
 
 slice-aggregate-write-all : tie.Need-slice-aggregate-write-all Inv-loop μ-loop
 slice-aggregate-write-all c =
     let a = c .before .before .before .before .before .before .before .before .before .before .args in
-    sym (length-take-le _ _ (chunk-within (a .records .now) (a .total) (c .before .before .before .before .before .before .before .loop .from) (c .before .before .before .before .before .before .before .loop .out) (c .before .before .before .before .before .lines .result) (c .before .before .before .before .before .lines .last .1 .1 .1 .0) (c .before .before .before .before .before .lines .ensures)))
+    let at-loop = c .before .before .before .before .before .before .before .loop in
+    let at-lines = c .before .before .before .before .before .lines in
+    sym (length-take-le _ _ (chunk-within (a .records .now) (a .total) (at-loop .from) (at-loop .out) (at-lines .result) (at-lines .last .1 .1 .1 .0) (at-lines .ensures)))
 
 loop-less : tie.Need-loop-less Inv-loop μ-loop
 loop-less c =
     let a = c .before .before .before .before .before .before .before .before .before .before .before .args in
-    let h : c .before .before .before .before .before .before .before .before .loop .from < c .before .before .before .before .before .before .lines .result .next = c .before .before .if1 .left in
-    let t = chunk-total (a .records .now) (a .total) (c .before .before .before .before .before .before .before .before .loop .from) (c .before .before .before .before .before .before .before .before .loop .out) (c .before .before .before .before .before .before .lines .result) (c .before .before .before .before .before .before .lines .last .1 .1 .1 .0) (c .before .before .before .before .before .before .lines .ensures) h in
+    let at-loop = c .before .before .before .before .before .before .before .before .loop in
+    let at-lines = c .before .before .before .before .before .before .lines in
+    let at-if1 = c .before .before .if1 in
+    let h : at-loop .from < at-lines .result .next = at-if1 .left in
+    let t = chunk-total (a .records .now) (a .total) (at-loop .from) (at-loop .out) (at-lines .result) (at-lines .last .1 .1 .1 .0) (at-lines .ensures) h in
     omega arith
 
 loop-again : tie.Need-loop-again Inv-loop μ-loop
-loop-again c = c .before .before .before .before .before .before .lines .kept .1 .1 .1 .0 ∙ c .before .before .before .before .before .before .before .before .loop .inv
+loop-again c =
+    let at-loop = c .before .before .before .before .before .before .before .before .loop in
+    let at-lines = c .before .before .before .before .before .before .lines in
+    at-lines .kept .1 .1 .1 .0 ∙ at-loop .inv
 
 pub print-lines-spec : {M : Type 1} → statement M
 print-lines-spec =

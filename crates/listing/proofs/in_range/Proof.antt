@@ -1,5 +1,4 @@
 -- `listing::in_range` meets its contract: its tests are the definition's, one after the other.
-use mathlib.Core.Path.{_≡_, sym}
 use borrow.Author.Needs.{needs}
 use borrow.Author.Tests.{le-leb, lt-leb}
 use Rattle.listing.specs.Request.{inRange}
@@ -8,11 +7,18 @@ use Rattle.listing.proofs.in_range.Tie as tie
 
 returns : tie.Need-returns
 unfolding inRange
-returns c = rw (le-leb _ _ (c .before .before .before .before .if1 .taken), le-leb _ _ (c .before .before .before .if2 .taken), le-leb _ _ (c .before .before .if3 .taken), le-leb _ _ (c .before .if4 .taken), c .power .ensures)
+returns c =
+    let at-if1 = c .before .before .before .before .if1 in
+    let at-if2 = c .before .before .before .if2 in
+    let at-if3 = c .before .before .if3 in
+    rw (le-leb _ _ (at-if1 .taken), le-leb _ _ (at-if2 .taken), le-leb _ _ (at-if3 .taken), le-leb _ _ (c .before .if4 .taken), c .power .ensures)
 
 returns-2 : tie.Need-returns-2
 unfolding inRange
-returns-2 c = rw (le-leb _ _ (c .before .before .before .if1 .taken), le-leb _ _ (c .before .before .if2 .taken), le-leb _ _ (c .before .if3 .taken), lt-leb _ _ (c .if4 .left))
+returns-2 c =
+    let at-if1 = c .before .before .before .if1 in
+    let at-if2 = c .before .before .if2 in
+    rw (le-leb _ _ (at-if1 .taken), le-leb _ _ (at-if2 .taken), le-leb _ _ (c .before .if3 .taken), lt-leb _ _ (c .if4 .left))
 
 returns-3 : tie.Need-returns-3
 unfolding inRange

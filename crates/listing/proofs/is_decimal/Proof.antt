@@ -18,13 +18,24 @@ returns : tie.Need-returns Inv-loop μ-loop
 returns c = decimal-none (c .before .before .args .word .now) (c .if1 .taken)
 
 returns-2 : tie.Need-returns-2 Inv-loop μ-loop
-returns-2 c = decimal-not (c .before .before .before .before .before .before .before .args .word .now) (c .before .before .before .before .loop .i) (c .before .before .before .loop-test .taken) (c .before .before .before .before .loop .inv) (sym (c .before .is-digit .ensures) ∙ c .if2 .left)
+returns-2 c =
+    let at-args = c .before .before .before .before .before .before .before .args in
+    let at-loop = c .before .before .before .before .loop in
+    let at-loop-test = c .before .before .before .loop-test in
+    decimal-not (at-args .word .now) (at-loop .i) (at-loop-test .taken) (at-loop .inv) (sym (c .before .is-digit .ensures) ∙ c .if2 .left)
 
 loop-again : tie.Need-loop-again Inv-loop μ-loop
-loop-again c = all-on isDigit (c .before .before .before .before .before .before .before .args .word .now) (c .before .before .before .before .loop .i) (c .before .before .before .loop-test .taken) (c .before .before .before .before .loop .inv) (sym (c .before .is-digit .ensures) ∙ c .if2 .taken)
+loop-again c =
+    let at-args = c .before .before .before .before .before .before .before .args in
+    let at-loop = c .before .before .before .before .loop in
+    let at-loop-test = c .before .before .before .loop-test in
+    all-on isDigit (at-args .word .now) (at-loop .i) (at-loop-test .taken) (at-loop .inv) (sym (c .before .is-digit .ensures) ∙ c .if2 .taken)
 
 returns-3 : tie.Need-returns-3 Inv-loop μ-loop
-returns-3 c = decimal-all (c .before .before .before .before .args .word .now) (c .before .loop .i) (c .before .before .if1 .left) (c .loop-test .left) (c .before .loop .inv)
+returns-3 c =
+    let at-args = c .before .before .before .before .args in
+    let at-if1 = c .before .before .if1 in
+    decimal-all (at-args .word .now) (c .before .loop .i) (at-if1 .left) (c .loop-test .left) (c .before .loop .inv)
 
 pub is-decimal-spec : {M : Type 1} → statement M
 is-decimal-spec =

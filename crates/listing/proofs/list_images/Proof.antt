@@ -1,7 +1,7 @@
 -- `listing::list_images` meets its contract: for a request in range `enumerate` refuses nothing, and the header says its count.
 use borrow.Author.Needs.{needs}
 use native.Mathlib.Omega.{arith}
-use mathlib.Core.Path.{_≡_, refl, sym, _∙_}
+use mathlib.Core.Path.{refl, sym, _∙_}
 use lib.Seq.{length-take-le}
 use Rattle.listing.proofs.Answering.{found, found-area, total-is, total-not, listed-head}
 use Rattle.listing.proofs.list_images.Statement.{statement}
@@ -23,11 +23,15 @@ returns : tie.Need-returns
 returns c =
     let a = c .before .before .before .before .before .before .before .before .before .before .before .before .before .before .before .before .before .args in
     let h = c .before .before .before .before .before .before .before .before .before .before .before .before .before .before .before .before .before .pre in
-    let f = found (a .planes) (a .order) (a .mask) (c .before .before .before .before .before .before .before .before .before .before .before .before .before .put-on .last .1 .0) (a .records .now) (h .0) (h .1) (h .2) (c .before .before .before .before .before .before .before .before .before .before .before .before .before .put-on .ensures) in
-    let g = found-area (a .planes) (a .order) (a .mask) (c .before .before .before .before .before .before .before .before .before .before .before .before .before .put-on .last .1 .0) (a .records .now) (h .0) (h .1) (h .2) (c .before .before .before .before .before .before .before .before .before .before .before .before .before .put-on .ensures) in
-    let total = c .before .before .before .before .before .found .given .0 .0 in
-    listed-head (a .planes) (a .order) (a .mask) (a .records .now) (a .out .now) total (c .before .before .put-header .result) (c .before .before .before .before .before .before .before .before .before .enumerate .last .1 .1 .0) (c .before .before .put-header .last .1 .0)
-    (total-is total _ (c .before .before .before .before .before .before .before .before .before .enumerate .result) (c .before .before .before .before .before .found .given .1) (c .before .before .before .before .before .before .before .before .before .enumerate .ensures .0 ∙ f)) (h .3) (c .before .before .put-header .ensures) (c .before .before .before .before .before .before .before .before .before .enumerate .ensures .1 ∙ g)
+    let at-put-on = c .before .before .before .before .before .before .before .before .before .before .before .before .before .put-on in
+    let at-enumerate = c .before .before .before .before .before .before .before .before .before .enumerate in
+    let at-found = c .before .before .before .before .before .found in
+    let at-put-header = c .before .before .put-header in
+    let f = found (a .planes) (a .order) (a .mask) (at-put-on .last .1 .0) (a .records .now) (h .0) (h .1) (h .2) (at-put-on .ensures) in
+    let g = found-area (a .planes) (a .order) (a .mask) (at-put-on .last .1 .0) (a .records .now) (h .0) (h .1) (h .2) (at-put-on .ensures) in
+    let total = at-found .given .0 .0 in
+    listed-head (a .planes) (a .order) (a .mask) (a .records .now) (a .out .now) total (at-put-header .result) (at-enumerate .last .1 .1 .0) (at-put-header .last .1 .0)
+    (total-is total _ (at-enumerate .result) (at-found .given .1) (at-enumerate .ensures .0 ∙ f)) (h .3) (at-put-header .ensures) (at-enumerate .ensures .1 ∙ g)
 
 same-length-3 : tie.Need-same-length-3
 same-length-3 c = let k = c .before .before .before .before .enumerate .kept in omega arith
@@ -36,8 +40,10 @@ returns-2 : tie.Need-returns-2
 returns-2 c =
     let a = c .before .before .before .before .before .before .before .before .before .before .before .before .args in
     let h = c .before .before .before .before .before .before .before .before .before .before .before .before .pre in
-    let f = found (a .planes) (a .order) (a .mask) (c .before .before .before .before .before .before .before .before .put-on .last .1 .0) (a .records .now) (h .0) (h .1) (h .2) (c .before .before .before .before .before .before .before .before .put-on .ensures) in
-    absurd (total-not _ (c .before .before .before .before .enumerate .result) (c .enum-told .given .1) (c .before .before .before .before .enumerate .ensures .0 ∙ f))
+    let at-put-on = c .before .before .before .before .before .before .before .before .put-on in
+    let at-enumerate = c .before .before .before .before .enumerate in
+    let f = found (a .planes) (a .order) (a .mask) (at-put-on .last .1 .0) (a .records .now) (h .0) (h .1) (h .2) (at-put-on .ensures) in
+    absurd (total-not _ (at-enumerate .result) (c .enum-told .given .1) (at-enumerate .ensures .0 ∙ f))
 
 pub list-images-spec : {M : Type 1} → statement M
 list-images-spec =

@@ -1,9 +1,7 @@
 -- `listing::put_header` meets its contract: its three pieces, one after the other.
-use Prim.Native.Nat.{ℕ, _≤_, _<_, _+_}
 use native.Mathlib.Omega.{arith}
 use borrow.Author.Needs.{needs}
-use lib.ListN.{length}
-use Rattle.listing.specs.Text.{Wrote, mostDigits}
+use Rattle.listing.specs.Text.{mostDigits}
 use Rattle.listing.proofs.Writing.{wrote-then, header-is, digits-length}
 use Rattle.listing.proofs.put_header.Statement.{statement}
 use Rattle.listing.proofs.put_header.Tie as tie
@@ -32,7 +30,11 @@ same-length c =
 
 returns : tie.Need-returns
 returns c =
-    rw (header-is (c .before .before .before .before .before .before .before .before .before .before .before .before .before .before .args .total)) (wrote-then (wrote-then (c .before .before .before .before .before .before .before .before .before .before .put-bytes .ensures) (c .before .before .before .before .before .before .put-digits .ensures)) (c .before .before .put .ensures))
+    let at-args = c .before .before .before .before .before .before .before .before .before .before .before .before .before .before .args in
+    let at-put-bytes = c .before .before .before .before .before .before .before .before .before .before .put-bytes in
+    let at-put-digits = c .before .before .before .before .before .before .put-digits in
+    let at-put = c .before .before .put in
+    rw (header-is (at-args .total)) (wrote-then (wrote-then (at-put-bytes .ensures) (at-put-digits .ensures)) (at-put .ensures))
 
 pub put-header-spec : {M : Type 1} → statement M
 put-header-spec =

@@ -1,11 +1,7 @@
 -- `listing::put_image` meets its contract: the part of the records that it hands on is the image's planes.
-use Prim.Native.Nat.{ℕ, _+_, _-_, _*_}
-use mathlib.Core.Path.{_≡_, ap, subst}
-use mathlib.Core.List.{List}
+use Prim.Native.Nat.{_+_, _-_, _*_}
 use native.Mathlib.Omega.{arith}
 use borrow.Author.Needs.{needs}
-use lib.ListN.{length, take, drop, length-take}
-use Rattle.listing.specs.Text.{Wrote, lineOf}
 use Rattle.listing.proofs.Writing.{planes-part, planes-few}
 use Rattle.listing.proofs.put_image.Statement.{statement}
 use Rattle.listing.proofs.put_image.Tie as tie
@@ -22,7 +18,9 @@ put-line-requires c κs =
 returns : tie.Need-returns
 returns c =
     let a = c .before .before .before .before .before .before .before .before .before .args in
-    rw (← planes-part (a .records .now) (a .k) (c .before .before .before .before .before .least .result) (c .before .before .before .before .before .least .ensures)) (c .before .before .put-line .ensures)
+    let at-least = c .before .before .before .before .before .least in
+    let at-put-line = c .before .before .put-line in
+    rw (← planes-part (a .records .now) (a .k) (at-least .result) (at-least .ensures)) (at-put-line .ensures)
 
 pub put-image-spec : {M : Type 1} → statement M
 put-image-spec =

@@ -1,6 +1,6 @@
 -- `listing::put_planes` meets its contract. The loop's invariant: the planes passed are written, each in at most 21 bytes.
-use Prim.Native.Nat.{ℕ, _+_, _-_, _*_, _≤_}
-use mathlib.Core.Path.{_≡_, refl, sym, _∙_}
+use Prim.Native.Nat.{_+_, _-_, _*_, _≤_}
+use mathlib.Core.Path.{_≡_, refl}
 use native.Mathlib.Omega.{arith}
 use lib.ListN.{length, getD, take}
 use Rattle.listing.specs.Text.{Wrote, planesOf, mostDigits}
@@ -10,7 +10,7 @@ use Rattle.listing.proofs.put_planes.Tie as tie
 
 abbrev Inv-loop : tie.InvT-loop
 Inv-loop planes out₀ at p₀ i₀ out p i =
-    (i ≤ length planes) × (length out ≡ length out₀) × (p ≤ at + 21 * i) × Wrote (planesOf (take i planes)) out₀ at out p
+    (i ≤ length planes) × (length out ≡ length out₀) × (p ≤ at + (1 + mostDigits) * i) × Wrote (planesOf (take i planes)) out₀ at out p
 
 abbrev μ-loop : tie.MeasureT-loop
 μ-loop planes out₀ at p₀ i₀ out p i = length planes - i
@@ -30,19 +30,25 @@ put-digits-requires c κs =
 loop-again : tie.Need-loop-again Inv-loop μ-loop
 loop-again c =
     let a = c .before .before .before .before .before .before .before .before .before .before .before .before .before .args in
-    let d = digits-length mostDigits (getD (a .planes .now) (c .before .before .before .before .before .before .before .before .before .before .loop .i) 0) in
-    let e = c .before .before .before .before .before .before .before .put .ensures .ends in
-    let f = c .before .before .put-digits .ensures .ends in
-    let k = c .before .before .before .before .before .before .before .put .kept in
-    let j = c .before .before .put-digits .kept in (
+    let at-loop = c .before .before .before .before .before .before .before .before .before .before .loop in
+    let at-loop-test = c .before .before .before .before .before .before .before .before .before .loop-test in
+    let at-put = c .before .before .before .before .before .before .before .put in
+    let at-put-digits = c .before .before .put-digits in
+    let d = digits-length mostDigits (getD (a .planes .now) (at-loop .i) 0) in
+    let e = at-put .ensures .ends in
+    let f = at-put-digits .ensures .ends in
+    let k = at-put .kept in
+    let j = at-put-digits .kept in (
       omega arith,
       omega arith,
       omega arith,
-      (rw (planes-more (a .planes .now) (c .before .before .before .before .before .before .before .before .before .before .loop .i) (c .before .before .before .before .before .before .before .before .before .loop-test .taken)) (wrote-then (wrote-then (c .before .before .before .before .before .before .before .before .before .before .loop .inv .3) (c .before .before .before .before .before .before .before .put .ensures)) (c .before .before .put-digits .ensures))),
+      (rw (planes-more (a .planes .now) (at-loop .i) (at-loop-test .taken)) (wrote-then (wrote-then (at-loop .inv .3) (at-put .ensures)) (at-put-digits .ensures))),
     )
 
 returns : tie.Need-returns Inv-loop μ-loop
-returns c = let a = c .before .before .before .before .args in rw (planes-all (a .planes .now) (c .before .loop .i) (c .loop-test .left)) at (c .before .loop .inv .3)
+returns c =
+    let a = c .before .before .before .before .args in
+    rw (planes-all (a .planes .now) (c .before .loop .i) (c .loop-test .left)) at (c .before .loop .inv .3)
 
 pub put-planes-spec : {M : Type 1} → statement M
 put-planes-spec =

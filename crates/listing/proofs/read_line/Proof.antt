@@ -1,7 +1,5 @@
 -- `listing::read_line` meets its contract: where there is no space there is one word, else the words behind it are read.
-use mathlib.Core.Path.{_≡_, refl, sym, ap, _∙_}
-use mathlib.Core.List.{List, _∷_}
-use Prim.Native.Nat.{ℕ}
+use mathlib.Core.Path.{sym, ap, _∙_}
 use native.Mathlib.Omega.{arith}
 use borrow.Author.Needs.{needs}
 use lib.Seq.{length-take-le}
@@ -14,10 +12,16 @@ slice-aggregate-read-rest : tie.Need-slice-aggregate-read-rest
 slice-aggregate-read-rest c = sym (length-take-le _ _ (omega arith))
 
 returns : tie.Need-returns
-returns c = let a = c .before .before .before .before .before .before .args in c .read-rest .ensures ∙ ap asked (words-part (a .line .now) (c .before .before .before .before .space .result) (c .before .before .before .before .space .ensures) (c .before .before .before .if1 .taken))
+returns c =
+    let a = c .before .before .before .before .before .before .args in
+    let at-space = c .before .before .before .before .space in
+    let at-if1 = c .before .before .before .if1 in
+    c .read-rest .ensures ∙ ap asked (words-part (a .line .now) (at-space .result) (at-space .ensures) (at-if1 .taken))
 
 returns-2 : tie.Need-returns-2
-returns-2 c = let a = c .before .before .before .args in sym (ap asked (words-one (a .line .now) (c .before .space .result) (c .before .space .ensures) (c .if1 .left)))
+returns-2 c =
+    let a = c .before .before .before .args in
+    sym (ap asked (words-one (a .line .now) (c .before .space .result) (c .before .space .ensures) (c .if1 .left)))
 
 pub read-line-spec : {M : Type 1} → statement M
 read-line-spec =

@@ -1,7 +1,6 @@
 -- `listing::read_request` meets its contract: a long text is refused, else its line is read.
-use mathlib.Core.Path.{_≡_, sym, ap, _∙_}
+use mathlib.Core.Path.{sym, ap, _∙_}
 use native.Mathlib.Omega.{arith}
-use borrow.Author.Needs.{needs}
 use Prim.Native.Nat.{ℕ}
 use lib.ListN.{take}
 use lib.Seq.{length-take-le}
@@ -17,7 +16,11 @@ slice-aggregate-read-line : tie.Need-slice-aggregate-read-line
 slice-aggregate-read-line c = sym (length-take-le _ _ (omega (arith, line-within (c .before .before .before .before .args .text .now))))
 
 returns-2 : tie.Need-returns-2
-returns-2 c = let t = c .before .before .before .before .before .args .text .now in c .read-line .ensures ∙ ap (λ (n : ℕ). asked (words (take n t))) (c .before .before .line-end .ensures) ∙ request-short t (c .before .before .before .if1 .left)
+returns-2 c =
+    let at-args = c .before .before .before .before .before .args in
+    let at-if1 = c .before .before .before .if1 in
+    let at-line-end = c .before .before .line-end in
+    let t = at-args .text .now in c .read-line .ensures ∙ ap (λ (n : ℕ). asked (words (take n t))) (at-line-end .ensures) ∙ request-short t (at-if1 .left)
 
 pub read-request-spec : {M : Type 1} → statement M
 read-request-spec =

@@ -1,6 +1,6 @@
 -- `listing::space` meets its contract. The loop's invariant: the first space from i on is that of the whole text.
-use mathlib.Core.Path.{_≡_, refl}
-use Prim.Native.Nat.{_+_, _-_, _≤_}
+use mathlib.Core.Path.{_≡_}
+use Prim.Native.Nat.{_+_, _-_}
 use native.Mathlib.Omega.{arith}
 use lib.ListN.{length, drop}
 use Rattle.listing.specs.Request.{spaceAt}
@@ -15,10 +15,18 @@ abbrev μ-loop : tie.MeasureT-loop
 μ-loop text i₀ i = length text - i
 
 returns : tie.Need-returns Inv-loop μ-loop
-returns c = space-here (c .before .before .before .before .args .text .now) (c .before .before .before .loop .i) (c .before .before .loop-test .taken) (c .before .before .before .loop .inv) (c .if1 .taken)
+returns c =
+    let at-args = c .before .before .before .before .args in
+    let at-loop = c .before .before .before .loop in
+    let at-loop-test = c .before .before .loop-test in
+    space-here (at-args .text .now) (at-loop .i) (at-loop-test .taken) (at-loop .inv) (c .if1 .taken)
 
 loop-again : tie.Need-loop-again Inv-loop μ-loop
-loop-again c = space-on (c .before .before .before .before .args .text .now) (c .before .before .before .loop .i) (c .before .before .loop-test .taken) (c .before .before .before .loop .inv) (c .if1 .left)
+loop-again c =
+    let at-args = c .before .before .before .before .args in
+    let at-loop = c .before .before .before .loop in
+    let at-loop-test = c .before .before .loop-test in
+    space-on (at-args .text .now) (at-loop .i) (at-loop-test .taken) (at-loop .inv) (c .if1 .left)
 
 returns-2 : tie.Need-returns-2 Inv-loop μ-loop
 returns-2 c = space-end (c .before .before .args .text .now) (c .before .loop .i) (c .loop-test .left) (c .before .loop .inv)

@@ -19,13 +19,23 @@ unfolding valueOf
 loop-holds c = (omega arith, refl)
 
 push-requires : tie.Need-push-requires Inv-loop μ-loop
-push-requires c κs = (omega arith, decimal-at (c .before .before .before .before .args .word .now) (c .before .before .before .before .pre) (c .before .before .loop .i) (c .before .loop-test .taken))
+push-requires c κs =
+    let at-args = c .before .before .before .before .args in
+    let at-pre = c .before .before .before .before .pre in
+    let at-loop = c .before .before .loop in
+    (omega arith, decimal-at (at-args .word .now) (at-pre) (at-loop .i) (c .before .loop-test .taken))
 
 loop-again : tie.Need-loop-again Inv-loop μ-loop
-loop-again c = (omega arith, value-more (c .before .before .before .before .before .args .word .now) (c .before .before .before .loop .n) (c .before .before .before .loop .i) (c .push .result) (c .before .before .loop-test .taken) (c .before .before .before .loop .inv .1) (c .push .ensures))
+loop-again c =
+    let at-args = c .before .before .before .before .before .args in
+    let at-loop = c .before .before .before .loop in
+    let at-loop-test = c .before .before .loop-test in
+    (omega arith, value-more (at-args .word .now) (at-loop .n) (at-loop .i) (c .push .result) (at-loop-test .taken) (at-loop .inv .1) (c .push .ensures))
 
 returns : tie.Need-returns Inv-loop μ-loop
-returns c = value-all (c .before .before .before .args .word .now) (c .before .loop .n) (c .before .loop .i) (c .loop-test .left) (c .before .loop .inv .1)
+returns c =
+    let at-args = c .before .before .before .args in
+    value-all (at-args .word .now) (c .before .loop .n) (c .before .loop .i) (c .loop-test .left) (c .before .loop .inv .1)
 
 pub value-spec : {M : Type 1} → statement M
 value-spec =

@@ -1,12 +1,11 @@
 -- `sequences::expand_images` and `sequences::node` meet their contracts, by the laws of `proofs/Walks.antt`.
 -- The measure is the order less the depth; the loop's invariant is that the planes passed were run over.
 use Prim.Native.Nat.{ℕ, _+_, _-_, _*_, _≤_, _<_}
-use mathlib.Core.Path.{_≡_, refl, sym, ap, _∙_}
-use mathlib.Core.List.{List}
+use mathlib.Core.Path.{_≡_, refl, sym, _∙_}
 use native.Mathlib.Omega.{arith}
-use lib.ListN.{length, take, set, length-map}
-use Rattle.sequences.specs.Allowed.{upto, may, below, at}
-use Rattle.sequences.specs.Contract.{Walked, Ready}
+use lib.ListN.{length, take, length-map}
+use Rattle.sequences.specs.Allowed.{upto, may, at}
+use Rattle.sequences.specs.Contract.{Walked}
 use Rattle.sequences.proofs.Walks as law
 use borrow.Fn.Kinds.{In}
 use borrow.Fn.PlainCycle.{Measures, is, falls, and}
