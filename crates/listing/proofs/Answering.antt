@@ -17,6 +17,7 @@ use Rattle.sequences.specs.Run.{listed}
 use Rattle.sequences.specs.Contract as sequences
 use Rattle.sequences.specs.Count.{images, firsts}
 use Rattle.sequences.proofs.Counting.{visited-length}
+use Rattle.sequences.proofs.Laws.{length-listed}
 use Rattle.sequences.specs.declared.Enumeration.{Enumeration}
 use Rattle.sequences.specs.declared.Enumeration.the-variants as enumeration
 use Rattle.listing.specs.Request.{requestOf, asked, checked, inRange, words, lineEnd, isDecimal, valueOf, mostText, mostPlanes}
@@ -248,5 +249,27 @@ module _ (text records out : List ℕ) where
       by true p q =
           let n : len ≡ length (headFor (requestOf text)) = cc in
           let t = ap length q ∙ length-append (headFor (requestOf text)) (drop (length (headFor (requestOf text))) out) in
+          omega arith
+      by false p q = let z : _≡_ {A = ℕ} 0 1 = cc in absurd (omega arith)
+
+  -- and every image has its record
+  pub answer-records :
+      (total len : ℕ) (r : Reply) (records′ out′ : List ℕ) → Answered text records out r records′ out′ → r ≡ Head total len →
+      total * 9 ≤ length records′
+  unfolding answerOf recordsOf
+  answer-records total len r records′ out′ a e = by (room records out) (sym e ∙ a .answer) (a .area)
+    where
+      by :
+          (b : Bool) →
+          Head total len ≡ cond b (Head (length (imagesFor (requestOf text))) (length (headFor (requestOf text)))) NoRoom →
+          records′ ≡ cond b (listed (imagesFor (requestOf text)) ++ drop (length (imagesFor (requestOf text)) * 9) records) records →
+          total * 9 ≤ length records′
+      by true p q =
+          let n : total ≡ length (imagesFor (requestOf text)) = cc in
+          let m : total * 9 ≡ length (imagesFor (requestOf text)) * 9 = ap (λ (k : ℕ). k * 9) n in
+          let l = length-listed (imagesFor (requestOf text)) in
+          let t =
+          ap length q
+          ∙ length-append (listed (imagesFor (requestOf text))) (drop (length (imagesFor (requestOf text)) * 9) records) in
           omega arith
       by false p q = let z : _≡_ {A = ℕ} 0 1 = cc in absurd (omega arith)

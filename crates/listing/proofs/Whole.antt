@@ -1,10 +1,10 @@
--- The first line that `answer` leaves and the pieces that `lines` writes, one after the other, are the whole text `printed`.
+-- The first line that `answer` leaves and the chunks that a loop over `lines` writes, one after the other, are the whole text `printed`.
 -- By induction over the images: a record is read back as its sequence, and the lines of two runs of records join.
 use Prim.Native.Nat.{ℕ, zero, suc, _+_, _-_, _*_, _/_, _%_, _^_, _≤_, _<_, min}
 use mathlib.Core.Path.{_≡_, refl, sym, ap, ap₂, _∙_}
 use mathlib.Core.Bool.{Bool, true, false, cond}
-use mathlib.Core.Logic.{inl, inr}
-use mathlib.Core.List.{List, [], _∷_, _++_, append-assoc, foldl, foldl-append}
+use mathlib.Core.Logic.{_⊎_, inl, inr, ⊎-elim}
+use mathlib.Core.List.{List, [], _∷_, _++_, append-assoc, append-nil, foldl, foldl-append}
 use native.Mathlib.Omega.{arith}
 use native.Mathlib.Nat.{pow-succ', add-zero, zero-add, sub-zero}
 use lib.ListN.{length, getD, take, drop, replicate, length-append, length-replicate}
@@ -17,14 +17,15 @@ use Rattle.sequences.specs.Run.{record9, listed}
 use Rattle.sequences.proofs.Laws.{length-record9}
 use Rattle.sequences.proofs.Numbers.{is-visited}
 use Rattle.listing.specs.Request.{requestOf, words, isDecimal, all, isDigit, valueOf, push, inRange, lineEnd}
-use Rattle.listing.specs.Text.{mostLine, digitsOf, planesOf, lineOf, headerOf, linesFrom, planesIn, planesAt, linesOf, chunkEnd, Chunked}
+use Rattle.listing.specs.Text.{mostLine, digitsOf, planesOf, lineOf, headerOf, linesFrom, planesIn, planesAt, linesOf, chunkEnd, Chunked, Turn, Turns, written}
 use Rattle.listing.specs.Printed.{onOf, imagesOf, imagesFor, headFor, printed, room, answerOf, recordsOf, outOf, Answered}
 use Rattle.listing.specs.declared.Request.{Request}
 use Rattle.listing.specs.declared.Request.the-variants.{Images, Refused}
 use Rattle.listing.specs.declared.Reply.{Reply}
 use Rattle.listing.specs.declared.Reply.the-variants.{Head, NoRoom}
 use Rattle.listing.specs.declared.Chunk.{Chunk}
-use Rattle.listing.proofs.Answering.{request-few}
+use Rattle.listing.proofs.Answering.{request-few, answer-records}
+use Rattle.listing.proofs.Writing.{chunk-total}
 
 -- ---- a record is read back as its sequence
 
@@ -129,9 +130,9 @@ answer-text text records out total len r records′ out′ a e = by (room record
         ∙ whole text records out f
     by false f p q = let z : _≡_ {A = ℕ} 0 1 = cc in absurd (omega arith)
 
--- ---- the pieces
+-- ---- the chunks
 
-pub lines-join : (area : List ℕ) (k m n : ℕ) → linesOf area k m ++ linesOf area (k + m) n ≡ linesOf area k (m + n)
+lines-join : (area : List ℕ) (k m n : ℕ) → linesOf area k m ++ linesOf area (k + m) n ≡ linesOf area k (m + n)
 unfolding linesOf
 lines-join area k zero n = ap₂ (λ (i j : ℕ). linesOf area i j) (add-zero k) (sym (zero-add n))
 lines-join area k (suc m) n =
@@ -141,55 +142,53 @@ lines-join area k (suc m) n =
     ∙ lines-join area (suc k) m n)
     ∙ ap (linesOf area k) (let e : suc (m + n) ≡ suc m + n = omega arith in e)
 
--- pieces of text that are the lines of records from `from` on, one piece after the other, up to the total
-abbrev pub Pieces : List ℕ → ℕ → ℕ → List (List ℕ) → Type 0
-Pieces records total from [] = total ≤ from
-Pieces records total from (p ∷ ps) =
-    (next : ℕ) × (from < next) × (next ≤ total) × (p ≡ linesOf records from (next - from)) × Pieces records total next ps
+module _ (records : List ℕ) (total from : ℕ) (o : List ℕ) (r : Chunk) (o′ : List ℕ) (k : Chunked records total from o r o′) where
+  chunk-text : take (r .len) o′ ≡ linesOf records from (r .next - from)
+  chunk-text =
+      ap (take (r .len)) (k .text) ∙ take-at (linesOf records from (r .next - from)) (drop (r .len) o) (r .len) (sym (k .len))
 
-abbrev pub concat : List (List ℕ) → List ℕ
-concat [] = []
-concat (p ∷ ps) = p ++ concat ps
+  chunk-last : r .next ≤ from → mostLine ≤ length o → total * 9 ≤ length records → total ≤ from
+  unfolding chunkEnd
+  chunk-last h l m = let e = k .next in omega arith
 
--- a chunk that has a line is a piece
-pub chunk-piece :
-    (records : List ℕ) (total from : ℕ) (o : List ℕ) (r : Chunk) (o′ : List ℕ) → Chunked records total from o r o′ → from < r .next →
-    (r .next ≤ total) × (take (r .len) o′ ≡ linesOf records from (r .next - from))
-unfolding chunkEnd
-chunk-piece records total from o r o′ k h = (
-  (let e = k .next in omega arith),
-  ap (take (r .len)) (k .text) ∙ take-at (linesOf records from (r .next - from)) (drop (r .len) o) (r .len) (sym (k .len)),
-)
+-- they print the lines of all images from `from` on
+turns-all :
+    (records : List ℕ) (total from : ℕ) (ts : List Turn) → total * 9 ≤ length records → Turns records total from ts →
+    written ts ≡ linesOf records from (total - from)
+turns-all records total from [] m h = absurd h
+turns-all records total from (t ∷ ts) m h =
+    ap (λ (l : List ℕ). l ++ written ts) (chunk-text records total from (t .before) (t .chunk) (t .after) (h .0))
+    ∙ ⊎-elim last (λ g. more g (turns-all records total (t .chunk .next) ts m (g .1))) (h .2)
+  where
+    last : (t .chunk .next ≤ from) × (ts ≡ []) → linesOf records from (t .chunk .next - from) ++ written ts ≡ linesOf records from (total - from)
+    last g =
+        let a = g .0 in
+        let b = chunk-last records total from (t .before) (t .chunk) (t .after) (h .0) (g .0) (h .1) m in
+        ap (λ (us : List Turn). linesOf records from (t .chunk .next - from) ++ written us) (g .1)
+        ∙ append-nil (linesOf records from (t .chunk .next - from))
+        ∙ ap (linesOf records from) (let e : t .chunk .next - from ≡ total - from = omega arith in e)
 
--- and one that has none, where a line has room, is the end
-pub chunk-last :
-    (records : List ℕ) (total from : ℕ) (o : List ℕ) (r : Chunk) (o′ : List ℕ) → Chunked records total from o r o′ → r .next ≤ from →
-    mostLine ≤ length o → total * 9 ≤ length records → total ≤ from
-unfolding chunkEnd
-chunk-last records total from o r o′ k h l m = let e = k .next in omega arith
+    more :
+        (from < t .chunk .next) × Turns records total (t .chunk .next) ts →
+        written ts ≡ linesOf records (t .chunk .next) (total - t .chunk .next) →
+        linesOf records from (t .chunk .next - from) ++ written ts ≡ linesOf records from (total - from)
+    more g e =
+        let a = g .0 in
+        let b = chunk-total records total from (t .before) (t .chunk) (t .after) (h .0) (g .0) in
+        ap (λ (l : List ℕ). linesOf records from (t .chunk .next - from) ++ l) e
+        ∙ ap (λ (i : ℕ). linesOf records from (t .chunk .next - from) ++ linesOf records i (total - t .chunk .next))
+        (let f : t .chunk .next ≡ from + (t .chunk .next - from) = omega arith in f)
+        ∙ lines-join records from (t .chunk .next - from) (total - t .chunk .next)
+        ∙ ap (linesOf records from) (let f : t .chunk .next - from + (total - t .chunk .next) ≡ total - from = omega arith in f)
 
--- the pieces joined are the lines of all images
-pub pieces-all :
-    (records : List ℕ) (total from : ℕ) (ps : List (List ℕ)) → Pieces records total from ps →
-    concat ps ≡ linesOf records from (total - from)
-unfolding linesOf
-pieces-all records total from [] h = sym (ap (linesOf records from) (let e : total - from ≡ 0 = omega arith in e))
-pieces-all records total from (p ∷ ps) h =
-    let next = h .0 in
-    let a = h .1 in
-    let b = h .2 in
-    ap₂ (λ (x y : List ℕ). x ++ y) (h .3) (pieces-all records total next ps (h .4))
-    ∙ ap (λ (i : ℕ). linesOf records from (next - from) ++ linesOf records i (total - next))
-    (let e : next ≡ from + (next - from) = omega arith in e)
-    ∙ lines-join records from (next - from) (total - next)
-    ∙ ap (linesOf records from) (let e : next - from + (total - next) ≡ total - from = omega arith in e)
-
--- so the first line and the pieces are the whole text
-pub pieces-text :
-    (text records out : List ℕ) (total len : ℕ) (r : Reply) (records′ out′ : List ℕ) (ps : List (List ℕ)) →
-    Answered text records out r records′ out′ → r ≡ Head total len → Pieces records′ total 0 ps → take len out′ ++ concat ps ≡ printed text
-pieces-text text records out total len r records′ out′ ps a e h =
-    ap (λ (l : List ℕ). take len out′ ++ l) (pieces-all records′ total 0 ps h ∙ ap (linesOf records′ 0) (sub-zero total))
+-- so the first line that `answer` leaves, and the chunks of a loop over `lines` from 0 on, are the whole text
+pub turns-text :
+    (text records out : List ℕ) (total len : ℕ) (r : Reply) (records′ out′ : List ℕ) (ts : List Turn) →
+    Answered text records out r records′ out′ → r ≡ Head total len → Turns records′ total 0 ts → take len out′ ++ written ts ≡ printed text
+turns-text text records out total len r records′ out′ ts a e h =
+    ap (λ (l : List ℕ). take len out′ ++ l)
+    (turns-all records′ total 0 ts (answer-records text records out total len r records′ out′ a e) h
+    ∙ ap (linesOf records′ 0) (sub-zero total))
     ∙ answer-text text records out total len r records′ out′ a e
 
 -- ---- numbers are printed as they are read

@@ -15,7 +15,7 @@ use Rattle.listing.specs.declared.Request.the-variants.{Images, Refused}
 abbrev pub mostPlanes : ℕ
 mostPlanes = 16
 
--- a longer text is refused
+-- a longer text is refused, so that a program that has room for one byte more can tell
 abbrev pub mostText : ℕ
 mostText = 4095
 

@@ -1,7 +1,8 @@
 -- Document 01, "it prints a header with the total, then number and sequence": the text, and the pieces in which it is written.
-use Prim.Native.Nat.{ℕ, zero, suc, _+_, _-_, _*_, _/_, _%_, min}
+use Prim.Native.Nat.{ℕ, zero, suc, _+_, _-_, _*_, _/_, _%_, _≤_, _<_, min}
 use mathlib.Core.Path.{_≡_}
 use mathlib.Core.Bool.{cond}
+use mathlib.Core.Logic.{_⊎_}
 use mathlib.Core.List.{List, [], _∷_, _++_}
 use lib.ListN.{length, getD, take, drop}
 use lib.Seq.{sets}
@@ -79,3 +80,22 @@ pub record Chunked (records : List ℕ) (total from : ℕ) (out : List ℕ) (r :
   pub next : r .next ≡ chunkEnd total from (length records) (length out)
   pub len : r .len ≡ length (linesOf records from (r .next - from))
   pub text : out′ ≡ linesOf records from (r .next - from) ++ drop (r .len) out
+
+-- a turn of a loop that prints: the output before it, what `lines` answers, and the output after it
+pub record Turn : Type 0 where
+  pub before : List ℕ
+  pub chunk : Chunk
+  pub after : List ℕ
+
+-- the turns from record `from` on, as the program takes them: each has room for a line, and the last finds no line left
+abbrev pub Turns : List ℕ → ℕ → ℕ → List Turn → Type 0
+Turns records total from [] = ⊥
+Turns records total from (t ∷ ts) =
+    Chunked records total from (t .before) (t .chunk) (t .after)
+    × (mostLine ≤ length (t .before))
+    × (((t .chunk .next ≤ from) × (ts ≡ [])) ⊎ ((from < t .chunk .next) × Turns records total (t .chunk .next) ts))
+
+-- what they print: the chunk of each at the front of its output
+abbrev pub written : List Turn → List ℕ
+written [] = []
+written (t ∷ ts) = take (t .chunk .len) (t .after) ++ written ts

@@ -15,7 +15,7 @@ use sequences::MAX_IMAGE_ORDER;
 use sequences::RECORD;
 use sequences::enumerate;
 
-// The longest text that is read.
+// The longest text that is read, a byte less than `io::buffer` holds: a longer input fills the buffer and is refused.
 const TEXT: usize = 4095;
 
 // Numbers are read up to here, which is past every bound on them.
