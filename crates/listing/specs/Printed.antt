@@ -23,6 +23,7 @@ onOf (suc n) mask = mask % 2 ∷ onOf n (mask / 2)
 unfoldable pub imagesOf : ℕ → ℕ → ℕ → List (List ℕ)
 imagesOf planes order mask = visited (onOf planes mask) order
 
+-- those of any request: none where it is refused
 abbrev pub imagesFor : Request → List (List ℕ)
 imagesFor Refused = []
 imagesFor (Images planes order mask) = imagesOf planes order mask

@@ -19,7 +19,7 @@ mostPlanes = 16
 abbrev pub mostText : ℕ
 mostText = 4095
 
--- a number that is past every bound
+-- a number past every bound, up to which the code works values out
 abbrev pub cap : ℕ
 cap = 100000
 
@@ -27,6 +27,7 @@ cap = 100000
 unfoldable pub isDigit : ℕ → Bool
 isDigit b = leb 48 b && leb b 57
 
+-- every one passes the test
 unfoldable pub all : (ℕ → Bool) → List ℕ → Bool
 all t [] = true
 all t (b ∷ l) = t b && all t l
@@ -35,22 +36,25 @@ all t (b ∷ l) = t b && all t l
 unfoldable pub isDecimal : List ℕ → Bool
 isDecimal w = leb 1 (length w) && all isDigit w
 
--- a number with one digit more, and the number that digits stand for
+-- a number with one digit more
 abbrev pub push : ℕ → ℕ → ℕ
 push n d = n * 10 + (d - 48)
 
+-- the number that digits stand for
 unfoldable pub valueOf : List ℕ → ℕ
 valueOf w = foldl push 0 w
 
--- the words of a line: what stands between its spaces, so that n spaces part n + 1 words, which may be empty
+-- a byte at the front of the first word
 abbrev pub onto : ℕ → List (List ℕ) → List (List ℕ)
 onto b [] = (b ∷ []) ∷ []
 onto b (w ∷ ws) = (b ∷ w) ∷ ws
 
+-- the words of a line: what stands between its spaces, so that n spaces part n + 1 words, which may be empty
 unfoldable pub words : List ℕ → List (List ℕ)
 words [] = [] ∷ []
 words (b ∷ l) = cond (eqb b 32) ([] ∷ words l) (onto b (words l))
 
+-- "one space"
 abbrev pub space : List ℕ
 space = 32 ∷ []
 
@@ -64,6 +68,7 @@ unfoldable pub inRange : ℕ → ℕ → ℕ → Bool
 inRange planes order mask =
     leb 1 planes && (leb planes mostPlanes && (leb 1 order && (leb order mostOrder && ltb mask (2 ^ planes))))
 
+-- what three numbers ask for
 abbrev pub checked : ℕ → ℕ → ℕ → Request
 checked planes order mask = cond (inRange planes order mask) (Images planes order mask) Refused
 
@@ -95,6 +100,7 @@ pub record Line (text : List ℕ) (planes order mask : ℕ) : Type 0 where
   pub end : (feed ≡ []) ⊎ (feed ≡ 10 ∷ [])
   pub values : (valueOf first ≡ planes) × (valueOf second ≡ order) × (valueOf third ≡ mask)
 
+-- such a line, not too long, with its numbers in range
 pub record Accepted (text : List ℕ) (planes order mask : ℕ) : Type 0 where
   pub short : length text ≤ mostText
   pub line : Line text planes order mask

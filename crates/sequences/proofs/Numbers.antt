@@ -7,6 +7,7 @@ use mathlib.Core.List.{List, [], _∷_}
 use native.Mathlib.Omega.{arith}
 use native.Mathlib.Decide.{decLt}
 use lib.ListN.{length, getD, take, length-take}
+use lib.Seq.{ext-getD}
 use Rattle.sequences.specs.Allowed.{most, allowed, visited}
 use Rattle.sequences.specs.Members.{IsAllowed, In, Before, InOrder, Image, IsVisited, IsNumbered}
 use Rattle.sequences.proofs.Membership.{allowed-only, allowed-all, allowed-order, order-once, before-not}
@@ -109,6 +110,11 @@ order-numbered l o = record {
 -- the images visited are numbered from 1 in the order, and two are equal in number exactly when their sequences are equal
 pub is-numbered : (on : List ℕ) (order : ℕ) → IsNumbered (visited on order)
 is-numbered on order = order-numbered (visited on order) (is-visited on order .in-order)
+
+-- "Two sequences are equal when they have the same length and the same plane index at each place"
+pub same-sequence :
+    (s t : List ℕ) → (s ≡ t) ↔ ((length s ≡ length t) × ((i : ℕ) → i < length s → getD s i 0 ≡ getD t i 0))
+same-sequence s t = ((λ e. (ap length e, (λ i h. ap (λ (l : List ℕ). getD l i 0) e))), (λ h. ext-getD 0 s t (h .0) (h .1)))
 
 -- ---- no other list is as said
 
