@@ -13,8 +13,8 @@ use lib.Dec.{ltb}
 use borrow.Author.Tests.{ltb-true}
 use Rattle.sequences.specs.Allowed.{below, upto, may}
 use Rattle.sequences.specs.Members.{In}
-use Rattle.sequences.specs.Run.{record9, listed}
-use Rattle.sequences.proofs.Laws.{length-record9}
+use Rattle.sequences.specs.Run.{recordOf, listed}
+use Rattle.sequences.proofs.Laws.{length-record}
 use Rattle.sequences.proofs.Numbers.{is-visited}
 use Rattle.listing.specs.Request.{requestOf, words, isDecimal, all, isDigit, valueOf, push, inRange, lineEnd}
 use Rattle.listing.specs.Text.{mostLine, digitsOf, planesOf, lineOf, headerOf, linesFrom, planesIn, planesAt, linesOf, chunkEnd, Chunked, Turn, Turns, written}
@@ -37,11 +37,11 @@ module _ (q r : List ℕ) (few : length q ≤ 8) where
   unfolding front
   front-length = length-take-le 8 (q ++ replicate 8 0) (simp (length-append, length-replicate) (omega arith))
 
-  record-is : record9 q ++ r ≡ front ++ length q ∷ r
-  unfolding record9 front
+  record-is : recordOf q ++ r ≡ front ++ length q ∷ r
+  unfolding recordOf front
   record-is = append-assoc (take 8 (q ++ replicate 8 0)) (length q ∷ []) r
 
-  planes-front : planesIn (record9 q ++ r) ≡ q
+  planes-front : planesIn (recordOf q ++ r) ≡ q
   unfolding front
   planes-front =
       ap planesIn record-is
@@ -57,12 +57,12 @@ planes-back :
 unfolding planesAt listed
 planes-back [] r few k h = absurd (omega arith)
 planes-back (q ∷ v) r few zero h =
-    ap planesIn (append-assoc (record9 q) (listed v) r) ∙ planes-front q (listed v ++ r) (few q (inl refl))
+    ap planesIn (append-assoc (recordOf q) (listed v) r) ∙ planes-front q (listed v ++ r) (few q (inl refl))
 planes-back (q ∷ v) r few (suc k) h =
-    ap (λ (l : List ℕ). planesIn (drop (suc k * 9) l)) (append-assoc (record9 q) (listed v) r)
-    ∙ ap (λ (n : ℕ). planesIn (drop n (record9 q ++ (listed v ++ r)))) (let e : suc k * 9 ≡ 9 + k * 9 = omega arith in e)
-    ∙ sym (ap planesIn (drop-drop (k * 9) 9 (record9 q ++ (listed v ++ r))))
-    ∙ ap (λ (l : List ℕ). planesIn (drop (k * 9) l)) (drop-at (record9 q) (listed v ++ r) 9 (length-record9 q))
+    ap (λ (l : List ℕ). planesIn (drop (suc k * 9) l)) (append-assoc (recordOf q) (listed v) r)
+    ∙ ap (λ (n : ℕ). planesIn (drop n (recordOf q ++ (listed v ++ r)))) (let e : suc k * 9 ≡ 9 + k * 9 = omega arith in e)
+    ∙ sym (ap planesIn (drop-drop (k * 9) 9 (recordOf q ++ (listed v ++ r))))
+    ∙ ap (λ (l : List ℕ). planesIn (drop (k * 9) l)) (drop-at (recordOf q) (listed v ++ r) 9 (length-record q))
     ∙ planes-back v r (λ p i. few p (inr i)) k (omega arith)
 
 lines-images :
