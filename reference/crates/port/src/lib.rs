@@ -75,13 +75,9 @@ pub fn sort_words(a: &mut [u64], scratch: &mut [u64]) {
 pub fn sort_by_key(keys: &[u64], index: &mut [u32], words: &mut [u64], scratch: &mut [u64]) {
     assert!(index.len() <= words.len() && index.len() <= scratch.len());
     assert!(index.iter().all(|&i| (i as usize) < keys.len()), "a position is past the keys");
+    let (n, w, s) = (index.len(), words.len(), scratch.len());
     // SAFETY: as asserted; the areas are distinct.
-    #[rustfmt::skip]
-    unsafe {
-        ffi::biv_sort_by_key(
-            keys.as_ptr(), keys.len(), index.as_mut_ptr(), index.len(), words.as_mut_ptr(), words.len(), scratch.as_mut_ptr(), scratch.len(),
-        )
-    }
+    unsafe { ffi::biv_sort_by_key(keys.as_ptr(), keys.len(), index.as_mut_ptr(), n, words.as_mut_ptr(), w, scratch.as_mut_ptr(), s) }
 }
 
 /// Count, images and rays of a packet.
