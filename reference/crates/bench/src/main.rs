@@ -1,7 +1,9 @@
 //! Times of the port and of the Rust on the same input, in one process, in turn: the best of several rounds each, and their ratio.
 //! Results are compared first. Areas are lent as they were left by the round before, not cleared, unless said.
 use oracle::{Case, Mesh, Row, Settings, IDENTITY};
-use port::{Areas, Lent, CANDIDATE_FLOATS, CANDIDATE_WORDS, COLUMNS, OUTPUT, TAPS, TAP_WORDS};
+use compare::front::{areas, lent};
+use compare::random::Random;
+use port::{OUTPUT, TAPS, TAP_WORDS};
 use std::hint::black_box;
 use std::time::Instant;
 
@@ -37,32 +39,21 @@ fn both<T>(mut make: impl FnMut() -> T, mut port: impl FnMut(&mut T), mut rust: 
     best
 }
 
-/// splitmix64.
-struct Random(u64);
-
-impl Random {
-    fn bits(&mut self) -> u64 {
-        self.0 = self.0.wrapping_add(0x9e37_79b9_7f4a_7c15);
-        let z = (self.0 ^ (self.0 >> 30)).wrapping_mul(0xbf58_476d_1ce4_e5b9);
-        let z = (z ^ (z >> 27)).wrapping_mul(0x94d0_49bb_1331_11eb);
-        z ^ (z >> 31)
-    }
-
-    fn unit(&mut self) -> f32 {
-        (self.bits() >> 40) as f32 / 16_777_216.0
-    }
+/// From 0 to 1.
+fn unit(r: &mut Random) -> f32 {
+    (r.bits() >> 40) as f32 / 16_777_216.0
 }
 
 fn roots() {
-    let mut r = Random(1);
-    let xs: Vec<f32> = (0..4096).map(|_| r.unit() * 1e4).collect();
+    let mut r = Random::new(1);
+    let xs: Vec<f32> = (0..4096).map(|_| unit(&mut r) * 1e4).collect();
     assert!(xs.iter().all(|&x| port::sqrt(x).to_bits() == x.sqrt().to_bits()));
     let (a, b) = both(|| (), |_| { xs.iter().for_each(|&x| { black_box(port::sqrt(x)); }) }, |_| { xs.iter().for_each(|&x| { black_box(black_box(x).sqrt()); }) });
     line("sqrt, 4,096 of them, by calls", a, b);
 }
 
 fn sorts() {
-    let mut r = Random(2);
+    let mut r = Random::new(2);
     for n in [16, 4096, 250_000] {
         for kind in ["u32", "u64", "sorted"] {
             let sets = (65_536 / n).max(1);
@@ -89,49 +80,24 @@ fn sorts() {
 
 /// n random triangles of one mesh.
 fn soup(n: usize) -> Case {
-    let mut r = Random(n as u64);
+    let mut r = Random::new(n as u64);
     let mut m = Mesh { positions: Vec::new(), indices: (0..3 * n as u32).collect(), handle: 0, transform: IDENTITY };
     for _ in 0..n {
-        let a: [f32; 3] = std::array::from_fn(|_| r.unit() * 8.0 - 4.0);
+        let a: [f32; 3] = std::array::from_fn(|_| unit(&mut r) * 8.0 - 4.0);
         m.positions.push(a);
         for _ in 0..2 {
-            m.positions.push(std::array::from_fn(|k| a[k] + r.unit() - 0.5));
+            m.positions.push(std::array::from_fn(|k| a[k] + unit(&mut r) - 0.5));
         }
     }
     let row = Row { absorption: [0.2; 8], transmission: [0.0; 8] };
     Case { name: format!("soup-{n}"), settings: Settings::default(), materials: vec![row], meshes: vec![m], source: [0.0; 3], listener: [1.0; 3], separated: false }
 }
 
-fn lent(c: &Case) -> Lent {
-    let s = &c.settings;
-    let m = &c.meshes[0];
-    Lent {
-        counts: [s.order, s.max_reflections, s.planes, s.merge_on as u32, s.linear as u32],
-        #[rustfmt::skip]
-        floats: [
-            s.fade, s.max_distance, s.speed, s.rate, s.merge_cos, s.merge_offset, s.buried, s.reference, s.rolloff, s.min_distance, s.far_distance,
-        ],
-        room: 0,
-        meshes: vec![m.positions.len() as u32, m.indices.len() as u32, m.handle],
-        transforms: m.transform.to_vec(),
-        positions: m.positions.iter().flatten().copied().collect(),
-        indices: m.indices.clone(),
-        materials: c.materials.iter().flat_map(|r| r.absorption.into_iter().chain(r.transmission)).collect(),
-        rows: 1,
-    }
-}
-
 fn fronts() {
     for n in [12, 500, 4096] {
         let c = soup(n);
         let l = lent(&c);
-        let mut a = Areas {
-            columns: vec![0.0; COLUMNS * n],
-            handles: vec![0; n],
-            candidate_floats: CANDIDATE_FLOATS,
-            candidate_words: CANDIDATE_WORDS,
-            output: OUTPUT,
-        };
+        let mut a = areas(n, 0);
         let backend = oracle::unbuilt(&c, false, &oracle::Overrides::default());
         let sets = (8192 / n).max(1);
         let (p, q) = both(|| (), |_| (0..sets).for_each(|_| { black_box(port::load_scene(&l, &mut a)); }), |_| (0..sets).for_each(|_| { black_box(backend.oracle_place()); }));

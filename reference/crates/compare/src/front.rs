@@ -42,7 +42,7 @@ fn triples(c: &Case) -> usize {
 }
 
 /// Areas of the least length, full of a pattern, so that what is written shows.
-fn areas(t: usize, room: usize) -> Areas {
+pub fn areas(t: usize, room: usize) -> Areas {
     Areas {
         columns: (0..COLUMNS * t).map(|k| f32::from_bits(0x4100_0000 + k as u32)).collect(),
         handles: (0..t).map(|k| 0x8000_0000 + k as u32).collect(),

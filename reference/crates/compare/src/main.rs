@@ -1,9 +1,5 @@
 //! The port against the Rust. Stops at the first difference with what shows it and exit status 1.
-mod cases;
-mod front;
-mod numbers;
-mod random;
-mod scenes;
+use compare::{cases, numbers};
 
 const USAGE: &str = "\
   compare numbers [SEED]         floats: sqrt, abs, round on all 2^32 patterns, the others on many millions of values

@@ -1,0 +1,6 @@
+//! What the comparison and the benchmark share: the generator of scenes, a case as the port takes it, and the stages compared.
+pub mod cases;
+pub mod front;
+pub mod numbers;
+pub mod random;
+pub mod scenes;
