@@ -7,7 +7,7 @@ use Rattle.build.proofs.box_at.Tie as tie
 
 returns : tie.Need-returns
 unfolding boxAtOf
-returns c = refl 
+returns c = refl
 
 pub box-at-spec : {M : Type 1} → statement M
 box-at-spec =

@@ -21,7 +21,7 @@ cast-t22 c = omega (arith, c .shared-slice-known4 .given (4 * c .before .before 
 
 returns : tie.Need-returns
 unfolding linksAtOf
-returns c = refl 
+returns c = refl
 
 pub links-at-spec : {M : Type 1} → statement M
 links-at-spec =

@@ -48,7 +48,7 @@ same-length-2 : tie.Need-same-length-2
 same-length-2 c = c .before .before .before .before .put-node .kept .1 .0
 
 returns : tie.Need-returns
-returns c = 
+returns c =
     let a = c .before .before .before .before .before .before .before .before .before .before .before .before .before .args in
     let L = c .before .before .before .before .before .before .before .before .before .before .before .before .before .pre .0 in
     λ fuel. law.built-leaf (aabbAtOf (a .extents .now)) (a .n) (a .lo) (a .hi) (a .next) fuel (a .perm .now) (L .some) (L .inside) (rw (c .before .before .before .before .before .before .before .bounds .ensures) at (c .before .before .before .before .put-node .ensures))

@@ -39,7 +39,7 @@ same-length-2 : tie.Need-same-length-2
 same-length-2 c = simp length-set
 
 returns : tie.Need-returns
-returns c = 
+returns c =
     let a = c .args in
     wrote (a .boxes .now) (a .nodes .now) (a .i) (a .b) (linksOf (a .left) (a .right) (a .start) (a .len)) (c .pre .0) (c .pre .1)
 

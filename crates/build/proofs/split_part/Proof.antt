@@ -25,7 +25,7 @@ part-split-end : tie.Need-part-split-end
 part-split-end c = let L = c .before .before .before .before .before .before .before .before .pre .0 in let some = L .some in let within = L .within in let size = L .size in let few = L .few in omega arith
 
 split-requires : tie.Need-split-requires
-split-requires c κs = 
+split-requires c κs =
     let a = c .before .before .before .before .before .before .before .before .before .before .before .before .args in
     let L = c .before .before .before .before .before .before .before .before .before .before .before .before .pre .0 in
     let S = c .before .before .before .before .before .before .before .before .before .before .before .before .pre .1 in
@@ -56,7 +56,7 @@ same-length-4 : tie.Need-same-length-4
 same-length-4 c = c .before .before .before .before .before .before .before .before .split .kept .1 .1 .1 .1 .1 .1 .1 .1 .0
 
 returns : tie.Need-returns
-returns c = 
+returns c =
     let a = c .before .before .before .before .before .before .before .before .before .before .before .before .before .before .before .before .before .before .before .before .before .args in
     let L = c .before .before .before .before .before .before .before .before .before .before .before .before .before .before .before .before .before .before .before .before .before .pre .0 in
     let some = L .some in
