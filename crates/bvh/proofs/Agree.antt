@@ -8,7 +8,7 @@ use lib.Ieee.{Float, le, lt}
 use lib.Dec.{eqb, leb}
 use lib.ListN.{length, take, drop}
 use Rattle.order.specs.Sort.{Below}
-use Rattle.order.proofs.Laws.{below-head, below-tail, below-take, below-drop}
+use Rattle.order.proofs.Laws.{below-none, below-cons, below-head, below-tail, below-take, below-drop}
 use Rattle.vector.specs.declared.Vec3.{Vec3}
 use Rattle.vector.specs.Vector.{axisOf}
 use Rattle.geometry.specs.declared.Aabb.{Aabb}
@@ -16,6 +16,13 @@ use Rattle.geometry.specs.Aabb.{newEmptyOf, unionOf, fromPointOf}
 use Rattle.split.specs.declared.BestSplit.{BestSplit}
 use Rattle.split.specs.Split.{Found, found, Divided, divided, insertOn, sortOn, boundsOf, suffixOf, tryOf, sweepOf, searchAxisOf, searchAxesOf, spanOf, bestSplit, leastSpan, lastSort, splitOf}
 use Rattle.build.specs.Tree.{Tree, leaf, node, leafOf, innerOf, branchOf, leafThreshold, buildSahOf}
+use Rattle.build.specs.Tree.{boxOf, leavesOf}
+use Rattle.geometry.specs.declared.Triangle.{Triangle}
+use Rattle.vector.specs.declared.Ray.{Ray}
+use Rattle.trace.specs.declared.Closest.{Closest}
+use Rattle.trace.specs.Leaf.{visitOf, visitAllOf}
+use Rattle.trace.specs.Trace.{Test, entered, traceOf}
+use Rattle.trace.proofs.Laws.{turn-same}
 use Rattle.bvh.proofs.Leaves.{perm-below, sort-on-perm, axis-perm, axes-perm, split-perm}
 
 -- ---- the sort
@@ -112,3 +119,30 @@ module _ (n : ℕ) (b c : ℕ → Aabb) (mid nid : ℕ → Vec3) (boxes : (i : �
       (ap (λ (t : Tree). cond (leb (length xs) leafThreshold) (leafOf c xs) t)
       (branch-agree (buildSahOf b mid d) (buildSahOf c nid d) (splitOf b mid xs) below (build-agree d)
       ∙ ap (branchOf c (buildSahOf c nid d)) (split-agree xs h)))
+
+-- ---- the trace
+
+below-front : (n : ℕ) (xs ys : List ℕ) → Below n (xs ++ ys) → Below n xs
+below-front n [] ys h = below-none n
+below-front n (x ∷ xs) ys h = below-cons n x xs (below-head n x (xs ++ ys) h) (below-front n xs ys (below-tail n x (xs ++ ys) h))
+
+below-back : (n : ℕ) (xs ys : List ℕ) → Below n (xs ++ ys) → Below n ys
+below-back n [] ys h = h
+below-back n (x ∷ xs) ys h = below-back n xs ys (below-tail n x (xs ++ ys) h)
+
+module _ (n : ℕ) (tri sri : ℕ → Triangle) (same : (i : ℕ) → i < n → tri i ≡ sri i) (ray : Ray) where
+  visits-agree : (xs : List ℕ) (best : Closest) → Below n xs → visitAllOf tri ray xs best ≡ visitAllOf sri ray xs best
+  unfolding visitAllOf
+  visits-agree [] best h = refl
+  visits-agree (x ∷ xs) best h =
+      visits-agree xs (visitOf (tri x) ray x best) (below-tail n x xs h)
+      ∙ ap (λ (t : Triangle). visitAllOf sri ray xs (visitOf t ray x best)) (same x (below-head n x xs h))
+
+  pub trace-agree : (test : Test) (t : Tree) (best : Closest) → Below n (leavesOf t) → traceOf test tri ray t best ≡ traceOf test sri ray t best
+  unfolding traceOf leavesOf
+  trace-agree test (leaf b xs) best h = ap (λ (c : Closest). cond (entered (test b ray (best .distance))) c best) (visits-agree xs best h)
+  trace-agree test (node b l r) best h =
+      ap (λ (c : Closest). cond (entered (test b ray (best .distance))) c best)
+      (turn-same (test (boxOf l) ray (best .distance)) (test (boxOf r) ray (best .distance))
+      (traceOf test tri ray l) (traceOf test tri ray r) (traceOf test sri ray l) (traceOf test sri ray r) best
+      (λ x. trace-agree test l x (below-front n (leavesOf l) (leavesOf r) h)) (λ x. trace-agree test r x (below-back n (leavesOf l) (leavesOf r) h)))
