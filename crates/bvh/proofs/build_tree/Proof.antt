@@ -1,0 +1,140 @@
+-- `bvh::build_tree` meets its contract: over the extents, the tree of `build_sah` is that of the triangles (`stands`).
+use mathlib.Core.Path.{_≡_, refl, sym, ap, _∙_}
+use Prim.Native.Nat.{ℕ, _+_, _-_, _<_, _≤_, _*_}
+use native.Mathlib.Omega.{arith}
+use borrow.Author.Needs.{needs, scaled-fits}
+use lib.ListN.{length, getD, set, length-set}
+use Rattle.bvh.proofs.Laws as law
+use Rattle.bvh.specs.Bvh.{centroidOf}
+use Rattle.bvh.proofs.build_tree.Statement.{statement}
+use Rattle.bvh.proofs.build_tree.Tie as tie
+
+put-extents-requires : tie.Need-put-extents-requires
+put-extents-requires c κs = let L = c .before .before .before .before .before .before .before .before .before .before .before .before .before .pre in (L .wide, L .named, L .fewer, L .extents-room)
+
+put-all-keys-requires : tie.Need-put-all-keys-requires
+put-all-keys-requires c κs = let L = c .before .before .before .before .before .before .before .before .before .before .before .before .before .before .before .before .before .before .before .pre in ((L .wide, L .named, L .fewer), (L .kx-room, L .ky-room, L .kz-room))
+
+number-requires : tie.Need-number-requires
+number-requires c κs = c .before .before .before .before .before .before .before .before .before .before .before .before .before .before .before .before .before .before .before .before .before .before .before .before .before .before .before .before .pre .few
+
+build-sah-requires : tie.Need-build-sah-requires
+build-sah-requires c κs =
+    let a = c .before .before .before .before .before .before .before .before .before .before .before .before .before .before .before .before .before .before .before .before .before .before .before .before .before .before .before .before .before .before .before .before .before .before .before .before .before .before .before .before .before .args in
+    let L = c .before .before .before .before .before .before .before .before .before .before .before .before .before .before .before .before .before .before .before .before .before .before .before .before .before .before .before .before .before .before .before .before .before .before .before .before .before .before .before .before .before .pre in
+    let m = length (a .perm .now) in
+    let ee = c .before .before .before .before .before .before .before .before .before .before .before .before .before .before .before .before .before .before .before .before .before .before .before .before .before .before .before .put-extents .kept .1 .1 .1 .1 .0 in
+    let ex = c .before .before .before .before .before .before .before .before .before .before .before .before .before .before .before .before .before .before .before .before .before .put-all-keys .kept .1 .1 .1 .1 .0 in
+    let ey = c .before .before .before .before .before .before .before .before .before .before .before .before .before .before .before .before .before .before .before .before .before .put-all-keys .kept .1 .1 .1 .1 .1 .0 in
+    let ez = c .before .before .before .before .before .before .before .before .before .before .before .before .before .before .before .before .before .before .before .before .before .put-all-keys .kept .1 .1 .1 .1 .1 .1 .0 in
+    let ep = c .before .before .before .before .before .before .before .before .before .before .before .before .number .kept .0 in
+    let some = L .some in
+    let r1 = L .extents-room in
+    let r2 = L .kx-room in
+    let r3 = L .ky-room in
+    let r4 = L .kz-room in
+    let r5 = L .boxes-room in
+    let r6 = L .nodes-room in
+    let few = L .few in (
+      record { wide = omega arith; few = few; some = some; within = omega arith; size = ep; inside = c .before .before .before .before .before .before .before .before .before .before .before .before .number .ensures .1 },
+      (
+        record {
+          keyed = law.keyed (c .before .before .before .before .before .before .before .before .before .before .before .before .before .before .before .before .before .before .before .before .before .before .before .before .before .before .before .put-extents .last .1 .1 .1 .1 .0) (centroidOf (a .columns .now) (a .handles .now) (a .n)) m (c .before .before .before .before .before .before .before .before .before .before .before .before .before .before .before .before .before .before .before .before .before .put-all-keys .last .1 .1 .1 .1 .0) (c .before .before .before .before .before .before .before .before .before .before .before .before .before .before .before .before .before .before .before .before .before .put-all-keys .last .1 .1 .1 .1 .1 .0) (c .before .before .before .before .before .before .before .before .before .before .before .before .before .before .before .before .before .before .before .before .before .put-all-keys .last .1 .1 .1 .1 .1 .1 .0)
+              (λ i h. c .before .before .before .before .before .before .before .before .before .before .before .before .before .before .before .before .before .before .before .before .before .before .before .before .before .before .before .put-extents .ensures i h .1) (omega arith) (omega arith) (omega arith) (c .before .before .before .before .before .before .before .before .before .before .before .before .before .before .before .before .before .before .before .before .before .put-all-keys .ensures .1 (c .before .before .before .before .before .before .before .before .before .before .before .before .before .before .if1 .taken));
+          words-room = L .words-room;
+          scratch-room = L .scratch-room;
+          areas-room = L .areas-room;
+        },
+        record { boxes-room = omega arith; nodes-room = omega arith; small = omega arith },
+      ),
+    )
+
+same-length : tie.Need-same-length
+same-length c = c .before .before .before .before .before .before .before .before .before .before .before .before .before .before .before .before .before .before .before .before .before .before .before .before .before .before .before .before .before .before .before .before .before .before .before .before .before .before .before .before .put-extents .kept .1 .1 .1 .1 .0
+
+same-length-2 : tie.Need-same-length-2
+same-length-2 c = c .before .before .before .before .before .before .before .before .before .before .before .before .before .before .before .before .before .before .before .before .before .before .before .before .before .before .before .before .before .before .before .before .before .before .put-all-keys .kept .1 .1 .1 .1 .0
+
+same-length-3 : tie.Need-same-length-3
+same-length-3 c = c .before .before .before .before .before .before .before .before .before .before .before .before .before .before .before .before .before .before .before .before .before .before .before .before .before .before .before .before .before .before .before .before .before .before .put-all-keys .kept .1 .1 .1 .1 .1 .0
+
+same-length-4 : tie.Need-same-length-4
+same-length-4 c = c .before .before .before .before .before .before .before .before .before .before .before .before .before .before .before .before .before .before .before .before .before .before .before .before .before .before .before .before .before .before .before .before .before .before .put-all-keys .kept .1 .1 .1 .1 .1 .1 .0
+
+same-length-5 : tie.Need-same-length-5
+same-length-5 c = c .before .before .before .before .before .before .before .before .before .before .before .before .build-sah .kept .1 .1 .1 .1 .1 .1 .1 .1 .0 ∙ c .before .before .before .before .before .before .before .before .before .before .before .before .before .before .before .before .before .before .before .before .before .before .before .before .before .number .kept .0
+
+same-length-6 : tie.Need-same-length-6
+same-length-6 c = c .before .before .before .before .before .before .before .before .before .before .before .before .build-sah .kept .1 .1 .1 .1 .1 .1 .1 .1 .1 .0
+
+same-length-7 : tie.Need-same-length-7
+same-length-7 c = c .before .before .before .before .before .before .before .before .before .before .before .before .build-sah .kept .1 .1 .1 .1 .1 .1 .1 .1 .1 .1 .0
+
+same-length-8 : tie.Need-same-length-8
+same-length-8 c = c .before .before .before .before .before .before .before .before .before .before .before .before .build-sah .kept .1 .1 .1 .1 .1 .1 .1 .1 .1 .1 .1 .0
+
+same-length-9 : tie.Need-same-length-9
+same-length-9 c = c .before .before .before .before .before .before .before .before .before .before .before .before .build-sah .kept .1 .1 .1 .1 .1 .1 .1 .1 .1 .1 .1 .1 .0
+
+same-length-10 : tie.Need-same-length-10
+same-length-10 c = c .before .before .before .before .before .before .before .before .before .before .before .before .build-sah .kept .1 .1 .1 .1 .1 .1 .1 .1 .1 .1 .1 .1 .1 .0
+
+returns : tie.Need-returns
+returns c =
+    let a = c .before .before .before .before .before .before .before .before .before .before .before .before .before .before .before .before .before .before .before .before .before .before .before .before .before .before .before .before .before .before .before .before .before .before .before .before .before .before .before .before .before .before .before .before .before .before .before .before .before .before .before .before .before .before .args in
+    let L = c .before .before .before .before .before .before .before .before .before .before .before .before .before .before .before .before .before .before .before .before .before .before .before .before .before .before .before .before .before .before .before .before .before .before .before .before .before .before .before .before .before .before .before .before .before .before .before .before .before .before .before .before .before .before .pre in
+    let m = length (a .perm .now) in
+    let eb = c .before .before .before .before .before .before .before .before .before .before .before .before .build-sah .kept .1 .1 .1 .1 .1 .1 .1 .1 .1 .1 .1 .1 .0 in
+    let en = c .before .before .before .before .before .before .before .before .before .before .before .before .build-sah .kept .1 .1 .1 .1 .1 .1 .1 .1 .1 .1 .1 .1 .1 .0 in
+    let r5 = L .boxes-room in
+    let r6 = L .nodes-room in
+    record {
+      built = λ _. law.stands (a .columns .now) (a .handles .now) (a .n) m (c .before .before .before .before .before .before .before .before .before .before .before .before .build-sah .result) (c .before .before .before .before .before .before .before .before .before .before .before .before .before .before .before .before .before .before .before .before .before .before .before .before .before .before .before .before .before .before .before .before .before .before .before .before .before .before .before .before .put-extents .last .1 .1 .1 .1 .0) (c .before .before .before .before .before .before .before .before .before .before .before .before .before .before .before .before .before .before .before .before .before .before .before .before .before .number .last .0) (c .before .before .before .before .before .before .before .before .before .before .before .before .build-sah .last .1 .1 .1 .1 .1 .1 .1 .1 .0)
+          (a .boxes .now) (c .before .before .before .before .before .before .before .before .before .before .before .before .build-sah .last .1 .1 .1 .1 .1 .1 .1 .1 .1 .1 .1 .1 .0) (a .nodes .now) (c .before .before .before .before .before .before .before .before .before .before .before .before .build-sah .last .1 .1 .1 .1 .1 .1 .1 .1 .1 .1 .1 .1 .1 .0) (c .before .before .before .before .before .before .before .before .before .before .before .before .before .before .before .before .before .before .before .before .before .before .before .before .before .before .before .before .before .before .before .before .before .before .before .before .before .before .before .before .put-extents .ensures)
+          (c .before .before .before .before .before .before .before .before .before .before .before .before .before .before .before .before .before .before .before .before .before .before .before .before .before .number .kept .0) (c .before .before .before .before .before .before .before .before .before .before .before .before .build-sah .kept .1 .1 .1 .1 .1 .1 .1 .1 .0 ∙ c .before .before .before .before .before .before .before .before .before .before .before .before .before .before .before .before .before .before .before .before .before .before .before .before .before .number .kept .0) (c .before .before .before .before .before .before .before .before .before .before .before .before .before .before .before .before .before .before .before .before .before .before .before .before .before .number .ensures .0) (c .before .before .before .before .before .before .before .before .before .before .before .before .before .before .before .before .before .before .before .before .before .before .before .before .before .number .ensures .1) (omega arith) (omega arith) (c .before .before .before .before .before .before .before .before .before .before .before .before .build-sah .ensures);
+      none = λ f. law.not-both (sym f ∙ sym (c .before .before .before .before .before .before .before .before .before .before .before .before .before .before .before .before .before .before .before .before .before .before .before .before .before .before .before .before .before .before .before .before .before .before .put-all-keys .ensures .0) ∙ c .before .before .before .before .before .before .before .before .before .before .before .before .before .before .before .before .before .before .before .before .before .before .before .before .before .before .before .if1 .taken);
+    }
+
+same-length-11 : tie.Need-same-length-11
+same-length-11 c = c .before .before .before .before .before .before .before .before .before .before .before .before .before .put-extents .kept .1 .1 .1 .1 .0
+
+same-length-12 : tie.Need-same-length-12
+same-length-12 c = c .before .before .before .before .before .before .before .put-all-keys .kept .1 .1 .1 .1 .0
+
+same-length-13 : tie.Need-same-length-13
+same-length-13 c = c .before .before .before .before .before .before .before .put-all-keys .kept .1 .1 .1 .1 .1 .0
+
+same-length-14 : tie.Need-same-length-14
+same-length-14 c = c .before .before .before .before .before .before .before .put-all-keys .kept .1 .1 .1 .1 .1 .1 .0
+
+returns-2 : tie.Need-returns-2
+returns-2 c =
+    record {
+      built = λ f. law.not-both (sym (c .if1 .left) ∙ c .before .before .before .before .before .before .before .put-all-keys .ensures .0 ∙ f);
+      none = λ _. refl;
+    }
+
+pub build-tree-spec : {M : Type 1} → statement M
+build-tree-spec =
+    tie.close
+    (tie.spec
+    put-extents-requires
+    put-all-keys-requires
+    number-requires
+    build-sah-requires
+    same-length
+    same-length-2
+    same-length-3
+    same-length-4
+    same-length-5
+    same-length-6
+    same-length-7
+    same-length-8
+    same-length-9
+    same-length-10
+    returns
+    same-length-11
+    same-length-12
+    same-length-13
+    same-length-14
+    returns-2)

@@ -1,0 +1,2 @@
+-- The definitions that the contracts of `bvh` cite.
+pub mod Bvh

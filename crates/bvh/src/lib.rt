@@ -1,0 +1,277 @@
+// The tree of the triangles that stand in columns, in areas that the caller lends: `build_flat_bvh`. What the passes of the build and the
+// test of a ray need again and again is worked out once: the triangles' boxes and centroids, their keys, the nodes' padded boxes, and
+// the triangles' rows in the leaves' order.
+use geometry::Aabb;
+use geometry::Edges;
+use vector::Vec3;
+ghost use mathlib.Core.Path.{_≡_};
+ghost use mathlib.Core.Bool.{true, false};
+ghost use Prim.Native.Nat.{ℕ, _+_, _-_, _*_, _<_, _≤_};
+ghost use lib.ListN.{length, getD};
+ghost use lib.Seq.{sets};
+ghost use Rattle.order.specs.Sort.{Below};
+ghost use Rattle.vector.specs.Vector.{axisOf};
+ghost use Rattle.geometry.specs.Slab.{paddedOf};
+ghost use Rattle.columns.specs.Columns.{columnCount, vecAtOf};
+ghost use Rattle.split.specs.Split.{aabbAtOf, centroidAtOf, InOrder};
+ghost use Rattle.build.specs.Tree.{countTo};
+ghost use Rattle.build.specs.Areas.{boxAtOf};
+ghost use Rattle.trace.specs.Leaf.{cornerAtOf, edgesAtOf};
+ghost use Rattle.bvh.specs.Bvh.{aabbOf, centroidOf, extentRow, boxRow, edgesRow, allFinite, finiteOf, Keys, Lent, TreeOf, BvhOf};
+
+// ---- the triangles' boxes and centroids
+
+fn put_extent(extents: &mut [f32], i: usize, b: Aabb, c: Vec3)
+    requires { ⌜ 9 * i + 9 ≤ length (now extents) ⌝ }
+    ensures { λ _. ⌜ now (extents .exit) ≡ sets (now (extents .entry)) (9 * i) (extentRow b c) ⌝ }
+{
+    let at = 9 * i;
+    extents[at] = b.min.x;
+    extents[at + 1] = b.min.y;
+    extents[at + 2] = b.min.z;
+    extents[at + 3] = b.max.x;
+    extents[at + 4] = b.max.y;
+    extents[at + 5] = b.max.z;
+    extents[at + 6] = c.x;
+    extents[at + 7] = c.y;
+    extents[at + 8] = c.z;
+}
+
+fn put_extents(columns: &[f32], handles: &[u32], n: usize, count: usize, extents: &mut [f32])
+    requires { ⌜ (columnCount * n ≤ length (now columns)) × (n ≤ length (now handles)) × (count ≤ n) × (9 * count ≤ length (now extents)) ⌝ }
+    ensures { λ _. ⌜ ((i : ℕ) → i < count → (aabbAtOf (now (extents .exit)) i ≡ aabbOf (now (columns .entry)) (now (handles .entry)) n i) × (centroidAtOf (now (extents .exit)) i ≡ centroidOf (now (columns .entry)) (now (handles .entry)) n i)) ⌝ }
+{
+    let mut i = 0;
+    while i < count {
+        let t = columns::triangle_at(columns, handles, n, i);
+        put_extent(
+            extents,
+            i,
+            geometry::from_corners(t.a, t.b, t.c),
+            geometry::centroid(t),
+        );
+        i += 1;
+    }
+}
+
+// ---- their keys
+
+fn wide(x: u32) -> u64
+    ensures { λ r. ⌜ r ≡ x ⌝ }
+{
+    x as u64
+}
+
+// The keys of one axis. The answer is false where a centroid is not finite along it.
+fn put_keys(
+    columns: &[f32],
+    handles: &[u32],
+    n: usize,
+    count: usize,
+    k: usize,
+    keys: &mut [u64],
+) -> bool
+    requires { ⌜ (columnCount * n ≤ length (now columns)) × (n ≤ length (now handles)) × (count ≤ n) × (count ≤ length (now keys)) ⌝ }
+    ensures { λ r. ⌜ (r ≡ allFinite (λ i. axisOf (centroidOf (now (columns .entry)) (now (handles .entry)) n i) k) count) × (r ≡ true → InOrder count (now (keys .exit)) (λ i. axisOf (centroidOf (now (columns .entry)) (now (handles .entry)) n i) k)) ⌝ }
+{
+    let mut i = 0;
+    while i < count {
+        let c = geometry::centroid(columns::triangle_at(columns, handles, n, i));
+        let x = vector::axis(c, k);
+        if float::is_finite(x) {
+            keys[i] = wide(float::float_key(x));
+        } else {
+            return false;
+        }
+        i += 1;
+    }
+    true
+}
+
+// The keys of the three axes.
+fn put_all_keys(
+    columns: &[f32],
+    handles: &[u32],
+    n: usize,
+    count: usize,
+    kx: &mut [u64],
+    ky: &mut [u64],
+    kz: &mut [u64],
+) -> bool
+    requires { ⌜ (columnCount * n ≤ length (now columns)) × (n ≤ length (now handles)) × (count ≤ n) ⌝ }
+    requires { ⌜ (count ≤ length (now kx)) × (count ≤ length (now ky)) × (count ≤ length (now kz)) ⌝ }
+    ensures { λ r. ⌜ (r ≡ finiteOf (centroidOf (now (columns .entry)) (now (handles .entry)) n) count) × (r ≡ true → Keys (centroidOf (now (columns .entry)) (now (handles .entry)) n) count (now (kx .exit)) (now (ky .exit)) (now (kz .exit))) ⌝ }
+{
+    if put_keys(columns, handles, n, count, 0, kx) {
+        if put_keys(columns, handles, n, count, 1, ky) {
+            return put_keys(columns, handles, n, count, 2, kz);
+        }
+    }
+    false
+}
+
+// ---- the tree
+
+// Each position's own number.
+fn number(perm: &mut [u32])
+    requires { ⌜ length (now perm) < 65536 ⌝ }
+    ensures { λ _. ⌜ (now (perm .exit) ≡ countTo 0 (length (now (perm .entry)))) × Below (length (now (perm .entry))) (now (perm .exit)) ⌝ }
+{
+    let mut i = 0;
+    while i < perm.len() {
+        perm[i] = i as u32;
+        i += 1;
+    }
+}
+
+// Builds the tree of as many triangles as perm is long. The answer is the count of its nodes, and 0 where a centroid is not finite.
+fn build_tree(
+    columns: &[f32],
+    handles: &[u32],
+    n: usize,
+    extents: &mut [f32],
+    kx: &mut [u64],
+    ky: &mut [u64],
+    kz: &mut [u64],
+    perm: &mut [u32],
+    words: &mut [u64],
+    scratch: &mut [u64],
+    areas: &mut [f32],
+    boxes: &mut [f32],
+    nodes: &mut [u32],
+) -> usize
+    requires { ⌜ Lent (now columns) (now handles) n (now extents) (now kx) (now ky) (now kz) (now perm) (now words) (now scratch) (now areas) (now boxes) (now nodes) ⌝ }
+    ensures { λ r. ⌜ TreeOf (now (columns .entry)) (now (handles .entry)) n (length (now (perm .entry))) (now (boxes .exit)) (now (nodes .exit)) (now (perm .exit)) r ⌝ }
+{
+    let count = perm.len();
+    put_extents(columns, handles, n, count, extents);
+    if put_all_keys(columns, handles, n, count, kx, ky, kz) {
+        number(perm);
+        return build::build_sah(
+            kx,
+            ky,
+            kz,
+            extents,
+            count,
+            32,
+            0,
+            count,
+            perm,
+            words,
+            scratch,
+            areas,
+            boxes,
+            nodes,
+            0,
+        );
+    }
+    0
+}
+
+// ---- what a trace reads
+
+fn put_box(padded: &mut [f32], i: usize, b: Aabb)
+    requires { ⌜ 6 * i + 6 ≤ length (now padded) ⌝ }
+    ensures { λ _. ⌜ now (padded .exit) ≡ sets (now (padded .entry)) (6 * i) (boxRow b) ⌝ }
+{
+    let at = 6 * i;
+    padded[at] = b.min.x;
+    padded[at + 1] = b.min.y;
+    padded[at + 2] = b.min.z;
+    padded[at + 3] = b.max.x;
+    padded[at + 4] = b.max.y;
+    padded[at + 5] = b.max.z;
+}
+
+// Each node's box, padded.
+fn pad_boxes(boxes: &[f32], count: usize, padded: &mut [f32])
+    requires { ⌜ (6 * count ≤ length (now boxes)) × (6 * count ≤ length (now padded)) ⌝ }
+    ensures { λ _. ⌜ ((i : ℕ) → i < count → boxAtOf (now (padded .exit)) i ≡ paddedOf (boxAtOf (now (boxes .entry)) i)) ⌝ }
+{
+    let mut i = 0;
+    while i < count {
+        put_box(padded, i, geometry::padded(build::box_at(boxes, i)));
+        i += 1;
+    }
+}
+
+fn put_row(rows: &mut [f32], k: usize, a: Vec3, e: Edges)
+    requires { ⌜ 10 * k + 10 ≤ length (now rows) ⌝ }
+    ensures { λ _. ⌜ now (rows .exit) ≡ sets (now (rows .entry)) (10 * k) (edgesRow a e) ⌝ }
+{
+    let at = 10 * k;
+    rows[at] = a.x;
+    rows[at + 1] = a.y;
+    rows[at + 2] = a.z;
+    rows[at + 3] = e.edge1.x;
+    rows[at + 4] = e.edge1.y;
+    rows[at + 5] = e.edge1.z;
+    rows[at + 6] = e.edge2.x;
+    rows[at + 7] = e.edge2.y;
+    rows[at + 8] = e.edge2.z;
+    rows[at + 9] = e.least_det;
+}
+
+// The row of each triangle, in the leaves' order.
+fn put_rows(columns: &[f32], n: usize, perm: &[u32], rows: &mut [f32])
+    requires { ⌜ (columnCount * n ≤ length (now columns)) × Below n (now perm) × (10 * length (now perm) ≤ length (now rows)) ⌝ }
+    ensures { λ _. ⌜ ((k : ℕ) → k < length (now (perm .entry)) → (cornerAtOf (now (rows .exit)) k ≡ vecAtOf (now (columns .entry)) n (getD (now (perm .entry)) k 0)) × (edgesAtOf (now (rows .exit)) k ≡ Rattle.columns.specs.Columns.edgesAtOf (now (columns .entry)) n (getD (now (perm .entry)) k 0))) ⌝ }
+{
+    let mut k = 0;
+    while k < perm.len() {
+        let i = perm[k] as usize;
+        put_row(
+            rows,
+            k,
+            columns::corner_at(columns, n, i),
+            columns::edges_at(columns, n, i),
+        );
+        k += 1;
+    }
+}
+
+// `build_flat_bvh`: the tree of as many triangles as perm is long, and what a trace reads of it. The answer is the count of its nodes,
+// and 0 where a centroid is not finite.
+pub fn build_flat_bvh(
+    columns: &[f32],
+    handles: &[u32],
+    n: usize,
+    extents: &mut [f32],
+    kx: &mut [u64],
+    ky: &mut [u64],
+    kz: &mut [u64],
+    perm: &mut [u32],
+    words: &mut [u64],
+    scratch: &mut [u64],
+    areas: &mut [f32],
+    boxes: &mut [f32],
+    nodes: &mut [u32],
+    padded: &mut [f32],
+    rows: &mut [f32],
+) -> usize
+    requires { ⌜ Lent (now columns) (now handles) n (now extents) (now kx) (now ky) (now kz) (now perm) (now words) (now scratch) (now areas) (now boxes) (now nodes) ⌝ }
+    requires { ⌜ (12 * length (now perm) ≤ length (now padded)) × (10 * length (now perm) ≤ length (now rows)) ⌝ }
+    ensures { λ r. ⌜ BvhOf (now (columns .entry)) (now (handles .entry)) n (length (now (perm .entry))) (now (boxes .exit)) (now (nodes .exit)) (now (perm .exit)) (now (padded .exit)) (now (rows .exit)) r ⌝ }
+{
+    let count = build_tree(
+        columns,
+        handles,
+        n,
+        extents,
+        kx,
+        ky,
+        kz,
+        perm,
+        words,
+        scratch,
+        areas,
+        boxes,
+        nodes,
+    );
+    if count == 0 {
+        return 0;
+    }
+    pad_boxes(boxes, count, padded);
+    put_rows(columns, n, perm, rows);
+    count
+}

@@ -1,0 +1,320 @@
+// The nearest hit of a ray in a tree that stands in areas: `FlatBvh::intersect`. Each node's box is padded already, and of each triangle
+// a row in the leaves' order holds what the test of a ray needs.
+use build::Links;
+use geometry::Aabb;
+use geometry::Edges;
+use geometry::Entry;
+use vector::Ray;
+use vector::Vec3;
+ghost use mathlib.Core.Path.{_≡_};
+ghost use mathlib.Core.Bool.{true};
+ghost use mathlib.Core.Logic.{_⊎_};
+ghost use Prim.Native.Nat.{ℕ, _+_, _*_, _<_, _≤_};
+ghost use lib.ListN.{length, take, drop, getD};
+ghost use Rattle.geometry.specs.declared.Triangle.{Triangle};
+ghost use Rattle.geometry.specs.Slab.{slabOf};
+ghost use Rattle.build.specs.Tree.{Tree};
+ghost use Rattle.build.specs.Areas.{boxAtOf, treeAtOf};
+ghost use Rattle.trace.specs.Leaf.{cornerAtOf, edgesAtOf, visitEdgesOf, visitAllOf, Rows};
+ghost use Rattle.trace.specs.Trace.{entered, orderOf, traceOf, none, hitOf, intersectOf, paddedTreeOf, listOf, Held};
+
+// The closest hit so far: `best` and `closest` of the Rust. While nothing is found, the distance is the ray's length.
+pub struct Closest {
+    pub distance: f32,
+    pub index: usize,
+    pub found: bool,
+}
+
+pub struct RayHit {
+    pub distance: f32,
+    pub point: Vec3,
+    pub triangle: usize,
+    pub material_handle: u32,
+}
+
+pub enum Hit {
+    At(RayHit),
+    Nothing,
+}
+
+// How many children of a node are visited, and which.
+pub struct Turns {
+    pub count: usize,
+    pub first: usize,
+    pub second: usize,
+}
+
+// ---- leaves
+
+fn corner_at(rows: &[f32], k: usize) -> Vec3
+    requires { ⌜ 10 * k + 10 ≤ length (now rows) ⌝ }
+    ensures { λ r. ⌜ r ≡ cornerAtOf (now (rows .entry)) k ⌝ }
+{
+    let at = 10 * k;
+    Vec3 {
+        x: rows[at],
+        y: rows[at + 1],
+        z: rows[at + 2],
+    }
+}
+
+fn edges_at(rows: &[f32], k: usize) -> Edges
+    requires { ⌜ 10 * k + 10 ≤ length (now rows) ⌝ }
+    ensures { λ r. ⌜ r ≡ edgesAtOf (now (rows .entry)) k ⌝ }
+{
+    let at = 10 * k;
+    let edge1 = Vec3 {
+        x: rows[at + 3],
+        y: rows[at + 4],
+        z: rows[at + 5],
+    };
+    let edge2 = Vec3 {
+        x: rows[at + 6],
+        y: rows[at + 7],
+        z: rows[at + 8],
+    };
+    let least_det = rows[at + 9];
+    Edges {
+        edge1,
+        edge2,
+        least_det,
+    }
+}
+
+// Tries one triangle.
+fn visit(a: Vec3, e: Edges, ray: Ray, i: usize, best: Closest) -> Closest
+    ensures { λ r. ⌜ r ≡ visitEdgesOf a e ray i best ⌝ }
+{
+    match geometry::intersect_edges(a, e, ray, best.distance) {
+        geometry::Crossing::At(t, _, _) => {
+            if t < best.distance {
+                return Closest {
+                    distance: t,
+                    index: i,
+                    found: true,
+                };
+            }
+            if best.found {
+                return best;
+            }
+            Closest {
+                distance: t,
+                index: i,
+                found: true,
+            }
+        }
+        geometry::Crossing::Miss => best,
+    }
+}
+
+// Tries the triangles of a leaf.
+fn visit_leaf(
+    perm: &[u32],
+    rows: &[f32],
+    ray: Ray,
+    start: usize,
+    len: usize,
+    best: Closest,
+) -> Closest
+    requires { ⌜ (10 * length (now perm) ≤ length (now rows)) × (start + len ≤ length (now perm)) ⌝ }
+    ensures { λ r. ⌜ ((tri : ℕ → Triangle) → Rows tri (now (perm .entry)) (now (rows .entry)) → r ≡ visitAllOf tri ray (take len (drop start (now (perm .entry)))) best) ⌝ }
+{
+    let end = start + len;
+    let mut closest = best;
+    let mut k = start;
+    while k < end {
+        let i = perm[k] as usize;
+        closest = visit(corner_at(rows, k), edges_at(rows, k), ray, i, closest);
+        k += 1;
+    }
+    closest
+}
+
+// ---- nodes
+
+fn enters(b: Aabb, ray: Ray, t: f32) -> bool
+    ensures { λ r. ⌜ r ≡ entered (slabOf b ray t) ⌝ }
+{
+    match geometry::intersect_padded(b, ray, t) {
+        Entry::At(_) => true,
+        Entry::Miss => false,
+    }
+}
+
+// Which of the children l and r are visited, and in which order.
+fn in_turn(a: Entry, b: Entry, l: usize, r: usize) -> Turns
+    ensures list { λ w. ⌜ listOf w ≡ orderOf a b l r ⌝ }
+    ensures first { λ w. ⌜ ((w .count ≡ 0 → ⊥) → ((w .first ≡ l) × (entered a ≡ true)) ⊎ ((w .first ≡ r) × (entered b ≡ true))) ⌝ }
+    ensures both { λ w. ⌜ ((m : ℕ) → l < m → r < m → (w .first < m) × (w .second < m)) ⌝ }
+{
+    match a {
+        Entry::At(ta) => {
+            match b {
+                Entry::At(tb) => {
+                    if ta <= tb {
+                        return Turns {
+                            count: 2,
+                            first: l,
+                            second: r,
+                        };
+                    }
+                    Turns {
+                        count: 2,
+                        first: r,
+                        second: l,
+                    }
+                }
+                Entry::Miss => Turns {
+                    count: 1,
+                    first: l,
+                    second: r,
+                },
+            }
+        }
+        Entry::Miss => {
+            match b {
+                Entry::At(_) => Turns {
+                    count: 1,
+                    first: r,
+                    second: l,
+                },
+                Entry::Miss => Turns {
+                    count: 0,
+                    first: l,
+                    second: r,
+                },
+            }
+        }
+    }
+}
+
+fn order_at(padded: &[f32], ray: Ray, l: usize, r: usize, t: f32) -> Turns
+    requires { ⌜ (6 * l + 6 ≤ length (now padded)) × (6 * r + 6 ≤ length (now padded)) ⌝ }
+    ensures list { λ w. ⌜ listOf w ≡ orderOf (slabOf (boxAtOf (now (padded .entry)) l) ray t) (slabOf (boxAtOf (now (padded .entry)) r) ray t) l r ⌝ }
+    ensures first { λ w. ⌜ ((w .count ≡ 0 → ⊥) → entered (slabOf (boxAtOf (now (padded .entry)) (w .first)) ray t) ≡ true) ⌝ }
+    ensures both { λ w. ⌜ ((m : ℕ) → l < m → r < m → (w .first < m) × (w .second < m)) ⌝ }
+{
+    let a = geometry::intersect_padded(build::box_at(padded, l), ray, t);
+    let b = geometry::intersect_padded(build::box_at(padded, r), ray, t);
+    in_turn(a, b, l, r)
+}
+
+// The tree at node i, to a depth of `fuel` nodes. The ray enters the node's box: the test at the node above said so, and nothing
+// nearer was found since.
+fn trace(
+    padded: &[f32],
+    nodes: &[u32],
+    perm: &[u32],
+    rows: &[f32],
+    count: usize,
+    ray: Ray,
+    fuel: usize,
+    i: usize,
+    best: Closest,
+) -> Closest
+    requires { ⌜ Held (now padded) (now nodes) (now perm) (now rows) count ⌝ }
+    requires { ⌜ i < count ⌝ }
+    requires { ⌜ entered (slabOf (boxAtOf (now padded) i) ray (best .distance)) ≡ true ⌝ }
+    ensures { λ r. ⌜ ((tri : ℕ → Triangle) → Rows tri (now (perm .entry)) (now (rows .entry)) → r ≡ traceOf slabOf tri ray (treeAtOf (now (padded .entry)) (now (nodes .entry)) (now (perm .entry)) fuel i) best) ⌝ }
+{
+    if fuel == 0 {
+        return best;
+    }
+    let k = build::links_at(nodes, i);
+    if k.len == 0 {
+        let w = order_at(padded, ray, k.left, k.right, best.distance);
+        if w.count == 0 {
+            return best;
+        }
+        let one = trace(
+            padded,
+            nodes,
+            perm,
+            rows,
+            count,
+            ray,
+            fuel - 1,
+            w.first,
+            best,
+        );
+        if w.count == 1 {
+            return one;
+        }
+        if enters(build::box_at(padded, w.second), ray, one.distance) {
+            return trace(
+                padded,
+                nodes,
+                perm,
+                rows,
+                count,
+                ray,
+                fuel - 1,
+                w.second,
+                one,
+            );
+        }
+        return one;
+    }
+    visit_leaf(perm, rows, ray, k.start, k.len, best)
+}
+
+// The whole tree.
+fn closest_hit(
+    padded: &[f32],
+    nodes: &[u32],
+    perm: &[u32],
+    rows: &[f32],
+    count: usize,
+    ray: Ray,
+) -> Closest
+    requires { ⌜ Held (now padded) (now nodes) (now perm) (now rows) count ⌝ }
+    requires { ⌜ 0 < count ⌝ }
+    ensures { λ r. ⌜ ((tri : ℕ → Triangle) → Rows tri (now (perm .entry)) (now (rows .entry)) → r ≡ traceOf slabOf tri ray (treeAtOf (now (padded .entry)) (now (nodes .entry)) (now (perm .entry)) 33 0) (none ray)) ⌝ }
+{
+    let nothing = Closest {
+        distance: ray.max_distance,
+        index: 0,
+        found: false,
+    };
+    if enters(build::box_at(padded, 0), ray, ray.max_distance) {
+        return trace(padded, nodes, perm, rows, count, ray, 33, 0, nothing);
+    }
+    nothing
+}
+
+// The handle of triangle i.
+fn handle_at(handles: &[u32], i: usize) -> u32
+    ensures { λ r. ⌜ r ≡ getD (now (handles .entry)) i 0 ⌝ }
+{
+    if i < handles.len() {
+        return handles[i];
+    }
+    0
+}
+
+// `FlatBvh::intersect`: the nearest hit, with the index and the handle of its triangle.
+pub fn intersect(
+    padded: &[f32],
+    nodes: &[u32],
+    perm: &[u32],
+    rows: &[f32],
+    handles: &[u32],
+    count: usize,
+    ray: Ray,
+) -> Hit
+    requires { ⌜ Held (now padded) (now nodes) (now perm) (now rows) count ⌝ }
+    requires { ⌜ 0 < count ⌝ }
+    ensures { λ r. ⌜ ((tri : ℕ → Triangle) (t : Tree) → Rows tri (now (perm .entry)) (now (rows .entry)) → ((i : ℕ) → tri i .«material_handle» ≡ getD (now (handles .entry)) i 0) → treeAtOf (now (padded .entry)) (now (nodes .entry)) (now (perm .entry)) 33 0 ≡ paddedTreeOf t → r ≡ intersectOf tri ray t) ⌝ }
+{
+    let c = closest_hit(padded, nodes, perm, rows, count, ray);
+    if c.found {
+        let material_handle = handle_at(handles, c.index);
+        return Hit::At(RayHit {
+            distance: c.distance,
+            point: vector::point_at(ray, c.distance),
+            triangle: c.index,
+            material_handle,
+        });
+    }
+    Hit::Nothing
+}
