@@ -26,7 +26,7 @@ use Rattle.geometry.specs.Aabb.{unionOf}
 use Rattle.split.specs.Split.{Divided, divided, splitOf, boundsOf}
 use Rattle.build.specs.declared.Links.{Links}
 use Rattle.build.specs.Tree.{Tree, leaf, node, boxOf, leafOf, innerOf, branchOf, buildSahOf}
-use Rattle.build.specs.Areas.{boxAtOf, linksOf, linksAtOf, part, readOf, treeAtOf, Same, Linked, Sound, Wrote, Listed, Sorts, Room, Built, Parted}
+use Rattle.build.specs.Areas.{boxAtOf, linksOf, linksAtOf, part, readOf, treeAtOf, Same, Linked, Sound, Wrote, Listed, Sorts, Room, Built, Parted, Chosen}
 use Rattle.build.proofs.Stores.{same-refl, same-trans, same-within, part-length, part-same, part-left, part-right}
 use Rattle.build.proofs.Frame.{row-same, link-same, tree-box, tree-same, read-node, read-leaf, linked-wider, sound-same}
 
@@ -96,6 +96,47 @@ module _ (b : ℕ → Aabb) (mid : ℕ → Vec3) where
       let on = buildSahOf b mid (levels - 1) in
       let w : innerOf (on (take at ys)) (on (drop at ys)) ≡ branchOf b on (divided ys at) = rw (ne-eqb at 0 nz) in
       w ∙ ap (branchOf b on) e ∙ build-open levels xs ne h
+
+-- ---- a leaf, or a split
+module _ (b : ℕ → Aabb) (mid : ℕ → Vec3) (levels n lo hi : ℕ) (p : List ℕ) where
+  -- a leaf of the part as it stands
+  chosen-leaf : leafOf b (part lo hi p) ≡ buildSahOf b mid levels (part lo hi p) → lo < hi → Below n p → Chosen b mid levels n lo hi 0 p p
+  chosen-leaf e some h =
+      record {
+        leaf-of = λ _. e;
+        deep = λ ne. absurd (ne refl);
+        many = λ ne. absurd (ne refl);
+        done = λ ne. absurd (ne refl);
+        inside = h;
+        low = same-refl 0 0 lo p;
+        high = same-refl 0 hi (length p) p;
+        within = omega arith;
+      }
+
+  pub chosen-zero : levels ≡ 0 → lo < hi → Below n p → Chosen b mid levels n lo hi 0 p p
+  chosen-zero e some h = chosen-leaf (build-zero b mid levels (part lo hi p) e) some h
+
+  pub chosen-few : (levels ≡ 0 → ⊥) → hi - lo ≤ 4 → hi ≤ length p → lo < hi → Below n p → Chosen b mid levels n lo hi 0 p p
+  chosen-few ne few within some h =
+      let l = part-length lo hi p (omega arith) within in
+      chosen-leaf (build-few b mid levels (part lo hi p) ne (omega arith)) some h
+
+  pub chosen-split : (levels ≡ 0 → ⊥) → 4 < hi - lo → hi ≤ length p → (r : ℕ) (p′ : List ℕ) → Parted b mid n lo hi r p p′ → Chosen b mid levels n lo hi r p p′
+  chosen-split ne four within r p′ w =
+      let l = part-length lo hi p (omega arith) within in
+      record {
+        leaf-of = λ z. build-none b mid levels (part lo hi p) (part lo hi p′) r ne (omega arith) (w .done) z;
+        deep = λ _. ne;
+        many = λ _. four;
+        done = λ _. w .done;
+        inside = w .inside;
+        low = w .low;
+        high = w .high;
+        within = w .within;
+      }
+
+  pub chosen-parted : (r : ℕ) (p′ : List ℕ) → (r ≡ 0 → ⊥) → Chosen b mid levels n lo hi r p p′ → Parted b mid n lo hi r p p′
+  chosen-parted r p′ ne w = record { done = w .done ne; inside = w .inside; low = w .low; high = w .high; within = w .within }
 
 -- ---- records
 

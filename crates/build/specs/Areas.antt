@@ -15,7 +15,7 @@ use Rattle.geometry.specs.declared.Aabb.{Aabb}
 use Rattle.geometry.specs.Aabb.{box}
 use Rattle.split.specs.Split.{Keyed, divided, splitOf}
 use Rattle.build.specs.declared.Links.{Links}
-use Rattle.build.specs.Tree.{Tree, leaf, node}
+use Rattle.build.specs.Tree.{Tree, leaf, node, leafOf, buildSahOf}
 
 -- ---- reading
 
@@ -106,6 +106,17 @@ pub record Built (t : Tree) (fuel : ℕ) (n lo hi next r : ℕ) (p p′ : List �
 -- the part from lo up to hi was sorted and split
 pub record Parted (b : ℕ → Aabb) (mid : ℕ → Vec3) (n lo hi r : ℕ) (p p′ : List ℕ) : Type 0 where
   pub done : divided (part lo hi p′) r ≡ splitOf b mid (part lo hi p)
+  pub inside : Below n p′
+  pub low : Same 0 0 lo p p′
+  pub high : Same 0 hi (length p) p p′
+  pub within : r < hi - lo
+
+-- the part from lo up to hi is to be a leaf (r is 0), or was sorted and split
+pub record Chosen (b : ℕ → Aabb) (mid : ℕ → Vec3) (levels n lo hi r : ℕ) (p p′ : List ℕ) : Type 0 where
+  pub leaf-of : r ≡ 0 → leafOf b (part lo hi p′) ≡ buildSahOf b mid levels (part lo hi p)
+  pub deep : (r ≡ 0 → ⊥) → levels ≡ 0 → ⊥
+  pub many : (r ≡ 0 → ⊥) → 4 < hi - lo
+  pub done : (r ≡ 0 → ⊥) → divided (part lo hi p′) r ≡ splitOf b mid (part lo hi p)
   pub inside : Below n p′
   pub low : Same 0 0 lo p p′
   pub high : Same 0 hi (length p) p p′

@@ -8,7 +8,7 @@ ghost use lib.ListN.{length, getD, take, drop};
 ghost use Rattle.geometry.specs.Aabb.{unionOf};
 ghost use Rattle.split.specs.Split.{aabbAtOf, centroidAtOf};
 ghost use Rattle.build.specs.Tree.{leafOf, buildSahOf};
-ghost use Rattle.build.specs.Areas.{boxAtOf, linksOf, linksAtOf, part, Wrote, Listed, Sorts, Room, Built, Parted};
+ghost use Rattle.build.specs.Areas.{boxAtOf, linksOf, linksAtOf, part, Wrote, Listed, Sorts, Room, Built, Parted, Chosen};
 
 // Where a node's children stand, or its triangles: a node that has triangles is a leaf.
 pub struct Links {
@@ -128,6 +128,34 @@ fn split_part(
     )
 }
 
+// Splits the triangles from lo up to hi where they are to be an inner node: the answer is how many go left, and 0 for a leaf.
+fn split_node(
+    kx: &[u64],
+    ky: &[u64],
+    kz: &[u64],
+    extents: &[f32],
+    n: usize,
+    levels: usize,
+    lo: usize,
+    hi: usize,
+    perm: &mut [u32],
+    words: &mut [u64],
+    scratch: &mut [u64],
+    areas: &mut [f32],
+) -> usize
+    requires { ⌜ Listed (now extents) n lo hi (now perm) ⌝ }
+    requires { ⌜ Sorts (now kx) (now ky) (now kz) (now extents) n (now words) (now scratch) (now areas) ⌝ }
+    ensures { λ r. ⌜ Chosen (aabbAtOf (now (extents .entry))) (centroidAtOf (now (extents .entry))) levels n lo hi r (now (perm .entry)) (now (perm .exit)) ⌝ }
+{
+    if levels == 0 {
+        return 0;
+    }
+    if hi - lo <= 4 {
+        return 0;
+    }
+    split_part(kx, ky, kz, extents, n, lo, hi, perm, words, scratch, areas)
+}
+
 // The node over the trees at next + 1 and at right.
 fn put_inner(boxes: &mut [f32], nodes: &mut [u32], next: usize, right: usize)
     requires { ⌜ (next < right) × (6 * right + 6 ≤ length (now boxes)) × (4 * right + 4 ≤ length (now nodes)) × (right < 2 ^ 32) ⌝ }
@@ -160,13 +188,20 @@ pub fn build_sah(
     requires { ⌜ Room lo hi (now boxes) (now nodes) next ⌝ }
     ensures { λ r. ⌜ Built (buildSahOf (aabbAtOf (now (extents .entry))) (centroidAtOf (now (extents .entry))) levels (part lo hi (now (perm .entry)))) (levels + 1) n lo hi next r (now (perm .entry)) (now (perm .exit)) (now (boxes .entry)) (now (boxes .exit)) (now (nodes .entry)) (now (nodes .exit)) ⌝ }
 {
-    if levels == 0 {
-        return put_leaf(extents, n, lo, hi, perm, boxes, nodes, next);
-    }
-    if hi - lo <= 4 {
-        return put_leaf(extents, n, lo, hi, perm, boxes, nodes, next);
-    }
-    let at = split_part(kx, ky, kz, extents, n, lo, hi, perm, words, scratch, areas);
+    let at = split_node(
+        kx,
+        ky,
+        kz,
+        extents,
+        n,
+        levels,
+        lo,
+        hi,
+        perm,
+        words,
+        scratch,
+        areas,
+    );
     if at == 0 {
         return put_leaf(extents, n, lo, hi, perm, boxes, nodes, next);
     }
