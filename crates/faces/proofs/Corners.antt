@@ -16,7 +16,7 @@ use Rattle.faces.specs.Numbers.{keyAt, isNewAt}
 use Rattle.faces.specs.Key.{Key, perMetre, keyBy, stepOf, vertexKey}
 use Rattle.faces.specs.Numbers.{numberOf}
 use Rattle.columns.specs.Columns.{vecAtOf}
-use Rattle.faces.specs.Faces.{Face, noFace, cornersOf, faceAt, isFirst, faceIn, facesIn}
+use Rattle.faces.specs.Faces.{Face, noFace, keysOf, faceAt, isFirst, faceIn, facesIn}
 use Rattle.faces.proofs.Firsts.{upTo-length}
 use Rattle.faces.proofs.Numbers.{RangedFace, face-ranged, new-first}
 
@@ -114,7 +114,7 @@ pub first-in : (area : List Float) (n : ℕ) (k : ℕ → ℕ)
     → ((i : ℕ) → i < n → k (n + i) ≡ numberOf (keyBy perMetre (vecAtOf area n (i + 3 * n))))
     → ((i : ℕ) → i < n → k (2 * n + i) ≡ numberOf (keyBy perMetre (vecAtOf area n (i + 6 * n))))
     → (i : ℕ) → i < n → isNewAt k n i ≡ isFirst (facesIn area n) i
-unfolding faceIn cornersOf vertexKey
+unfolding faceIn keysOf vertexKey
 first-in area n k a b c i h =
     new-first (facesIn area n) n k
     (λ j g. rw (face-in area n j g) (face-ranged (vecAtOf area n j) (vecAtOf area n (j + 3 * n)) (vecAtOf area n (j + 6 * n))))

@@ -20,7 +20,7 @@ use Rattle.faces.specs.Triples.{anyOrder}
 use Rattle.faces.specs.Numbers.{isNewAt}
 use Rattle.faces.specs.Key.{Key, sameKey, stepOf, keyBy, vertexKey}
 use Rattle.faces.specs.Numbers.{numberOf}
-use Rattle.faces.specs.Faces.{Face, cornersOf, faceAt, sameFace, isFirst}
+use Rattle.faces.specs.Faces.{Face, keysOf, faceAt, sameFace, isFirst}
 use Rattle.order.proofs.Runs.{any-under}
 
 -- from -2 ^ 31 to 2 ^ 31 - 1
@@ -86,8 +86,8 @@ pub record RangedFace (f : Face) : Type 0 where
   pub b : Ranged (f .b)
   pub c : Ranged (f .c)
 
-pub face-ranged : (p q r : Vec3) → RangedFace (cornersOf p q r)
-unfolding cornersOf vertexKey
+pub face-ranged : (p q r : Vec3) → RangedFace (keysOf p q r)
+unfolding keysOf vertexKey
 face-ranged p q r = record { a = key-ranged _ p; b = key-ranged _ q; c = key-ranged _ r }
 
 module _ (fs : List Face) (n : ℕ) (k : ℕ → ℕ) (ranged : (i : ℕ) → i < n → RangedFace (faceAt fs i))

@@ -18,11 +18,11 @@ pub record Face : Type 0 where
   pub b : Key
   pub c : Key
 
-unfoldable pub cornersOf : Vec3 → Vec3 → Vec3 → Face
-cornersOf p q r = record { a = vertexKey p; b = vertexKey q; c = vertexKey r }
+unfoldable pub keysOf : Vec3 → Vec3 → Vec3 → Face
+keysOf p q r = record { a = vertexKey p; b = vertexKey q; c = vertexKey r }
 
 unfoldable pub faceOf : Triangle → Face
-faceOf t = cornersOf (t .a) (t .b) (t .c)
+faceOf t = keysOf (t .a) (t .b) (t .c)
 
 abbrev pub noKey : Key
 noKey = record { x = 0; y = 0; z = 0 }
@@ -44,7 +44,7 @@ isFirst fs i = not (anyBy (λ j. sameFace (faceAt fs j) (faceAt fs i)) (upTo i))
 -- ---- the faces of triangles in columns
 
 unfoldable pub faceIn : List Float → ℕ → ℕ → Face
-faceIn area n i = cornersOf (vecAtOf area n i) (vecAtOf area n (i + 3 * n)) (vecAtOf area n (i + 6 * n))
+faceIn area n i = keysOf (vecAtOf area n i) (vecAtOf area n (i + 3 * n)) (vecAtOf area n (i + 6 * n))
 
 unfoldable pub facesIn : List Float → ℕ → List Face
 facesIn area n = map (faceIn area n) (upTo n)
