@@ -5,6 +5,7 @@ use mathlib.Core.List.{List, [], _∷_, _++_, map}
 use Prim.Native.Nat.{ℕ, zero, suc, _+_, _-_, _*_, _<_, _≤_}
 use native.Mathlib.Nat.{le-refl, not-suc-le-zero, le-of-suc-le-suc, zero-add, add-zero}
 use native.Mathlib.Omega.{arith}
+use lib.Dec.{eqb}
 use lib.ListN.{length, getD, set, length-set, List·getD-append}
 use lib.Seq.{getD-set-same, getD-set-other, getD-at}
 use lib.Ieee.{Float, nan, binary32, mul, ofBits}
@@ -13,7 +14,7 @@ use Rattle.float.proofs.Numbers.{by-order}
 use Rattle.order.proofs.Stable.{by-eq}
 use Rattle.order.specs.Runs.{upTo}
 use Rattle.faces.specs.Numbers.{keyAt, isNewAt}
-use Rattle.faces.specs.Key.{Key, perMetre, keyBy, stepOf, vertexKey}
+use Rattle.faces.specs.Key.{Key, vertexStepsPerMetre, keyBy, stepOf, vertexKey}
 use Rattle.faces.specs.Numbers.{numberOf}
 use Rattle.columns.specs.Columns.{vecAtOf}
 use Rattle.faces.specs.Faces.{Face, noFace, keysOf, faceAt, isFirst, faceIn, facesIn}
@@ -110,9 +111,9 @@ face-in area n i h = getD-map-upTo (faceIn area n) n i noFace h
 
 -- STEP 1 by keys is the definition's
 pub first-in : (area : List Float) (n : ℕ) (k : ℕ → ℕ)
-    → ((i : ℕ) → i < n → k i ≡ numberOf (keyBy perMetre (vecAtOf area n i)))
-    → ((i : ℕ) → i < n → k (n + i) ≡ numberOf (keyBy perMetre (vecAtOf area n (i + 3 * n))))
-    → ((i : ℕ) → i < n → k (2 * n + i) ≡ numberOf (keyBy perMetre (vecAtOf area n (i + 6 * n))))
+    → ((i : ℕ) → i < n → k i ≡ numberOf (keyBy vertexStepsPerMetre (vecAtOf area n i)))
+    → ((i : ℕ) → i < n → k (n + i) ≡ numberOf (keyBy vertexStepsPerMetre (vecAtOf area n (i + 3 * n))))
+    → ((i : ℕ) → i < n → k (2 * n + i) ≡ numberOf (keyBy vertexStepsPerMetre (vecAtOf area n (i + 6 * n))))
     → (i : ℕ) → i < n → isNewAt k n i ≡ isFirst (facesIn area n) i
 unfolding faceIn keysOf vertexKey
 first-in area n k a b c i h =
@@ -122,6 +123,14 @@ first-in area n k a b c i h =
     (λ j g. b j g ∙ ap (λ (f : Face). numberOf (f .b)) (sym (face-in area n j g)))
     (λ j g. c j g ∙ ap (λ (f : Face). numberOf (f .c)) (sym (face-in area n j g)))
     i h
+
+-- the same, for a number that `first_faces` stored
+pub first-at : (area : List Float) (n : ℕ) (k : ℕ → ℕ)
+    → ((i : ℕ) → i < n → k i ≡ numberOf (keyBy vertexStepsPerMetre (vecAtOf area n i)))
+    → ((i : ℕ) → i < n → k (n + i) ≡ numberOf (keyBy vertexStepsPerMetre (vecAtOf area n (i + 3 * n))))
+    → ((i : ℕ) → i < n → k (2 * n + i) ≡ numberOf (keyBy vertexStepsPerMetre (vecAtOf area n (i + 6 * n))))
+    → (i r : ℕ) → i < n → eqb r i ≡ isNewAt k n i → eqb r i ≡ isFirst (facesIn area n) i
+first-at area n k a b c i r h e = e ∙ first-in area n k a b c i h
 
 -- ---- three calls after one another
 

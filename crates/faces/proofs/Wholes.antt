@@ -1,6 +1,7 @@
 -- The whole number nearest to an `f32`, by its pattern: a value a / c rounds to (2 a + c) / (2 c), and with the pattern's fields put in that is a
 -- shift, a sum and a division by a literal.
---     mag-pattern    for a pattern without sign: the size, cut at 2 ^ 31
+--     mag-small, mag-mid, mag-big         the size of a pattern without sign: under a half, in range, held to 2 ^ 31
+--     whole-pos, whole-cut, whole-neg     the whole number of a size and a sign
 use mathlib.Core.Path.{_≡_, refl, sym, ap, _∙_, subst}
 use mathlib.Core.Bool.{Bool, true, false, cond, not, true≢false, false≢true}
 use Prim.Native.Nat.{ℕ, zero, suc, _+_, _-_, _*_, _/_, _%_, _^_, _<_, _≤_, min}

@@ -25,9 +25,9 @@ unfoldable pub sameKey : Key → Key → Bool
 sameKey a b = eqb (a .x) (b .x) && eqb (a .y) (b .y) && eqb (a .z) (b .z)
 
 -- 1e3: steps of 1 mm
-abbrev pub perMetre : Float
-perMetre = ofBits binary32 0x447a_0000
+abbrev pub vertexStepsPerMetre : Float
+vertexStepsPerMetre = ofBits binary32 0x447a_0000
 
 -- `vertex_key`
 unfoldable pub vertexKey : Vec3 → Key
-vertexKey p = keyBy perMetre p
+vertexKey p = keyBy vertexStepsPerMetre p

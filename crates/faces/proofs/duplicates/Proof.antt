@@ -1,8 +1,9 @@
--- `faces::duplicates` meets its contract: the keys of the corners, and the first face of each three of them, are those of the definition (`first-in`).
+-- `faces::duplicates` meets its contract: the keys of the corners, and the first face of each three of them, are those of the definition (`first-at`).
 use mathlib.Core.Path.{_≡_, refl, sym, ap, _∙_}
 use native.Mathlib.Omega.{arith}
+use lib.ListN.{getD}
 use Rattle.faces.specs.Numbers.{keyAt}
-use Rattle.faces.proofs.Corners.{first-in}
+use Rattle.faces.proofs.Corners.{first-at}
 use borrow.Author.Needs.{needs}
 use Rattle.faces.proofs.duplicates.Statement.{statement}
 use Rattle.faces.proofs.duplicates.Tie as tie
@@ -22,7 +23,7 @@ returns c =
     λ i h.
     let s = c .before .before .before .before .before .before .before .before .before .before .before .before .before .before .before .before .before .before .before .before .before .before .before .before .before .before .before .before .before .before .before .before .before .before .before .before .before .before .before .before .before in
     let g = s .args in
-    c .before .before .before .before .before .before .before .before .before .before .before .before .before .before .first-faces .ensures .1 i h ∙ first-in (g .area .now) (g .n) (keyAt (c .before .before .before .before .before .before .before .before .before .before .before .before .before .before .before .before .before .before .before .before .before .before .before .before .before .before .before .before .corner-keys .last .1 .1 .1 .0) (c .before .before .before .before .before .before .before .before .before .before .before .before .before .before .before .before .before .before .before .before .before .before .before .before .before .before .before .before .corner-keys .last .1 .1 .1 .1 .0)) (c .before .before .before .before .before .before .before .before .before .before .before .before .before .before .before .before .before .before .before .before .before .before .before .before .before .before .before .before .corner-keys .ensures .1 .0) (c .before .before .before .before .before .before .before .before .before .before .before .before .before .before .before .before .before .before .before .before .before .before .before .before .before .before .before .before .corner-keys .ensures .1 .1 .0) (c .before .before .before .before .before .before .before .before .before .before .before .before .before .before .before .before .before .before .before .before .before .before .before .before .before .before .before .before .corner-keys .ensures .1 .1 .1) i h
+    first-at (g .area .now) (g .n) (keyAt (c .before .before .before .before .before .before .before .before .before .before .before .before .before .before .before .before .before .before .before .before .before .before .before .before .before .before .before .before .corner-keys .last .1 .1 .1 .0) (c .before .before .before .before .before .before .before .before .before .before .before .before .before .before .before .before .before .before .before .before .before .before .before .before .before .before .before .before .corner-keys .last .1 .1 .1 .1 .0)) (c .before .before .before .before .before .before .before .before .before .before .before .before .before .before .before .before .before .before .before .before .before .before .before .before .before .before .before .before .corner-keys .ensures .1 .0) (c .before .before .before .before .before .before .before .before .before .before .before .before .before .before .before .before .before .before .before .before .before .before .before .before .before .before .before .before .corner-keys .ensures .1 .1 .0) (c .before .before .before .before .before .before .before .before .before .before .before .before .before .before .before .before .before .before .before .before .before .before .before .before .before .before .before .before .corner-keys .ensures .1 .1 .1) i (getD (c .before .before .before .before .before .before .before .before .before .before .before .before .before .before .first-faces .last .1 .1 .1 .1 .1 .1 .1 .1 .1 .0) i 0) h (c .before .before .before .before .before .before .before .before .before .before .before .before .before .before .first-faces .ensures .1 i h)
 
 pub duplicates-spec : {M : Type 1} → statement M
 duplicates-spec =

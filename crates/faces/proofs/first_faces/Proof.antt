@@ -6,6 +6,7 @@ use Prim.Native.Nat.{ℕ, _+_, _*_, _-_, _≤_, _<_}
 use native.Mathlib.Omega.{arith}
 use lib.ListN.{length, getD, take}
 use lib.Seq.{length-take-le}
+use Rattle.order.specs.Runs.{firstAt}
 use Rattle.faces.specs.Numbers.{keyAt}
 use Rattle.faces.proofs.Packing.{new-is}
 use borrow.Author.Needs.{needs}
@@ -43,7 +44,7 @@ returns : tie.Need-returns
 returns c =
     let s = c .before .before .before .before .before .before .before .before .before .before .before .before .before .before .before .before .before .before .before .before .before .before .before .before .before .before .before .before .before .before .before .before .before .before .before .before .before .before .before .before .before .before .before .before .before in
     let kh = c .before .before .before .before .before .before .before .before .before .before .before .before .before .before .before .before .before .before .before .face-keys .kept .1 .1 .0 ∙ s .pre .1 .1 .1 .1 .1 .1 .1 .1 .0 in
-    let named : (q : ℕ) → q < 3 * s .args .n → _ = λ q l. c .before .before .before .before .before .before .before .before .before .before .before .before .before .before .before .before .before .before .before .before .before .before .before .before .before .before .before .before .before .before .before .first-indexes .ensures q (omega (arith, s .pre .1 .0, l)) in (
+    let named : (q : ℕ) → q < 3 * s .args .n → getD (c .before .before .before .before .before .before .before .before .before .before .before .before .before .before .before .before .before .before .before .before .before .before .before .before .before .before .before .before .before .before .before .first-indexes .last .1 .1 .1 .1 .1 .0) q 0 ≡ firstAt (keyAt (s .args .vhi .now) (s .args .vlo .now)) q = λ q l. c .before .before .before .before .before .before .before .before .before .before .before .before .before .before .before .before .before .before .before .before .before .before .before .before .before .before .before .before .before .before .before .first-indexes .ensures q (omega (arith, s .pre .1 .0, l)) in (
       named,
       λ i h.
           new-is (s .args .n) (keyAt (s .args .vhi .now) (s .args .vlo .now)) (keyAt (c .before .before .before .before .before .before .before .before .before .before .before .before .before .before .before .before .before .before .before .face-keys .last .1 .1 .0) (c .before .before .before .before .before .before .before .before .before .before .before .before .before .before .before .before .before .before .before .face-keys .last .1 .1 .1 .0)) (c .before .before .before .before .before .before .before .before .before .before .before .before .before .before .before .before .before .before .before .before .before .before .before .before .before .before .before .before .before .before .before .first-indexes .last .1 .1 .1 .1 .1 .0) (s .pre .0)
