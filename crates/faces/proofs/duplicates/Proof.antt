@@ -1,0 +1,43 @@
+-- `faces::duplicates` meets its contract: the keys of the corners, and the first face of each three of them, are those of the definition (`first-at`).
+use mathlib.Core.Path.{_≡_, refl, sym, ap, _∙_}
+use native.Mathlib.Omega.{arith}
+use lib.ListN.{getD}
+use Rattle.faces.specs.Numbers.{keyAt}
+use Rattle.faces.proofs.Corners.{first-at}
+use borrow.Author.Needs.{needs}
+use Rattle.faces.proofs.duplicates.Statement.{statement}
+use Rattle.faces.proofs.duplicates.Tie as tie
+
+corner-keys-requires : tie.Need-corner-keys-requires
+corner-keys-requires c κs =
+    let s = c .before .before .before .before .before .before .before .before .before .before .before .before in
+    (omega (arith, s .pre .1 .0), (s .pre .1 .1 .0, s .pre .1 .1 .1 .0))
+
+first-faces-requires : tie.Need-first-faces-requires
+first-faces-requires c κs =
+    let s = c .before .before .before .before .before .before .before .before .before .before .before .before .before .before .before .before .before .before .before .before .before .before .before .before .before .before in
+    (s .pre .0, (c .before .before .before .before .before .before .before .before .before .before .before .before .before .corner-keys .kept .1 .1 .1 .0 ∙ s .pre .1 .1 .0, (c .before .before .before .before .before .before .before .before .before .before .before .before .before .corner-keys .kept .1 .1 .1 .1 .0 ∙ s .pre .1 .1 .1 .0, (c .before .before .before .before .before .before .before .before .before .before .before .before .before .corner-keys .ensures .0, s .pre .1 .1 .1 .1))))
+
+returns : tie.Need-returns
+returns c =
+    λ i h.
+    let s = c .before .before .before .before .before .before .before .before .before .before .before .before .before .before .before .before .before .before .before .before .before .before .before .before .before .before .before .before .before .before .before .before .before .before .before .before .before .before .before .before .before in
+    let g = s .args in
+    first-at (g .area .now) (g .n) (keyAt (c .before .before .before .before .before .before .before .before .before .before .before .before .before .before .before .before .before .before .before .before .before .before .before .before .before .before .before .before .corner-keys .last .1 .1 .1 .0) (c .before .before .before .before .before .before .before .before .before .before .before .before .before .before .before .before .before .before .before .before .before .before .before .before .before .before .before .before .corner-keys .last .1 .1 .1 .1 .0)) (c .before .before .before .before .before .before .before .before .before .before .before .before .before .before .before .before .before .before .before .before .before .before .before .before .before .before .before .before .corner-keys .ensures .1 .0) (c .before .before .before .before .before .before .before .before .before .before .before .before .before .before .before .before .before .before .before .before .before .before .before .before .before .before .before .before .corner-keys .ensures .1 .1 .0) (c .before .before .before .before .before .before .before .before .before .before .before .before .before .before .before .before .before .before .before .before .before .before .before .before .before .before .before .before .corner-keys .ensures .1 .1 .1) i (getD (c .before .before .before .before .before .before .before .before .before .before .before .before .before .before .first-faces .last .1 .1 .1 .1 .1 .1 .1 .1 .1 .0) i 0) h (c .before .before .before .before .before .before .before .before .before .before .before .before .before .before .first-faces .ensures .1 i h)
+
+pub duplicates-spec : {M : Type 1} → statement M
+duplicates-spec =
+    tie.close
+    (tie.spec
+    corner-keys-requires
+    first-faces-requires
+    (λ c. search needs)
+    (λ c. search needs)
+    (λ c. search needs)
+    (λ c. search needs)
+    (λ c. search needs)
+    (λ c. search needs)
+    (λ c. search needs)
+    (λ c. search needs)
+    (λ c. search needs)
+    returns)

@@ -1,0 +1,69 @@
+-- `faces::first_indexes` meets its contract: the two sorts are the sort by both columns, and the walk over its runs finds the first of each.
+use mathlib.Core.Path.{_≡_, refl, sym, ap, _∙_}
+use mathlib.Core.List.{List}
+use Prim.Native.Nat.{ℕ, _≤_, _<_}
+use native.Mathlib.Omega.{arith}
+use lib.ListN.{length}
+use Rattle.order.specs.Sort.{Below, keyOf}
+use Rattle.order.specs.Runs.{upTo}
+use Rattle.faces.proofs.Firsts.{counted-length, counted-below, sorted-below, indexes-are}
+use borrow.Author.Needs.{needs}
+use Rattle.faces.proofs.first_indexes.Statement.{statement}
+use Rattle.faces.proofs.first_indexes.Tie as tie
+
+sort-by-key-requires : tie.Need-sort-by-key-requires
+sort-by-key-requires c κs =
+    let g = c .before .before .before .before .before .before .before .before .before .before .before .before .before in
+    let n = length (g .args .index .now) in
+    let xs = c .before .before .before .before .before .count-up .last .0 in
+    let len = counted-length n xs (c .before .before .before .before .before .count-up .ensures) in
+    (omega (arith, len, g .pre .1 .1 .1 .0, g .pre .1 .1 .1 .1 .0), (omega (arith, len, g .pre .1 .1 .1 .0, g .pre .1 .1 .1 .1 .1 .0), counted-below n (length (g .args .lo .now)) xs (c .before .before .before .before .before .count-up .ensures) (g .pre .1 .1 .1 .0 ∙ sym (g .pre .1 .0))))
+
+sort-by-key-requires-2 : tie.Need-sort-by-key-requires-2
+sort-by-key-requires-2 c κs =
+    let g = c .before .before .before .before .before .before .before .before .before .before .before .before .before .before .before .before .before .before .before .before .before .before .before in
+    let n = length (g .args .index .now) in
+    let xs = c .before .before .before .before .before .before .before .before .before .before .before .before .before .before .before .count-up .last .0 in
+    let len = counted-length n xs (c .before .before .before .before .before .before .before .before .before .before .before .before .before .before .before .count-up .ensures) in (
+      omega (arith, len, c .before .before .before .before .before .before .before .before .before .sort-by-key .kept .1 .0, c .before .before .before .before .before .before .before .before .before .sort-by-key .kept .1 .1 .0, g .pre .1 .1 .1 .0, g .pre .1 .1 .1 .1 .0),
+      (
+        omega (arith, len, c .before .before .before .before .before .before .before .before .before .sort-by-key .kept .1 .0, c .before .before .before .before .before .before .before .before .before .sort-by-key .kept .1 .1 .1 .0, g .pre .1 .1 .1 .0, g .pre .1 .1 .1 .1 .1 .0),
+        sorted-below (keyOf (g .args .lo .now)) (length (g .args .hi .now)) xs (c .before .before .before .before .before .before .before .before .before .sort-by-key .last .1 .0) (c .before .before .before .before .before .before .before .before .before .sort-by-key .ensures) (counted-below n (length (g .args .hi .now)) xs (c .before .before .before .before .before .before .before .before .before .before .before .before .before .before .before .count-up .ensures) (g .pre .1 .1 .1 .0)),
+      ),
+    )
+
+mark-run-starts-requires : tie.Need-mark-run-starts-requires
+mark-run-starts-requires c κs =
+    let g = c .before .before .before .before .before .before .before .before .before .before .before .before .before .before .before .before .before .before .before .before .before .before .before .before .before .before .before .before .before .before .before .before in
+    let n = length (g .args .index .now) in
+    let xs = c .before .before .before .before .before .before .before .before .before .before .before .before .before .before .before .before .before .before .before .before .before .before .before .before .count-up .last .0 in (
+      g .pre .1 .0,
+      (
+        g .pre .1 .1 .0,
+        (
+          g .pre .1 .1 .1 .1 .1 .1,
+          sorted-below (keyOf (g .args .hi .now)) (length (g .args .hi .now)) (c .before .before .before .before .before .before .before .before .before .before .before .before .before .before .before .before .before .before .sort-by-key .last .1 .0) (c .before .before .before .before .before .before .before .before .sort-by-key2 .last .1 .0) (c .before .before .before .before .before .before .before .before .sort-by-key2 .ensures)
+              (sorted-below (keyOf (g .args .lo .now)) (length (g .args .hi .now)) xs (c .before .before .before .before .before .before .before .before .before .before .before .before .before .before .before .before .before .before .sort-by-key .last .1 .0) (c .before .before .before .before .before .before .before .before .before .before .before .before .before .before .before .before .before .before .sort-by-key .ensures) (counted-below n (length (g .args .hi .now)) xs (c .before .before .before .before .before .before .before .before .before .before .before .before .before .before .before .before .before .before .before .before .before .before .before .before .count-up .ensures) (g .pre .1 .1 .1 .0))),
+        ),
+      ),
+    )
+
+returns : tie.Need-returns
+returns c =
+    let g = c .before .before .before .before .before .before .before .before .before .before .before .before .before .before .before .before .before .before .before .before .before .before .before .before .before .before .before .before .before .before .before .before .before .before .before in
+    indexes-are (g .args .hi .now) (g .args .lo .now) (c .before .before .before .before .before .before .before .before .before .before .before .before .before .before .before .before .before .before .before .before .before .before .before .before .before .before .before .count-up .last .0) (c .before .before .before .before .before .before .before .before .before .before .before .before .before .before .before .before .before .before .before .before .before .sort-by-key .last .1 .0) (c .before .before .before .before .before .before .before .before .before .before .before .sort-by-key2 .last .1 .0) (g .args .first .now) (c .before .before .mark-run-starts .last .1 .1 .1 .0)
+    (c .before .before .before .before .before .before .before .before .before .before .before .before .before .before .before .before .before .before .before .before .before .before .before .before .before .before .before .count-up .ensures ∙ ap upTo (g .pre .1 .1 .1 .0)) (c .before .before .before .before .before .before .before .before .before .before .before .before .before .before .before .before .before .before .before .before .before .sort-by-key .ensures) (c .before .before .before .before .before .before .before .before .before .before .before .sort-by-key2 .ensures) (c .before .before .mark-run-starts .ensures) (g .pre .1 .1 .0) (g .pre .1 .1 .1 .1 .1 .1)
+
+pub first-indexes-spec : {M : Type 1} → statement M
+first-indexes-spec =
+    tie.close
+    (tie.spec
+    (λ c κs. search needs)
+    sort-by-key-requires
+    sort-by-key-requires-2
+    mark-run-starts-requires
+    (λ c. search needs)
+    (λ c. search needs)
+    (λ c. search needs)
+    (λ c. search needs)
+    returns)

@@ -1,0 +1,317 @@
+// Duplicate faces of a scene, the first step of the mirror planes: the first triangle with the three vertices of each, in any order
+// and winding. A vertex is its corner in steps of 1 mm. In place of the Rust's map from keys, keys are sorted and their runs walked.
+ghost use mathlib.Core.Path.{_≡_};
+ghost use mathlib.Core.Bool.{Bool};
+ghost use Prim.Native.Nat.{ℕ, _+_, _*_, _/_, _%_, _<_, _≤_};
+ghost use lib.Dec.{eqb};
+ghost use lib.Ieee.{binary32, ofFields};
+ghost use lib.ListN.{length, getD};
+ghost use Rattle.order.specs.Sort.{Below};
+ghost use Rattle.order.specs.Runs.{upTo, headOr, firstAt, runStart, runStarts};
+ghost use Rattle.columns.specs.Columns.{columnCount, vecAtOf};
+ghost use Rattle.faces.specs.Whole.{wholeOf, sizeOf, placeOf};
+ghost use Rattle.faces.specs.Key.{stepOf, keyBy};
+ghost use Rattle.faces.specs.Triples.{lesser, greater, lowest, middle, highest, packed3};
+ghost use Rattle.faces.specs.Numbers.{keyAt, numberOf, isNewAt};
+ghost use Rattle.faces.specs.Faces.{isFirst, facesIn};
+
+// ---- the first index of each key
+
+// index becomes 0, 1, 2 and so on.
+fn count_up(index: &mut [u32])
+    requires { ⌜ length (now index) ≤ 4294967296 ⌝ }
+    ensures { λ _. ⌜ now (index .exit) ≡ upTo (length (now (index .entry))) ⌝ }
+{
+    let n = index.len();
+    let mut i = 0;
+    while i < n {
+        index[i] = i as u32;
+        i += 1;
+    }
+}
+
+// The first of the run that x is in, start being the first of the run of the element before it.
+fn run_start(hi: &[u64], lo: &[u64], start: u32, x: u32) -> u32
+    requires { ⌜ length (now lo) ≡ length (now hi) ⌝ }
+    requires { ⌜ Below 4294967296 (now lo) ⌝ }
+    requires { ⌜ start < length (now hi) ⌝ }
+    requires { ⌜ x < length (now hi) ⌝ }
+    ensures { λ r. ⌜ r ≡ runStart (keyAt (now (hi .entry)) (now (lo .entry))) start x ⌝ }
+{
+    let l = start as usize;
+    let i = x as usize;
+    if hi[i] == hi[l] {
+        if lo[i] == lo[l] {
+            return start;
+        }
+    }
+    x
+}
+
+// Stores at each element of index, a sorted list, the first of its run.
+fn mark_run_starts(hi: &[u64], lo: &[u64], index: &[u32], first: &mut [u32])
+    requires { ⌜ length (now lo) ≡ length (now hi) ⌝ }
+    requires { ⌜ Below 4294967296 (now lo) ⌝ }
+    requires { ⌜ length (now hi) ≤ length (now first) ⌝ }
+    requires { ⌜ Below (length (now hi)) (now index) ⌝ }
+    ensures { λ _. ⌜ now (first .exit) ≡ runStarts (keyAt (now (hi .entry)) (now (lo .entry))) (headOr 0 (now (index .entry))) (now (index .entry)) (now (first .entry)) ⌝ }
+{
+    let n = index.len();
+    if n == 0 {
+        return;
+    }
+    let mut start = index[0];
+    let mut p = 0;
+    while p < n {
+        let x = index[p];
+        start = run_start(hi, lo, start, x);
+        first[x as usize] = start;
+        p += 1;
+    }
+}
+
+// first[i] becomes the first j with the key of i: hi[i] and, below it, lo[i]. Two stable sorts, then a walk over the runs.
+pub fn first_indexes(
+    hi: &[u64],
+    lo: &[u64],
+    index: &mut [u32],
+    words: &mut [u64],
+    scratch: &mut [u64],
+    first: &mut [u32],
+)
+    requires { ⌜ length (now hi) ≤ 4294967296 ⌝ }
+    requires { ⌜ length (now lo) ≡ length (now hi) ⌝ }
+    requires { ⌜ Below 4294967296 (now lo) ⌝ }
+    requires { ⌜ length (now index) ≡ length (now hi) ⌝ }
+    requires { ⌜ length (now hi) ≤ length (now words) ⌝ }
+    requires { ⌜ length (now hi) ≤ length (now scratch) ⌝ }
+    requires { ⌜ length (now hi) ≤ length (now first) ⌝ }
+    ensures { λ _. ⌜ ((i : ℕ) → i < length (now (hi .entry)) → getD (now (first .exit)) i 0 ≡ firstAt (keyAt (now (hi .entry)) (now (lo .entry))) i) ⌝ }
+{
+    count_up(index);
+    order::sort_by_key(lo, index, words, scratch);
+    order::sort_by_key(hi, index, words, scratch);
+    mark_run_starts(hi, lo, index, first);
+}
+
+// ---- three numbers, sorted
+
+fn lower(a: u32, b: u32) -> u32
+    ensures { λ r. ⌜ r ≡ lesser a b ⌝ }
+{
+    if a <= b { a } else { b }
+}
+
+fn higher(a: u32, b: u32) -> u32
+    ensures { λ r. ⌜ r ≡ greater a b ⌝ }
+{
+    if a <= b { b } else { a }
+}
+
+fn wide(x: u32) -> u64
+    ensures { λ r. ⌜ (r ≡ x) × (r < 4294967296) ⌝ }
+{
+    x as u64
+}
+
+// x above y
+fn pair(x: u32, y: u32) -> u64
+    ensures { λ r. ⌜ r ≡ x * 4294967296 + y ⌝ }
+{
+    wide(x) * 0x1_0000_0000 + wide(y)
+}
+
+// The lowest of three above the middle one.
+fn face_hi(a: u32, b: u32, c: u32) -> u64
+    ensures { λ r. ⌜ r ≡ lowest a b c * 4294967296 + middle a b c ⌝ }
+{
+    let p = lower(a, b);
+    let q = higher(a, b);
+    let low = lower(p, c);
+    let rest = lower(q, c);
+    let mid = higher(p, rest);
+    wide(low) * 0x1_0000_0000 + wide(mid)
+}
+
+// The highest of three.
+fn face_lo(a: u32, b: u32, c: u32) -> u64
+    ensures { λ r. ⌜ (r ≡ highest a b c) × (r < 4294967296) ⌝ }
+{
+    let q = higher(a, b);
+    let high = higher(q, c);
+    wide(high)
+}
+
+// ---- faces by the numbers of their corners
+
+// The keys of n faces, from the numbers of their corners: corner c of face i stands at c * n + i.
+fn face_keys(id: &[u32], n: usize, hi: &mut [u64], lo: &mut [u64])
+    requires { ⌜ length (now id) ≡ 3 * n ⌝ }
+    requires { ⌜ length (now hi) ≡ n ⌝ }
+    requires { ⌜ length (now lo) ≡ n ⌝ }
+    ensures { λ _. ⌜ Below 4294967296 (now (lo .exit)) ⌝ }
+    ensures { λ _. ⌜ ((i : ℕ) → i < n → keyAt (now (hi .exit)) (now (lo .exit)) i ≡ packed3 (getD (now (id .entry)) i 0) (getD (now (id .entry)) (n + i) 0) (getD (now (id .entry)) (2 * n + i) 0)) ⌝ }
+{
+    let mut i = 0;
+    while i < n {
+        let a = id[i];
+        let b = id[n + i];
+        let c = id[2 * n + i];
+        hi[i] = face_hi(a, b, c);
+        lo[i] = face_lo(a, b, c);
+        i += 1;
+    }
+}
+
+// first[i] becomes i exactly where no earlier triangle has the three corner keys of triangle i, in any order. id becomes the number
+// of each corner: the first corner with its key.
+pub fn first_faces(
+    vhi: &[u64],
+    vlo: &[u64],
+    n: usize,
+    index: &mut [u32],
+    words: &mut [u64],
+    scratch: &mut [u64],
+    id: &mut [u32],
+    fhi: &mut [u64],
+    flo: &mut [u64],
+    first: &mut [u32],
+)
+    requires { ⌜ 3 * n ≤ 4294967296 ⌝ }
+    requires { ⌜ length (now vhi) ≡ 3 * n ⌝ }
+    requires { ⌜ length (now vlo) ≡ 3 * n ⌝ }
+    requires { ⌜ Below 4294967296 (now vlo) ⌝ }
+    requires { ⌜ length (now index) ≡ 3 * n ⌝ }
+    requires { ⌜ length (now words) ≡ 3 * n ⌝ }
+    requires { ⌜ length (now scratch) ≡ 3 * n ⌝ }
+    requires { ⌜ length (now id) ≡ 3 * n ⌝ }
+    requires { ⌜ length (now fhi) ≡ n ⌝ }
+    requires { ⌜ length (now flo) ≡ n ⌝ }
+    requires { ⌜ length (now first) ≡ n ⌝ }
+    ensures { λ _. ⌜ ((c : ℕ) → c < 3 * n → getD (now (id .exit)) c 0 ≡ firstAt (keyAt (now (vhi .entry)) (now (vlo .entry))) c) ⌝ }
+    ensures { λ _. ⌜ ((i : ℕ) → i < n → eqb (getD (now (first .exit)) i 0) i ≡ isNewAt (keyAt (now (vhi .entry)) (now (vlo .entry))) n i) ⌝ }
+{
+    first_indexes(vhi, vlo, index, words, scratch, id);
+    face_keys(id, n, fhi, flo);
+    first_indexes(fhi, flo, &mut index[..n], words, scratch, first);
+}
+
+// ---- keys of corners
+
+// The size of the whole number nearest to the float of a pattern without sign, held to 2^31.
+fn magnitude(i: u32) -> u32
+    requires { ⌜ i ≤ 2139095040 ⌝ }
+    ensures { λ r. ⌜ ((s : Bool) → sizeOf (ofFields binary32 s (i / 8388608) (i % 8388608)) ≡ r) × (r ≤ 2147483648) ⌝ }
+{
+    let e = i / 0x80_0000;
+    if e < 126 {
+        return 0;
+    }
+    if e < 158 {
+        let m = wide(0x80_0000 + i % 0x80_0000);
+        let k = wide(e - 126);
+        let moved = m << k;
+        return ((moved + 0x80_0000) / 0x100_0000) as u32;
+    }
+    0x8000_0000
+}
+
+// `x.round() as i32`, plus 2^31.
+pub fn whole(x: f32) -> u32
+    ensures { λ r. ⌜ r ≡ placeOf (wholeOf x) ⌝ }
+{
+    if x != x {
+        return 0x8000_0000;
+    }
+    let i = f32::to_bits(x);
+    if i < 0x8000_0000 {
+        let m = magnitude(i);
+        if m == 0x8000_0000 {
+            return 0xffff_ffff;
+        }
+        return 0x8000_0000 + m;
+    }
+    let m = magnitude(i - 0x8000_0000);
+    0x8000_0000 - m
+}
+
+fn step(x: f32, scale: f32) -> u32
+    ensures { λ r. ⌜ r ≡ stepOf scale x ⌝ }
+{
+    whole(x * scale)
+}
+
+// The keys of n points whose parts stand from `at` on, to the places from `put` on.
+fn point_keys(
+    area: &[f32],
+    n: usize,
+    at: usize,
+    put: usize,
+    scale: f32,
+    hi: &mut [u64],
+    lo: &mut [u64],
+)
+    requires { ⌜ at + 3 * n ≤ length (now area) ⌝ }
+    requires { ⌜ put + n ≤ length (now hi) ⌝ }
+    requires { ⌜ put + n ≤ length (now lo) ⌝ }
+    ensures { λ _. ⌜ ((j : ℕ) → j < n → keyAt (now (hi .exit)) (now (lo .exit)) (put + j) ≡ numberOf (keyBy scale (vecAtOf (now (area .entry)) n (j + at)))) ⌝ }
+    ensures { λ _. ⌜ ((j : ℕ) → j < n → getD (now (lo .exit)) (put + j) 0 < 4294967296) ⌝ }
+    ensures { λ _. ⌜ ((q : ℕ) → q < put → getD (now (hi .exit)) q 0 ≡ getD (now (hi .entry)) q 0) ⌝ }
+    ensures { λ _. ⌜ ((q : ℕ) → q < put → getD (now (lo .exit)) q 0 ≡ getD (now (lo .entry)) q 0) ⌝ }
+{
+    let mut i = 0;
+    while i < n {
+        let x = step(area[i + at], scale);
+        let y = step(area[i + at + n], scale);
+        let z = step(area[i + at + 2 * n], scale);
+        hi[put + i] = pair(x, y);
+        lo[put + i] = wide(z);
+        i += 1;
+    }
+}
+
+// The keys of all corners in steps of 1 / scale: corner c of triangle i goes to c * n + i.
+pub fn corner_keys(area: &[f32], n: usize, scale: f32, hi: &mut [u64], lo: &mut [u64])
+    requires { ⌜ 9 * n ≤ length (now area) ⌝ }
+    requires { ⌜ length (now hi) ≡ 3 * n ⌝ }
+    requires { ⌜ length (now lo) ≡ 3 * n ⌝ }
+    ensures { λ _. ⌜ Below 4294967296 (now (lo .exit)) ⌝ }
+    ensures { λ _. ⌜ ((i : ℕ) → i < n → keyAt (now (hi .exit)) (now (lo .exit)) i ≡ numberOf (keyBy scale (vecAtOf (now (area .entry)) n i))) ⌝ }
+    ensures { λ _. ⌜ ((i : ℕ) → i < n → keyAt (now (hi .exit)) (now (lo .exit)) (n + i) ≡ numberOf (keyBy scale (vecAtOf (now (area .entry)) n (i + 3 * n)))) ⌝ }
+    ensures { λ _. ⌜ ((i : ℕ) → i < n → keyAt (now (hi .exit)) (now (lo .exit)) (2 * n + i) ≡ numberOf (keyBy scale (vecAtOf (now (area .entry)) n (i + 6 * n)))) ⌝ }
+{
+    point_keys(area, n, 0, 0, scale, hi, lo);
+    point_keys(area, n, 3 * n, n, scale, hi, lo);
+    point_keys(area, n, 6 * n, 2 * n, scale, hi, lo);
+}
+
+// STEP 1 of the planes: first[i] becomes i exactly where no earlier triangle has the same vertices.
+pub fn duplicates(
+    area: &[f32],
+    n: usize,
+    vhi: &mut [u64],
+    vlo: &mut [u64],
+    index: &mut [u32],
+    words: &mut [u64],
+    scratch: &mut [u64],
+    id: &mut [u32],
+    fhi: &mut [u64],
+    flo: &mut [u64],
+    first: &mut [u32],
+)
+    requires { ⌜ 3 * n ≤ 4294967296 ⌝ }
+    requires { ⌜ columnCount * n ≤ length (now area) ⌝ }
+    requires { ⌜ length (now vhi) ≡ 3 * n ⌝ }
+    requires { ⌜ length (now vlo) ≡ 3 * n ⌝ }
+    requires { ⌜ length (now index) ≡ 3 * n ⌝ }
+    requires { ⌜ length (now words) ≡ 3 * n ⌝ }
+    requires { ⌜ length (now scratch) ≡ 3 * n ⌝ }
+    requires { ⌜ length (now id) ≡ 3 * n ⌝ }
+    requires { ⌜ length (now fhi) ≡ n ⌝ }
+    requires { ⌜ length (now flo) ≡ n ⌝ }
+    requires { ⌜ length (now first) ≡ n ⌝ }
+    ensures { λ _. ⌜ ((i : ℕ) → i < n → eqb (getD (now (first .exit)) i 0) i ≡ isFirst (facesIn (now (area .entry)) n) i) ⌝ }
+{
+    corner_keys(area, n, 1000.0, vhi, vlo);
+    first_faces(vhi, vlo, n, index, words, scratch, id, fhi, flo, first);
+}

@@ -1,0 +1,80 @@
+-- The scene `cells`: the order of the 27 cells. Its planes are those that the Rust gave, bit for bit (the dump of the reference), by evaluation.
+use mathlib.Core.Path.{_≡_, refl}
+use mathlib.Core.Bool.{Bool, true, false}
+use mathlib.Core.List.{List, [], _∷_, flatMap}
+use lib.IntN.{pos, negsuc}
+use lib.Ieee.{fin, add, sub, mul, div, neg, lt, le, eq, isNan, ofBits, round, toBits}
+use Rattle.geometry.specs.declared.Triangle.{Triangle}
+use Rattle.planes.specs.Lists.{filterBy, allBy, countBy}
+use Rattle.planes.specs.Triangles.{triangleAt, cornersOf, boxOf}
+use Rattle.planes.specs.Normal.{largerPartOf, largestPartOf, isTurned, neg3Of, canonicalOf, offsetOf}
+use Rattle.planes.specs.Plane.{Settings, Plane, patchAt, planeAt}
+use Rattle.planes.specs.Patches.{keptOf, cellOf, aroundOf, inCell, isCoplanar, foundOf, newPatch, joinedOf, placedOf, patchesOf}
+use Rattle.planes.specs.Buried.{largerOf, largestOf, signedOf, probeRayOf, isBuried, openOf}
+use Rattle.planes.specs.Merge.{rankOf, descendingKey, seedsOf, verticesOf, runAt, follow, isLinked, isAdjacent, runsOf, inCone, isWithin, takes, grownOf, groupsFrom, groupsOf}
+use Rattle.planes.specs.Fit.{aloneOf, weightedOf, meanNormalOf, totalAreaOf, groupBoxOf, groupTrisOf, heightsOf, meanOffsetOf, spreadOf, fittedOf, planeOf}
+use Rattle.planes.specs.Rank.{sceneBoxOf, centreOf, halfDiagOf, momentsOf, areaCentreOf, importanceOf, rankedOf}
+use Rattle.planes.specs.Border.{edgeKey, keyedOf, sidesOf, isSameEdge, usedOnce, borderOf, borderedOf}
+use Rattle.planes.specs.Build.{openPatchesOf, groupPlanesOf, planesOf}
+use Rattle.faces.specs.Whole.{wholeOf}
+use Rattle.faces.specs.Key.{stepOf, keyBy, sameKey, vertexKey}
+use Rattle.faces.specs.Triples.{anyOrder}
+use Rattle.faces.specs.Faces.{keysOf, faceOf, faceAt, sameFace, isFirst}
+use Rattle.order.specs.Sort.{insert, sortBy}
+use Rattle.order.specs.Runs.{anyBy, firstBy, headOr, upTo}
+use Rattle.float.specs.Compare.{minOf, maxOf, absOf}
+use Rattle.float.specs.Key.{floatKey}
+use Rattle.float.specs.Sqrt.{isqrt, rootOf, sqrtOf}
+use Rattle.vector.specs.Vector.{vec, dot3Of, sub3Of, add3Of, scale3Of, cross3Of, length3Of, distance3Of, normalize3Of}
+use Rattle.geometry.specs.Aabb.{lowOf, highOf, newEmptyOf, unionOf, growOf, fromCornersOf}
+use Rattle.geometry.specs.Triangle.{crossOf, triangleAreaOf, thirdOf, centroidOf}
+use Rattle.geometry.specs.Intersect.{edgesOf, parallelOf, outsideOf, withinOf, solveOf, crossingOf, intersectMaxOf}
+
+abbrev cells-tris : List Triangle
+cells-tris =
+    record { a = (vec (fin false 0 (pos 0)) (fin false 0 (pos 0)) (fin false 0 (pos 0))); b = (vec (fin false 8387635 (negsuc 22)) (fin true 5368709 (negsuc 27)) (fin false 8387635 (negsuc 22))); c = (vec (fin false 8387635 (negsuc 22)) (fin true 7516193 (negsuc 28)) (fin false 0 (pos 0))); normal = (vec (fin false 7516193 (negsuc 28)) (fin false 8387635 (negsuc 22)) (fin false 12884903 (negsuc 30))); «material_handle» = 0 }
+    ∷ record { a = (vec (fin false 0 (pos 0)) (fin false 0 (pos 0)) (fin false 0 (pos 0))); b = (vec (fin false 8387635 (negsuc 21)) (fin true 4429185 (negsuc 26)) (fin false 3145363 (negsuc 20))); c = (vec (fin false 8387635 (negsuc 21)) (fin true 6442451 (negsuc 28)) (fin false 0 (pos 0))); normal = (vec (fin false 12884901 (negsuc 30)) (fin false 16775269 (negsuc 23)) (fin false 7516193 (negsuc 28))); «material_handle» = 0 }
+    ∷ record { a = (vec (fin false 0 (pos 0)) (fin false 0 (pos 0)) (fin false 0 (pos 0))); b = (vec (fin false 6290827 (negsuc 20)) (fin true 16106127 (negsuc 28)) (fin false 0 (pos 0))); c = (vec (fin false 6290827 (negsuc 20)) (fin true 5368709 (negsuc 27)) (fin true 8387769 (negsuc 22))); normal = (vec (fin false 10737417 (negsuc 29)) (fin false 16775537 (negsuc 23)) (fin false 5368709 (negsuc 28))); «material_handle» = 0 }
+    ∷ []
+
+abbrev cells-settings : Settings
+cells-settings = record { most = 32; mergeOn = false; mergeCos = (fin false 8356687 (negsuc 22)); mergeOffset = (fin false 1 (negsuc 1)); buried = (fin false 0 (pos 0)) }
+
+abbrev cells-planes : List Plane
+cells-planes =
+    record {
+      normal = (vec (fin false 12884901 (negsuc 30)) (fin false 16775269 (negsuc 23)) (fin false 7516193 (negsuc 28)));
+      offset = (fin false 0 (pos 0));
+      area = (fin false 6290777 (negsuc 20));
+      box = record { min = (vec (fin false 0 (pos 0)) (fin true 4429185 (negsuc 26)) (fin true 8387769 (negsuc 22))); max = (vec (fin false 6290827 (negsuc 20)) (fin false 0 (pos 0)) (fin false 3145363 (negsuc 20))) };
+      tris = (1 ∷ 2 ∷ []);
+      border = (
+          record { start = (vec (fin false 0 (pos 0)) (fin false 0 (pos 0)) (fin false 0 (pos 0))); end = (vec (fin false 8387635 (negsuc 21)) (fin true 4429185 (negsuc 26)) (fin false 3145363 (negsuc 20))) }
+          ∷ record { start = (vec (fin false 8387635 (negsuc 21)) (fin true 4429185 (negsuc 26)) (fin false 3145363 (negsuc 20))); end = (vec (fin false 8387635 (negsuc 21)) (fin true 6442451 (negsuc 28)) (fin false 0 (pos 0))) }
+          ∷ record { start = (vec (fin false 8387635 (negsuc 21)) (fin true 6442451 (negsuc 28)) (fin false 0 (pos 0))); end = (vec (fin false 0 (pos 0)) (fin false 0 (pos 0)) (fin false 0 (pos 0))) }
+          ∷ record { start = (vec (fin false 0 (pos 0)) (fin false 0 (pos 0)) (fin false 0 (pos 0))); end = (vec (fin false 6290827 (negsuc 20)) (fin true 16106127 (negsuc 28)) (fin false 0 (pos 0))) }
+          ∷ record { start = (vec (fin false 6290827 (negsuc 20)) (fin true 16106127 (negsuc 28)) (fin false 0 (pos 0))); end = (vec (fin false 6290827 (negsuc 20)) (fin true 5368709 (negsuc 27)) (fin true 8387769 (negsuc 22))) }
+          ∷ record { start = (vec (fin false 6290827 (negsuc 20)) (fin true 5368709 (negsuc 27)) (fin true 8387769 (negsuc 22))); end = (vec (fin false 0 (pos 0)) (fin false 0 (pos 0)) (fin false 0 (pos 0))) }
+          ∷ []);
+      fitted = false;
+      spread = (fin false 0 (pos 0));
+    }
+    ∷ record {
+      normal = (vec (fin false 7516193 (negsuc 28)) (fin false 8387635 (negsuc 22)) (fin false 12884903 (negsuc 30)));
+      offset = (fin false 0 (pos 0));
+      area = (fin false 8387635 (negsuc 23));
+      box = record { min = (vec (fin false 0 (pos 0)) (fin true 5368709 (negsuc 27)) (fin false 0 (pos 0))); max = (vec (fin false 8387635 (negsuc 22)) (fin false 0 (pos 0)) (fin false 8387635 (negsuc 22))) };
+      tris = (0 ∷ []);
+      border = (
+          record { start = (vec (fin false 0 (pos 0)) (fin false 0 (pos 0)) (fin false 0 (pos 0))); end = (vec (fin false 8387635 (negsuc 22)) (fin true 5368709 (negsuc 27)) (fin false 8387635 (negsuc 22))) }
+          ∷ record { start = (vec (fin false 8387635 (negsuc 22)) (fin true 5368709 (negsuc 27)) (fin false 8387635 (negsuc 22))); end = (vec (fin false 8387635 (negsuc 22)) (fin true 7516193 (negsuc 28)) (fin false 0 (pos 0))) }
+          ∷ record { start = (vec (fin false 8387635 (negsuc 22)) (fin true 7516193 (negsuc 28)) (fin false 0 (pos 0))); end = (vec (fin false 0 (pos 0)) (fin false 0 (pos 0)) (fin false 0 (pos 0))) }
+          ∷ []);
+      fitted = false;
+      spread = (fin false 0 (pos 0));
+    }
+    ∷ []
+
+cells-built : planesOf cells-settings (λ r. false) cells-tris ≡ cells-planes
+unfolding filterBy allBy countBy triangleAt cornersOf boxOf largerPartOf largestPartOf isTurned neg3Of canonicalOf offsetOf patchAt planeAt keptOf cellOf aroundOf inCell isCoplanar foundOf newPatch joinedOf placedOf patchesOf largerOf largestOf signedOf probeRayOf isBuried openOf rankOf descendingKey seedsOf verticesOf runAt follow isLinked isAdjacent runsOf inCone isWithin takes grownOf groupsFrom groupsOf aloneOf weightedOf meanNormalOf totalAreaOf groupBoxOf groupTrisOf heightsOf meanOffsetOf spreadOf fittedOf planeOf sceneBoxOf centreOf halfDiagOf momentsOf areaCentreOf importanceOf rankedOf edgeKey keyedOf sidesOf isSameEdge usedOnce borderOf borderedOf openPatchesOf groupPlanesOf planesOf wholeOf stepOf keyBy sameKey vertexKey anyOrder keysOf faceOf faceAt sameFace isFirst insert sortBy anyBy firstBy headOr upTo minOf maxOf absOf floatKey isqrt rootOf sqrtOf dot3Of sub3Of add3Of scale3Of cross3Of length3Of distance3Of normalize3Of lowOf highOf newEmptyOf unionOf growOf fromCornersOf crossOf triangleAreaOf thirdOf centroidOf edgesOf parallelOf outsideOf withinOf solveOf crossingOf intersectMaxOf add sub mul div neg lt le eq isNan ofBits flatMap round toBits
+cells-built = refl

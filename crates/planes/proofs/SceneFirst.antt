@@ -1,0 +1,84 @@
+-- The scene `first`: of two coplanar patches, the first cell's comes before the first made. Its planes are those that the Rust gave, bit for bit (the dump of the reference), by evaluation.
+use mathlib.Core.Path.{_≡_, refl}
+use mathlib.Core.Bool.{Bool, true, false}
+use mathlib.Core.List.{List, [], _∷_, flatMap}
+use lib.IntN.{pos, negsuc}
+use lib.Ieee.{fin, add, sub, mul, div, neg, lt, le, eq, isNan, ofBits, round, toBits}
+use Rattle.geometry.specs.declared.Triangle.{Triangle}
+use Rattle.planes.specs.Lists.{filterBy, allBy, countBy}
+use Rattle.planes.specs.Triangles.{triangleAt, cornersOf, boxOf}
+use Rattle.planes.specs.Normal.{largerPartOf, largestPartOf, isTurned, neg3Of, canonicalOf, offsetOf}
+use Rattle.planes.specs.Plane.{Settings, Plane, patchAt, planeAt}
+use Rattle.planes.specs.Patches.{keptOf, cellOf, aroundOf, inCell, isCoplanar, foundOf, newPatch, joinedOf, placedOf, patchesOf}
+use Rattle.planes.specs.Buried.{largerOf, largestOf, signedOf, probeRayOf, isBuried, openOf}
+use Rattle.planes.specs.Merge.{rankOf, descendingKey, seedsOf, verticesOf, runAt, follow, isLinked, isAdjacent, runsOf, inCone, isWithin, takes, grownOf, groupsFrom, groupsOf}
+use Rattle.planes.specs.Fit.{aloneOf, weightedOf, meanNormalOf, totalAreaOf, groupBoxOf, groupTrisOf, heightsOf, meanOffsetOf, spreadOf, fittedOf, planeOf}
+use Rattle.planes.specs.Rank.{sceneBoxOf, centreOf, halfDiagOf, momentsOf, areaCentreOf, importanceOf, rankedOf}
+use Rattle.planes.specs.Border.{edgeKey, keyedOf, sidesOf, isSameEdge, usedOnce, borderOf, borderedOf}
+use Rattle.planes.specs.Build.{openPatchesOf, groupPlanesOf, planesOf}
+use Rattle.faces.specs.Whole.{wholeOf}
+use Rattle.faces.specs.Key.{stepOf, keyBy, sameKey, vertexKey}
+use Rattle.faces.specs.Triples.{anyOrder}
+use Rattle.faces.specs.Faces.{keysOf, faceOf, faceAt, sameFace, isFirst}
+use Rattle.order.specs.Sort.{insert, sortBy}
+use Rattle.order.specs.Runs.{anyBy, firstBy, headOr, upTo}
+use Rattle.float.specs.Compare.{minOf, maxOf, absOf}
+use Rattle.float.specs.Key.{floatKey}
+use Rattle.float.specs.Sqrt.{isqrt, rootOf, sqrtOf}
+use Rattle.vector.specs.Vector.{vec, dot3Of, sub3Of, add3Of, scale3Of, cross3Of, length3Of, distance3Of, normalize3Of}
+use Rattle.geometry.specs.Aabb.{lowOf, highOf, newEmptyOf, unionOf, growOf, fromCornersOf}
+use Rattle.geometry.specs.Triangle.{crossOf, triangleAreaOf, thirdOf, centroidOf}
+use Rattle.geometry.specs.Intersect.{edgesOf, parallelOf, outsideOf, withinOf, solveOf, crossingOf, intersectMaxOf}
+
+abbrev first-tris : List Triangle
+first-tris =
+    record { a = (vec (fin false 0 (pos 0)) (fin false 0 (pos 0)) (fin false 0 (pos 0))); b = (vec (fin false 8387639 (negsuc 22)) (fin true 16320247 (negsuc 29)) (fin false 1 (pos 0))); c = (vec (fin false 8387639 (negsuc 22)) (fin true 16320247 (negsuc 29)) (fin false 0 (pos 0))); normal = (vec (fin false 16320247 (negsuc 29)) (fin false 8387639 (negsuc 22)) (fin false 0 (pos 0))); «material_handle» = 0 }
+    ∷ record { a = (vec (fin false 0 (pos 0)) (fin false 0 (pos 0)) (fin false 0 (pos 0))); b = (vec (fin false 16777023 (negsuc 22)) (fin true 5153941 (negsuc 28)) (fin false 3 (negsuc 0))); c = (vec (fin false 16777023 (negsuc 22)) (fin true 5153941 (negsuc 28)) (fin false 0 (pos 0))); normal = (vec (fin false 5153941 (negsuc 29)) (fin false 16777023 (negsuc 23)) (fin false 0 (pos 0))); «material_handle» = 0 }
+    ∷ record { a = (vec (fin false 0 (pos 0)) (fin false 0 (pos 0)) (fin false 0 (pos 0))); b = (vec (fin false 12582283 (negsuc 21)) (fin true 16105859 (negsuc 28)) (fin false 0 (pos 0))); c = (vec (fin false 12582283 (negsuc 21)) (fin true 16105859 (negsuc 28)) (fin true 1 (pos 0))); normal = (vec (fin false 5368619 (negsuc 28)) (fin false 2097047 (negsuc 20)) (fin false 0 (pos 0))); «material_handle» = 0 }
+    ∷ record { a = (vec (fin false 0 (pos 0)) (fin false 0 (pos 0)) (fin false 0 (pos 0))); b = (vec (fin false 8388197 (negsuc 20)) (fin true 5314935 (negsuc 26)) (fin false 0 (pos 0))); c = (vec (fin false 8388197 (negsuc 20)) (fin true 5314935 (negsuc 26)) (fin true 1 (pos 1))); normal = (vec (fin false 5314935 (negsuc 28)) (fin false 8388197 (negsuc 22)) (fin false 0 (pos 0))); «material_handle» = 0 }
+    ∷ []
+
+abbrev first-settings : Settings
+first-settings = record { most = 32; mergeOn = false; mergeCos = (fin false 8356687 (negsuc 22)); mergeOffset = (fin false 1 (negsuc 1)); buried = (fin false 0 (pos 0)) }
+
+abbrev first-planes : List Plane
+first-planes =
+    record {
+      normal = (vec (fin false 5153941 (negsuc 29)) (fin false 16777023 (negsuc 23)) (fin false 0 (pos 0)));
+      offset = (fin false 0 (pos 0));
+      area = (fin false 7 (pos 0));
+      box = record { min = (vec (fin false 0 (pos 0)) (fin true 5314935 (negsuc 26)) (fin true 1 (pos 1))); max = (vec (fin false 8388197 (negsuc 20)) (fin false 0 (pos 0)) (fin false 3 (negsuc 0))) };
+      tris = (1 ∷ 2 ∷ 3 ∷ []);
+      border = (
+          record { start = (vec (fin false 0 (pos 0)) (fin false 0 (pos 0)) (fin false 0 (pos 0))); end = (vec (fin false 16777023 (negsuc 22)) (fin true 5153941 (negsuc 28)) (fin false 3 (negsuc 0))) }
+          ∷ record { start = (vec (fin false 16777023 (negsuc 22)) (fin true 5153941 (negsuc 28)) (fin false 3 (negsuc 0))); end = (vec (fin false 16777023 (negsuc 22)) (fin true 5153941 (negsuc 28)) (fin false 0 (pos 0))) }
+          ∷ record { start = (vec (fin false 16777023 (negsuc 22)) (fin true 5153941 (negsuc 28)) (fin false 0 (pos 0))); end = (vec (fin false 0 (pos 0)) (fin false 0 (pos 0)) (fin false 0 (pos 0))) }
+          ∷ record { start = (vec (fin false 0 (pos 0)) (fin false 0 (pos 0)) (fin false 0 (pos 0))); end = (vec (fin false 12582283 (negsuc 21)) (fin true 16105859 (negsuc 28)) (fin false 0 (pos 0))) }
+          ∷ record { start = (vec (fin false 12582283 (negsuc 21)) (fin true 16105859 (negsuc 28)) (fin false 0 (pos 0))); end = (vec (fin false 12582283 (negsuc 21)) (fin true 16105859 (negsuc 28)) (fin true 1 (pos 0))) }
+          ∷ record { start = (vec (fin false 12582283 (negsuc 21)) (fin true 16105859 (negsuc 28)) (fin true 1 (pos 0))); end = (vec (fin false 0 (pos 0)) (fin false 0 (pos 0)) (fin false 0 (pos 0))) }
+          ∷ record { start = (vec (fin false 0 (pos 0)) (fin false 0 (pos 0)) (fin false 0 (pos 0))); end = (vec (fin false 8388197 (negsuc 20)) (fin true 5314935 (negsuc 26)) (fin false 0 (pos 0))) }
+          ∷ record { start = (vec (fin false 8388197 (negsuc 20)) (fin true 5314935 (negsuc 26)) (fin false 0 (pos 0))); end = (vec (fin false 8388197 (negsuc 20)) (fin true 5314935 (negsuc 26)) (fin true 1 (pos 1))) }
+          ∷ record { start = (vec (fin false 8388197 (negsuc 20)) (fin true 5314935 (negsuc 26)) (fin true 1 (pos 1))); end = (vec (fin false 0 (pos 0)) (fin false 0 (pos 0)) (fin false 0 (pos 0))) }
+          ∷ []);
+      fitted = false;
+      spread = (fin false 0 (pos 0));
+    }
+    ∷ record {
+      normal = (vec (fin false 16320247 (negsuc 29)) (fin false 8387639 (negsuc 22)) (fin false 0 (pos 0)));
+      offset = (fin false 0 (pos 0));
+      area = (fin false 1 (negsuc 0));
+      box = record { min = (vec (fin false 0 (pos 0)) (fin true 16320247 (negsuc 29)) (fin false 0 (pos 0))); max = (vec (fin false 8387639 (negsuc 22)) (fin false 0 (pos 0)) (fin false 1 (pos 0))) };
+      tris = (0 ∷ []);
+      border = (
+          record { start = (vec (fin false 0 (pos 0)) (fin false 0 (pos 0)) (fin false 0 (pos 0))); end = (vec (fin false 8387639 (negsuc 22)) (fin true 16320247 (negsuc 29)) (fin false 1 (pos 0))) }
+          ∷ record { start = (vec (fin false 8387639 (negsuc 22)) (fin true 16320247 (negsuc 29)) (fin false 1 (pos 0))); end = (vec (fin false 8387639 (negsuc 22)) (fin true 16320247 (negsuc 29)) (fin false 0 (pos 0))) }
+          ∷ record { start = (vec (fin false 8387639 (negsuc 22)) (fin true 16320247 (negsuc 29)) (fin false 0 (pos 0))); end = (vec (fin false 0 (pos 0)) (fin false 0 (pos 0)) (fin false 0 (pos 0))) }
+          ∷ []);
+      fitted = false;
+      spread = (fin false 0 (pos 0));
+    }
+    ∷ []
+
+first-built : planesOf first-settings (λ r. false) first-tris ≡ first-planes
+unfolding filterBy allBy countBy triangleAt cornersOf boxOf largerPartOf largestPartOf isTurned neg3Of canonicalOf offsetOf patchAt planeAt keptOf cellOf aroundOf inCell isCoplanar foundOf newPatch joinedOf placedOf patchesOf largerOf largestOf signedOf probeRayOf isBuried openOf rankOf descendingKey seedsOf verticesOf runAt follow isLinked isAdjacent runsOf inCone isWithin takes grownOf groupsFrom groupsOf aloneOf weightedOf meanNormalOf totalAreaOf groupBoxOf groupTrisOf heightsOf meanOffsetOf spreadOf fittedOf planeOf sceneBoxOf centreOf halfDiagOf momentsOf areaCentreOf importanceOf rankedOf edgeKey keyedOf sidesOf isSameEdge usedOnce borderOf borderedOf openPatchesOf groupPlanesOf planesOf wholeOf stepOf keyBy sameKey vertexKey anyOrder keysOf faceOf faceAt sameFace isFirst insert sortBy anyBy firstBy headOr upTo minOf maxOf absOf floatKey isqrt rootOf sqrtOf dot3Of sub3Of add3Of scale3Of cross3Of length3Of distance3Of normalize3Of lowOf highOf newEmptyOf unionOf growOf fromCornersOf crossOf triangleAreaOf thirdOf centroidOf edgesOf parallelOf outsideOf withinOf solveOf crossingOf intersectMaxOf add sub mul div neg lt le eq isNan ofBits flatMap round toBits
+first-built = refl

@@ -1,0 +1,24 @@
+-- THE MIRROR PLANES of a scene: `build_planes`. `probe` says whether a ray hits something within its reach.
+use mathlib.Core.Bool.{Bool}
+use mathlib.Core.List.{List, map}
+use Rattle.vector.specs.declared.Ray.{Ray}
+use Rattle.geometry.specs.declared.Triangle.{Triangle}
+use Rattle.planes.specs.Plane.{Settings, Patch, Plane}
+use Rattle.planes.specs.Patches.{patchesOf}
+use Rattle.planes.specs.Buried.{openOf}
+use Rattle.planes.specs.Merge.{groupsOf}
+use Rattle.planes.specs.Fit.{planeOf}
+use Rattle.planes.specs.Rank.{rankedOf}
+use Rattle.planes.specs.Border.{borderedOf}
+
+-- steps 1 to 3
+unfoldable pub openPatchesOf : Settings → (Ray → Bool) → List Triangle → List Patch
+openPatchesOf s probe ts = openOf probe ts (s .buried) (patchesOf ts)
+
+-- step 4, and a plane for each group
+unfoldable pub groupPlanesOf : Settings → List Triangle → List Patch → List Plane
+groupPlanesOf s ts ps = map (planeOf ts ps) (groupsOf s ts ps)
+
+-- step 5, and the borders
+unfoldable pub planesOf : Settings → (Ray → Bool) → List Triangle → List Plane
+planesOf s probe ts = map (borderedOf ts) (rankedOf ts (s .most) (groupPlanesOf s ts (openPatchesOf s probe ts)))

@@ -1,0 +1,28 @@
+-- The triangles of a scene by number, and their corners.
+use mathlib.Core.List.{List, [], _∷_}
+use Prim.Native.Nat.{ℕ}
+use lib.ListN.{getD}
+use lib.Ieee.{nan}
+use Rattle.vector.specs.declared.Vec3.{Vec3}
+use Rattle.vector.specs.Vector.{vec}
+use Rattle.geometry.specs.declared.Aabb.{Aabb}
+use Rattle.geometry.specs.declared.Triangle.{Triangle}
+use Rattle.geometry.specs.Aabb.{fromCornersOf}
+
+abbrev pub noVec : Vec3
+noVec = vec nan nan nan
+
+abbrev pub noTriangle : Triangle
+noTriangle = record { a = noVec; b = noVec; c = noVec; normal = noVec; «material_handle» = 0 }
+
+-- `triangles[i]`
+unfoldable pub triangleAt : List Triangle → ℕ → Triangle
+triangleAt ts i = getD ts i noTriangle
+
+-- `[t.a, t.b, t.c]`
+unfoldable pub cornersOf : Triangle → List Vec3
+cornersOf t = t .a ∷ t .b ∷ t .c ∷ []
+
+-- `t.aabb()`
+unfoldable pub boxOf : Triangle → Aabb
+boxOf t = fromCornersOf (t .a) (t .b) (t .c)
