@@ -1,0 +1,3 @@
+-- The laws of the claim.
+pub mod Whole
+pub mod Searching
