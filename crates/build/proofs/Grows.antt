@@ -4,18 +4,15 @@
 --     built-node      a node over two trees that stand one after the other
 --     built-step      one step of the recursion
 use mathlib.Core.Path.{_≡_, refl, sym, ap, _∙_, subst}
-use mathlib.Core.Logic.{_⊎_, inl, inr, ⊎-elim}
-use mathlib.Core.Bool.{Bool, true, false, cond}
-use mathlib.Core.List.{List, [], _∷_, _++_}
+use mathlib.Core.Logic.{inl, inr}
+use mathlib.Core.List.{List}
 use Prim.Native.Nat.{ℕ, zero, suc, _+_, _-_, _*_, _<_, _≤_}
-use native.Mathlib.Numerals.{add-one}
 use native.Mathlib.Omega.{arith}
 use lib.Ieee.{Float, nan}
-use lib.Dec.{eqb, leb}
 use lib.ListN.{length, take, drop, getD, List·getD-append}
 use lib.Seq.{length-take-le, getD-take, getD-drop, take-at, drop-at}
 use borrow.Author.Tests.{eq-eqb, ne-eqb, le-leb, lt-leb}
-use borrow.Rule.Slice.PartMut.{putMid, same-len-mid, drop-put}
+use borrow.Rule.Slice.PartMut.{putMid, drop-put}
 use Rattle.vector.specs.declared.Vec3.{Vec3}
 use Rattle.geometry.specs.declared.Aabb.{Aabb}
 use Rattle.order.specs.Sort.{Below}
@@ -23,12 +20,12 @@ use Rattle.order.proofs.Laws.{below-append, below-take, below-drop}
 use Rattle.float.proofs.Numbers.{by-order}
 use Rattle.order.proofs.Stable.{by-eq}
 use Rattle.geometry.specs.Aabb.{unionOf}
-use Rattle.split.specs.Split.{Divided, divided, splitOf, boundsOf}
+use Rattle.split.specs.Split.{divided, splitOf, boundsOf}
 use Rattle.build.specs.declared.Links.{Links}
-use Rattle.build.specs.Tree.{Tree, leaf, node, boxOf, leafOf, innerOf, branchOf, buildSahOf}
-use Rattle.build.specs.Areas.{boxAtOf, linksOf, linksAtOf, part, readOf, treeAtOf, Same, Linked, Sound, Wrote, Listed, Sorts, Room, Built, Parted, Chosen}
+use Rattle.build.specs.Tree.{Tree, node, boxOf, leafOf, innerOf, branchOf, buildSahOf}
+use Rattle.build.specs.Areas.{boxAtOf, linksOf, linksAtOf, part, readOf, treeAtOf, Same, Sound, Wrote, Listed, Sorts, Room, Built, Parted, Chosen}
 use Rattle.build.proofs.Stores.{same-refl, same-trans, same-within, part-length, part-same, part-left, part-right}
-use Rattle.build.proofs.Frame.{row-same, link-same, tree-box, tree-same, read-node, read-leaf, linked-wider, sound-same}
+use Rattle.build.proofs.Frame.{row-same, tree-box, tree-same, read-node, read-leaf, linked-wider, sound-same}
 
 -- ---- a part that was lent and came back
 module _ (lo hi : ℕ) (p ys : List ℕ) (order : lo ≤ hi) (within : hi ≤ length p) (kept : length ys ≡ length (part lo hi p)) where

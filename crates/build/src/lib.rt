@@ -4,7 +4,7 @@ use geometry::Aabb;
 use vector::Vec3;
 ghost use mathlib.Core.Path.{_≡_};
 ghost use Prim.Native.Nat.{ℕ, _+_, _-_, _*_, _^_, _<_, _≤_};
-ghost use lib.ListN.{length, getD, take, drop};
+ghost use lib.ListN.{length};
 ghost use Rattle.geometry.specs.Aabb.{unionOf};
 ghost use Rattle.split.specs.Split.{aabbAtOf, centroidAtOf};
 ghost use Rattle.build.specs.Tree.{leafOf, buildSahOf};

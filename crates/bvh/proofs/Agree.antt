@@ -1,11 +1,11 @@
 -- The tree depends on the boxes and centroids of its own triangles only (`build-agree`), and its trace on its own triangles (`trace-agree`):
 -- functions that agree below n give the same of lists below n. By induction, each step by `rw` with the parts' laws.
-use mathlib.Core.Path.{_≡_, refl, sym, ap, _∙_}
-use mathlib.Core.Bool.{Bool, true, false, cond}
+use mathlib.Core.Path.{_≡_, refl, ap, _∙_}
+use mathlib.Core.Bool.{cond}
 use mathlib.Core.List.{List, [], _∷_, _++_, foldl}
-use Prim.Native.Nat.{ℕ, zero, suc, _+_, _-_, _<_, _≤_}
-use lib.Ieee.{Float, le, lt}
-use lib.Dec.{eqb, leb}
+use Prim.Native.Nat.{ℕ, zero, suc, _-_, _<_}
+use lib.Ieee.{Float, lt}
+use lib.Dec.{leb}
 use lib.ListN.{length, take, drop}
 use Rattle.order.specs.Sort.{Below}
 use Rattle.order.proofs.Laws.{below-none, below-cons, below-head, below-tail, below-take, below-drop}
@@ -14,8 +14,8 @@ use Rattle.vector.specs.Vector.{axisOf}
 use Rattle.geometry.specs.declared.Aabb.{Aabb}
 use Rattle.geometry.specs.Aabb.{newEmptyOf, unionOf, fromPointOf}
 use Rattle.split.specs.declared.BestSplit.{BestSplit}
-use Rattle.split.specs.Split.{Found, found, Divided, divided, insertOn, sortOn, boundsOf, suffixOf, tryOf, sweepOf, searchAxisOf, searchAxesOf, spanOf, bestSplit, leastSpan, lastSort, splitOf}
-use Rattle.build.specs.Tree.{Tree, leaf, node, leafOf, innerOf, branchOf, leafThreshold, buildSahOf}
+use Rattle.split.specs.Split.{Found, found, Divided, insertOn, sortOn, boundsOf, suffixOf, tryOf, sweepOf, searchAxisOf, searchAxesOf, spanOf, bestSplit, leastSpan, lastSort, splitOf}
+use Rattle.build.specs.Tree.{Tree, leaf, node, leafOf, branchOf, leafThreshold, buildSahOf}
 use Rattle.build.specs.Tree.{boxOf, leavesOf}
 use Rattle.geometry.specs.declared.Triangle.{Triangle}
 use Rattle.vector.specs.declared.Ray.{Ray}

@@ -3,16 +3,16 @@
 --     tree-padded      padded boxes read as the padded tree
 --     stands, traced   what the build leaves, and what a trace reads of it
 use mathlib.Core.Path.{_≡_, refl, sym, ap, _∙_, subst}
-use mathlib.Core.Logic.{_⊎_, inl, inr, ⊎-elim}
-use mathlib.Core.Bool.{Bool, true, false, not, cond, _&&_}
-use mathlib.Core.List.{List, [], _∷_}
+use mathlib.Core.Logic.{⊎-elim}
+use mathlib.Core.Bool.{Bool, true, false, not, _&&_}
+use mathlib.Core.List.{List, []}
 use Prim.Native.Nat.{ℕ, zero, suc, _+_, _-_, _*_, _<_, _≤_}
 use native.Mathlib.Nat.{not-suc-le-zero}
 use native.Mathlib.Omega.{arith}
-use lib.Dec.{T, leb}
+use lib.Dec.{T}
 use lib.Ieee.{Float, nan, inf, fin, binary32, fits, isNan, le}
 use lib.Ieee.Fits.{div-fits}
-use lib.ListN.{length, getD, set, take, drop}
+use lib.ListN.{length, getD, set}
 use lib.Seq.{sets, getD-set-same, getD-set-other, ext-getD, take-all}
 use Rattle.float.specs.Compare.{isFinite}
 use Rattle.float.specs.Key.{floatKey}
@@ -25,8 +25,7 @@ use Rattle.geometry.specs.declared.Aabb.{Aabb}
 use Rattle.geometry.specs.declared.Edges.{Edges}
 use Rattle.geometry.specs.Triangle as triangle
 use Rattle.geometry.specs.Slab.{paddedOf}
-use Rattle.geometry.specs.Intersect.{edgesOf}
-use Rattle.columns.specs.Columns.{columnCount, triangleAtOf, vecAtOf}
+use Rattle.columns.specs.Columns.{triangleAtOf, vecAtOf}
 use Rattle.columns.specs.Columns as columns
 use Rattle.split.specs.Split.{aabbAtOf, centroidAtOf, InOrder, Keyed}
 use Rattle.build.specs.declared.Links.{Links}
@@ -34,8 +33,8 @@ use Rattle.build.specs.Tree.{Tree, leaf, node, buildSahOf, countTo}
 use Rattle.build.specs.Areas.{boxAtOf, linksAtOf, readOf, treeAtOf, part, Linked, Sound, Built}
 use Rattle.build.proofs.Frame.{read-node, read-leaf}
 use Rattle.trace.specs.Leaf.{cornerAtOf, edgesAtOf, Rows}
-use Rattle.trace.specs.Trace.{paddedTreeOf, Held}
-use Rattle.bvh.specs.Bvh.{aabbOf, centroidOf, treeOf, boxRow, extentRow, edgesRow, allFinite, finiteOf, Keys, Lent, Stands, Edged, Traced, TreeOf, BvhOf}
+use Rattle.trace.specs.Trace.{paddedTreeOf}
+use Rattle.bvh.specs.Bvh.{aabbOf, centroidOf, treeOf, boxRow, extentRow, edgesRow, allFinite, finiteOf, Keys, Stands, Edged, Traced, TreeOf}
 use Rattle.bvh.proofs.Agree.{build-agree}
 use Rattle.bvh.proofs.Rows as rows
 

@@ -2,22 +2,20 @@
 -- the list.
 --     sort-on-perm, split-perm     the sort, and the list as the split leaves it
 --     perm-below                   a permutation of triangles below n has triangles below n
-use mathlib.Core.Path.{_≡_, refl, sym, ap, _∙_, subst}
+use mathlib.Core.Path.{_≡_, refl, ap, subst}
 use mathlib.Core.Bool.{Bool, true, false, cond}
 use mathlib.Core.List.{List, [], _∷_, _++_}
-use Prim.Native.Nat.{ℕ, zero, suc, _+_, _-_, _<_, _≤_}
+use Prim.Native.Nat.{ℕ, zero, suc, _-_}
 use lib.Ieee.{Float, le, lt}
 use lib.Dec.{eqb, leb}
 use lib.ListN.{length, take, drop}
 use Rattle.order.specs.Sort.{Below, Perm, none, skip, swap, then}
-use Rattle.order.proofs.Laws.{below-none, below-cons, below-head, below-tail}
+use Rattle.order.proofs.Laws.{below-cons, below-head, below-tail}
 use Rattle.vector.specs.declared.Vec3.{Vec3}
 use Rattle.vector.specs.Vector.{axisOf}
 use Rattle.geometry.specs.declared.Aabb.{Aabb}
-use Rattle.geometry.specs.Aabb.{most}
-use Rattle.split.specs.declared.BestSplit.{BestSplit}
-use Rattle.split.specs.Split.{Found, found, Divided, divided, insertOn, sortOn, sweepOf, searchAxisOf, searchAxesOf, spanOf, bestSplit, leastSpan, splitOf}
-use Rattle.build.specs.Tree.{Tree, leaf, node, leavesOf, leafOf, innerOf, leafThreshold, buildSahOf, countTo, buildOf}
+use Rattle.split.specs.Split.{Found, found, Divided, divided, insertOn, sortOn, sweepOf, searchAxisOf, searchAxesOf, leastSpan, splitOf}
+use Rattle.build.specs.Tree.{Tree, leavesOf, leafOf, innerOf, leafThreshold, buildSahOf, countTo, buildOf}
 
 -- ---- permutations
 

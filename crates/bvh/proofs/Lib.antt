@@ -2,5 +2,6 @@
 pub mod Leaves
 pub mod Agree
 pub mod Hits
+mod Examples
 mod Rows
 mod Laws

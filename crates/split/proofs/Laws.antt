@@ -5,12 +5,11 @@
 --     split-none, split-some, found-below     the split, which is below the list's length
 use mathlib.Core.Path.{_≡_, refl, sym, ap, _∙_}
 use mathlib.Core.Bool.{Bool, true, false, cond}
-use mathlib.Core.List.{List, [], _∷_, _++_, foldl, foldl-append}
+use mathlib.Core.List.{List, [], _∷_, foldl-append}
 use Prim.Native.Nat.{ℕ, zero, suc, _+_, _-_, _<_, _≤_}
 use native.Mathlib.Numerals.{add-one}
 use native.Mathlib.Omega.{arith}
 use lib.Ieee.{Float, nan, le, lt, sub, binary32}
-use lib.Dec.{leb, eqb}
 use borrow.Author.Tests.{eq-eqb, ne-eqb}
 use lib.ListN.{length, take, drop, getD, set, drop-of-length-le}
 use lib.Seq.{take-suc, drop-cons, take-length, getD-set-same, getD-set-other}
@@ -22,7 +21,7 @@ use Rattle.order.proofs.Laws.{below-head, below-tail, below-sort}
 use Rattle.split.specs.declared.BestSplit.{BestSplit}
 use Rattle.vector.specs.declared.Vec3.{Vec3}
 use Rattle.vector.specs.Vector.{axisOf}
-use Rattle.split.specs.Split.{Found, found, searchAxisOf, searchAxesOf, divided, splitOf, leastSpan, Keyed, boundsOf, suffixOf, insertOn, sortOn, InOrder, tryOf, sweepOf, betterOf, costOf, bestSplit}
+use Rattle.split.specs.Split.{Found, found, searchAxisOf, searchAxesOf, divided, splitOf, leastSpan, boundsOf, suffixOf, insertOn, sortOn, InOrder, tryOf, sweepOf, betterOf, costOf, bestSplit}
 
 -- ---- folds, one step at a time
 module _ (b : ℕ → Aabb) (xs : List ℕ) where

@@ -6,7 +6,7 @@ use lib.IntN.{pos}
 use lib.Dec.{leb, eqb}
 use lib.ListN.{length, take, drop, getD}
 use mathlib.Core.Path.{_≡_}
-use mathlib.Core.Bool.{Bool, cond}
+use mathlib.Core.Bool.{cond}
 use mathlib.Core.List.{List, [], _∷_, foldl}
 use Rattle.float.specs.Literals.{one32}
 use Rattle.order.specs.Sort.{Below}

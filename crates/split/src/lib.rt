@@ -5,7 +5,7 @@ use vector::Vec3;
 ghost use mathlib.Core.Path.{_≡_};
 ghost use Prim.Native.Nat.{ℕ, _+_, _-_, _*_, _<_, _≤_};
 ghost use lib.Ieee.{nan};
-ghost use lib.ListN.{length, getD, take, drop};
+ghost use lib.ListN.{length, getD, drop};
 ghost use Rattle.order.specs.Sort.{Below};
 ghost use Rattle.vector.specs.Vector.{axisOf};
 ghost use Rattle.geometry.specs.Aabb.{fromPointOf, surfaceAreaOf};

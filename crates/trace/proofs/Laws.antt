@@ -4,13 +4,12 @@
 --     visit-step, visit-done                 one more triangle of a leaf
 --     trace-padded                           padded boxes and their test give what plain boxes and `intersectTOf` give
 use mathlib.Core.Path.{_≡_, refl, sym, ap, _∙_}
-use mathlib.Core.Logic.{_⊎_, inl, inr, ⊎-elim}
+use mathlib.Core.Logic.{_⊎_, ⊎-elim}
 use mathlib.Core.Bool.{Bool, true, false, cond}
 use mathlib.Core.List.{List, [], _∷_, foldl}
-use Prim.Native.Nat.{ℕ, zero, suc, _+_, _-_, _*_, _<_, _≤_}
+use Prim.Native.Nat.{ℕ, zero, suc, _+_, _-_, _<_, _≤_}
 use native.Mathlib.Omega.{arith}
 use lib.Ieee.{Float, le}
-use lib.Dec.{eqb}
 use lib.ListN.{length, take, drop, getD}
 use lib.Seq.{drop-cons}
 use borrow.Author.Tests.{eq-eqb, ne-eqb}
@@ -18,18 +17,16 @@ use Rattle.vector.specs.declared.Vec3.{Vec3}
 use Rattle.vector.specs.declared.Ray.{Ray}
 use Rattle.geometry.specs.declared.Aabb.{Aabb}
 use Rattle.geometry.specs.declared.Triangle.{Triangle}
-use Rattle.geometry.specs.declared.Edges.{Edges}
 use Rattle.geometry.specs.declared.Entry.{Entry}
 use Rattle.geometry.specs.declared.Entry.the-variants.{At, Miss}
 use Rattle.geometry.specs.Slab.{paddedOf, slabOf, intersectTOf}
-use Rattle.geometry.specs.Intersect.{edgesOf, crossingOf, intersectMaxOf}
-use Rattle.build.specs.declared.Links.{Links}
+use Rattle.geometry.specs.Intersect.{intersectMaxOf}
 use Rattle.build.specs.Tree.{Tree, leaf, node, boxOf}
-use Rattle.build.specs.Areas.{boxAtOf, linksAtOf, readOf, treeAtOf, Linked, Sound}
+use Rattle.build.specs.Areas.{boxAtOf, linksAtOf, readOf, treeAtOf, Sound}
 use Rattle.build.proofs.Frame.{tree-box, read-node, read-leaf}
 use Rattle.trace.specs.declared.Turns.{Turns}
 use Rattle.trace.specs.declared.Closest.{Closest}
-use Rattle.trace.specs.Leaf.{visitEdgesOf, visitOf, visitAllOf, cornerAtOf, edgesAtOf, RowAt, Rows}
+use Rattle.trace.specs.Leaf.{visitEdgesOf, visitOf, visitAllOf, cornerAtOf, edgesAtOf, RowAt}
 use Rattle.vector.specs.Ray.{pointAtOf}
 use Rattle.trace.specs.declared.Hit.the-variants as hit
 use Rattle.trace.specs.Trace.{Test, entered, orderOf, traceOf, none, intersectOf, paddedTreeOf, listOf}

@@ -1,9 +1,9 @@
 -- The loop over a stack is the recursion: with turns enough for every node, the stack [t] gives `traceOf t`. By induction on the turns: what
 -- a step pushes is visited in its order, and then the rest of the stack.
-use mathlib.Core.Path.{_≡_, refl, sym, ap, _∙_}
+use mathlib.Core.Path.{_≡_, refl, ap, _∙_}
 use mathlib.Core.Bool.{Bool, true, false, cond}
 use mathlib.Core.List.{List, [], _∷_, _++_, foldl, foldl-append}
-use Prim.Native.Nat.{ℕ, zero, suc, _+_, _<_, _≤_}
+use Prim.Native.Nat.{ℕ, zero, suc, _+_, _≤_}
 use native.Mathlib.Omega.{arith}
 use lib.Ieee.{le}
 use Rattle.vector.specs.declared.Ray.{Ray}

@@ -1,11 +1,10 @@
 -- The nearest hit of a ray in a tree, by recursion: `FlatBvh::intersect`, whose stack is this recursion (`stack-is-trace` of
 -- `proofs/Stack.antt`): the child that is popped first is visited with all below it, then the other. `test` is the test of a ray and a
 -- box, so that the tree may have padded boxes and the test of those.
-use Prim.Native.Nat.{ℕ, zero, suc, _+_, _*_, _<_, _≤_}
+use Prim.Native.Nat.{ℕ, _*_, _≤_}
 use lib.Ieee.{Float, le}
 use lib.Dec.{eqb}
-use lib.ListN.{length, getD}
-use mathlib.Core.Path.{_≡_}
+use lib.ListN.{length}
 use mathlib.Core.Bool.{Bool, true, false, cond}
 use mathlib.Core.List.{List, [], _∷_, foldl}
 use Rattle.vector.specs.declared.Ray.{Ray}
@@ -19,7 +18,6 @@ use Rattle.build.specs.Tree.{Tree, leaf, node, boxOf}
 use Rattle.build.specs.Areas.{Sound}
 use Rattle.trace.specs.declared.Turns.{Turns}
 use Rattle.trace.specs.declared.Closest.{Closest}
-use Rattle.trace.specs.declared.RayHit.{RayHit}
 use Rattle.trace.specs.declared.Hit.{Hit}
 use Rattle.trace.specs.declared.Hit.the-variants as hit
 use Rattle.trace.specs.Leaf.{visitAllOf}

@@ -16,7 +16,7 @@ ghost use Rattle.geometry.specs.Slab.{slabOf};
 ghost use Rattle.build.specs.Tree.{Tree};
 ghost use Rattle.build.specs.Areas.{boxAtOf, treeAtOf};
 ghost use Rattle.trace.specs.Leaf.{cornerAtOf, edgesAtOf, visitEdgesOf, visitAllOf, Rows};
-ghost use Rattle.trace.specs.Trace.{entered, orderOf, traceOf, none, hitOf, intersectOf, paddedTreeOf, listOf, Held};
+ghost use Rattle.trace.specs.Trace.{entered, orderOf, traceOf, none, intersectOf, paddedTreeOf, listOf, Held};
 
 // The closest hit so far: `best` and `closest` of the Rust. While nothing is found, the distance is the ray's length.
 pub struct Closest {

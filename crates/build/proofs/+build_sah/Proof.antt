@@ -1,10 +1,9 @@
 -- `build::build_sah` meets its contract, by recursion on the levels left: a leaf, or a split and the trees of its halves
 -- (`built-step` of `Grows.antt`).
-use mathlib.Core.Path.{_≡_, refl, sym, ap, _∙_}
-use Prim.Native.Nat.{ℕ, _+_, _-_, _<_, _≤_, _*_}
+use mathlib.Core.Path.{refl, _∙_}
+use Prim.Native.Nat.{ℕ, _+_, _<_}
 use native.Mathlib.Omega.{arith}
 use Rattle.split.specs.Split.{aabbAtOf, centroidAtOf}
-use Rattle.build.specs.Areas.{part}
 use Rattle.build.proofs.Grows as law
 use borrow.Fn.Kinds.{In}
 use borrow.Fn.PlainCycle.{Measures, is, falls, and}

@@ -1,13 +1,5 @@
 -- `build::put_inner` meets its contract: one node, over the boxes of the two below it.
-use mathlib.Core.Path.{_≡_, refl, sym, ap, _∙_}
-use Prim.Native.Nat.{ℕ, _+_, _-_, _<_, _≤_, _*_}
 use native.Mathlib.Omega.{arith}
-use borrow.Author.Needs.{needs}
-use lib.ListN.{length, drop}
-use Rattle.order.proofs.Laws.{below-take, below-drop}
-use Rattle.split.specs.Split.{aabbAtOf, centroidAtOf}
-use Rattle.build.proofs.Stores.{part-length}
-use Rattle.build.proofs.Grows as law
 use Rattle.build.proofs.put_inner.Statement.{statement}
 use Rattle.build.proofs.put_inner.Tie as tie
 

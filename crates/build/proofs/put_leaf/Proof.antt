@@ -1,12 +1,9 @@
 -- `build::put_leaf` meets its contract: a box over the part, and one node that has it (`built-leaf`).
-use mathlib.Core.Path.{_≡_, refl, sym, ap, _∙_}
-use Prim.Native.Nat.{ℕ, _+_, _-_, _<_, _≤_, _*_}
+use Prim.Native.Nat.{_-_}
 use native.Mathlib.Omega.{arith}
-use borrow.Author.Needs.{needs}
-use lib.ListN.{length, drop}
+use lib.ListN.{drop}
 use Rattle.order.proofs.Laws.{below-take, below-drop}
-use Rattle.split.specs.Split.{aabbAtOf, centroidAtOf}
-use Rattle.build.proofs.Stores.{part-length}
+use Rattle.split.specs.Split.{aabbAtOf}
 use Rattle.build.proofs.Grows as law
 use Rattle.build.proofs.put_leaf.Statement.{statement}
 use Rattle.build.proofs.put_leaf.Tie as tie

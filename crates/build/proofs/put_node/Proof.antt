@@ -1,5 +1,4 @@
 -- `build::put_node` meets its contract: its ten stores are two runs of stores (`wrote`).
-use mathlib.Core.Path.{refl}
 use native.Mathlib.Omega.{arith}
 use borrow.Author.Needs.{needs}
 use lib.ListN.{length-set}

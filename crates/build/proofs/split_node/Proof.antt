@@ -1,8 +1,5 @@
 -- `build::split_node` meets its contract: a leaf in two cases, else what `split_part` says (`chosen-split`).
-use mathlib.Core.Path.{_≡_, refl, sym, ap, _∙_}
-use Prim.Native.Nat.{ℕ, _+_, _-_, _<_, _≤_, _*_}
 use native.Mathlib.Omega.{arith}
-use borrow.Author.Needs.{needs}
 use Rattle.split.specs.Split.{aabbAtOf, centroidAtOf}
 use Rattle.build.proofs.Grows as law
 use Rattle.build.proofs.split_node.Statement.{statement}

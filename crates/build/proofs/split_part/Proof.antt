@@ -1,9 +1,7 @@
 -- `build::split_part` meets its contract: the part that is lent comes back sorted, in its place (`back-split`).
-use mathlib.Core.Path.{_≡_, refl, sym, ap, _∙_}
-use Prim.Native.Nat.{ℕ, _+_, _-_, _<_, _≤_, _*_}
+use Prim.Native.Nat.{_-_}
 use native.Mathlib.Omega.{arith}
-use borrow.Author.Needs.{needs}
-use lib.ListN.{length, drop}
+use lib.ListN.{drop}
 use Rattle.order.proofs.Laws.{below-take, below-drop}
 use Rattle.split.specs.Split.{aabbAtOf, centroidAtOf}
 use Rattle.build.proofs.Stores.{part-length}

@@ -1,14 +1,9 @@
 -- `bvh::build_flat_bvh` meets its contract: what a trace reads of the tree that was built (`traced`).
-use mathlib.Core.Path.{_≡_, refl, sym, ap, _∙_}
-use Prim.Native.Nat.{ℕ, _+_, _-_, _<_, _≤_, _*_}
+use mathlib.Core.Path.{refl}
 use native.Mathlib.Omega.{arith}
-use borrow.Author.Needs.{needs, scaled-fits}
-use lib.ListN.{length, getD, set, length-set}
+use lib.ListN.{length}
 use Rattle.bvh.proofs.Laws as law
-use mathlib.Core.Bool.{true}
-use Rattle.order.specs.Sort.{Below}
 use Rattle.split.proofs.Laws.{below-wider}
-use Rattle.bvh.specs.Bvh.{centroidOf, finiteOf, Stands}
 use Rattle.bvh.proofs.build_flat_bvh.Statement.{statement}
 use Rattle.bvh.proofs.build_flat_bvh.Tie as tie
 

@@ -1,9 +1,7 @@
 -- `bvh::build_tree` meets its contract: over the extents, the tree of `build_sah` is that of the triangles (`stands`).
-use mathlib.Core.Path.{_≡_, refl, sym, ap, _∙_}
-use Prim.Native.Nat.{ℕ, _+_, _-_, _<_, _≤_, _*_}
+use mathlib.Core.Path.{refl, sym, _∙_}
 use native.Mathlib.Omega.{arith}
-use borrow.Author.Needs.{needs, scaled-fits}
-use lib.ListN.{length, getD, set, length-set}
+use lib.ListN.{length}
 use Rattle.bvh.proofs.Laws as law
 use Rattle.bvh.specs.Bvh.{centroidOf}
 use Rattle.bvh.proofs.build_tree.Statement.{statement}

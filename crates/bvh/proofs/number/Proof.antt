@@ -1,9 +1,9 @@
 -- `bvh::number` meets its contract: the positions so far hold their own number.
-use mathlib.Core.Path.{_≡_, refl, sym, ap, _∙_}
-use Prim.Native.Nat.{ℕ, _+_, _-_, _<_, _≤_, _*_}
+use mathlib.Core.Path.{_≡_, refl, _∙_}
+use Prim.Native.Nat.{_-_, _≤_}
 use native.Mathlib.Omega.{arith}
 use borrow.Author.Needs.{needs, scaled-fits}
-use lib.ListN.{length, getD, set, length-set}
+use lib.ListN.{length, length-set}
 use Rattle.bvh.proofs.Laws as law
 use Rattle.bvh.proofs.number.Statement.{statement}
 use Rattle.bvh.proofs.number.Tie as tie

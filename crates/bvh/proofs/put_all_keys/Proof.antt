@@ -1,9 +1,5 @@
 -- `bvh::put_all_keys` meets its contract: by the answers of the three axes.
-use mathlib.Core.Path.{_≡_, refl, sym, ap, _∙_}
-use Prim.Native.Nat.{ℕ, _+_, _-_, _<_, _≤_, _*_}
-use native.Mathlib.Omega.{arith}
-use borrow.Author.Needs.{needs, scaled-fits}
-use lib.ListN.{length, getD, set, length-set}
+use mathlib.Core.Path.{sym, _∙_}
 use Rattle.bvh.proofs.Laws as law
 use Rattle.bvh.specs.Bvh.{centroidOf}
 use Rattle.bvh.proofs.put_all_keys.Statement.{statement}

@@ -1,9 +1,9 @@
 -- `bvh::put_keys` meets its contract: the keys so far are those of finite values, whose order they have (`float-key-leb`).
 use mathlib.Core.Path.{_≡_, refl, sym, ap, _∙_}
-use Prim.Native.Nat.{ℕ, _+_, _-_, _<_, _≤_, _*_}
+use Prim.Native.Nat.{ℕ, _-_, _≤_}
 use native.Mathlib.Omega.{arith}
-use borrow.Author.Needs.{needs, scaled-fits}
-use lib.ListN.{length, getD, set, length-set}
+use borrow.Author.Needs.{scaled-fits}
+use lib.ListN.{length, length-set}
 use Rattle.bvh.proofs.Laws as law
 use lib.Ieee.{Float}
 use Rattle.vector.specs.declared.Vec3.{Vec3}

@@ -1,9 +1,9 @@
 -- `bvh::put_rows` meets its contract: the rows so far are those of the triangles that the order has so far.
-use mathlib.Core.Path.{_≡_, refl, sym, ap, _∙_}
-use Prim.Native.Nat.{ℕ, _+_, _-_, _<_, _≤_, _*_}
+use mathlib.Core.Path.{_≡_, refl, _∙_}
+use Prim.Native.Nat.{_-_, _≤_}
 use native.Mathlib.Omega.{arith}
-use borrow.Author.Needs.{needs, scaled-fits}
-use lib.ListN.{length, getD, set, length-set}
+use borrow.Author.Needs.{needs}
+use lib.ListN.{length}
 use Rattle.bvh.proofs.Laws as law
 use Rattle.order.specs.Sort.{Below}
 use Rattle.bvh.proofs.put_rows.Statement.{statement}

@@ -1,15 +1,11 @@
 -- `split::bounds` meets its contract: what is gathered so far is the box of the triangles so far.
-use mathlib.Core.Path.{_≡_, refl, sym, ap, _∙_}
-use Prim.Native.Nat.{ℕ, _+_, _-_, _<_, _≤_, _*_}
+use mathlib.Core.Path.{_≡_, sym, _∙_}
+use Prim.Native.Nat.{_-_, _≤_}
 use native.Mathlib.Omega.{arith}
-use borrow.Author.Needs.{needs, scaled-fits}
-use lib.ListN.{length, take, drop, getD, set, length-set}
-use lib.Ieee.{Float, nan}
-use Rattle.order.specs.Sort.{Below, keyOf}
-use Rattle.order.proofs.Laws.{below-sort}
-use Rattle.vector.specs.Vector.{axisOf}
-use Rattle.geometry.specs.Aabb.{fromPointOf, surfaceAreaOf}
-use Rattle.split.specs.Split.{aabbAtOf, centroidAtOf, boundsOf, suffixOf, sweepOf, Splits}
+use borrow.Author.Needs.{needs}
+use lib.ListN.{length, take}
+use Rattle.order.specs.Sort.{Below}
+use Rattle.split.specs.Split.{aabbAtOf, boundsOf}
 use Rattle.split.proofs.Laws as law
 use Rattle.split.proofs.bounds.Statement.{statement}
 use Rattle.split.proofs.bounds.Tie as tie

@@ -1,15 +1,12 @@
 -- `split::centroid_aabb` meets its contract: what is gathered so far is the box of the centroids so far.
-use mathlib.Core.Path.{_≡_, refl, sym, ap, _∙_}
-use Prim.Native.Nat.{ℕ, _+_, _-_, _<_, _≤_, _*_}
+use mathlib.Core.Path.{_≡_, sym, _∙_}
+use Prim.Native.Nat.{_-_, _≤_}
 use native.Mathlib.Omega.{arith}
-use borrow.Author.Needs.{needs, scaled-fits}
-use lib.ListN.{length, take, drop, getD, set, length-set}
-use lib.Ieee.{Float, nan}
-use Rattle.order.specs.Sort.{Below, keyOf}
-use Rattle.order.proofs.Laws.{below-sort}
-use Rattle.vector.specs.Vector.{axisOf}
-use Rattle.geometry.specs.Aabb.{fromPointOf, surfaceAreaOf}
-use Rattle.split.specs.Split.{aabbAtOf, centroidAtOf, boundsOf, suffixOf, sweepOf, Splits}
+use borrow.Author.Needs.{needs}
+use lib.ListN.{length, take}
+use Rattle.order.specs.Sort.{Below}
+use Rattle.geometry.specs.Aabb.{fromPointOf}
+use Rattle.split.specs.Split.{centroidAtOf, boundsOf}
 use Rattle.split.proofs.Laws as law
 use Rattle.split.proofs.centroid_aabb.Statement.{statement}
 use Rattle.split.proofs.centroid_aabb.Tie as tie

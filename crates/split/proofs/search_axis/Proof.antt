@@ -1,15 +1,6 @@
 -- `split::search_axis` meets its contract: the axis is left out, or sorted and swept.
-use mathlib.Core.Path.{_≡_, refl, sym, ap, _∙_}
-use Prim.Native.Nat.{ℕ, _+_, _-_, _<_, _≤_, _*_}
 use native.Mathlib.Omega.{arith}
-use borrow.Author.Needs.{needs, scaled-fits}
-use lib.ListN.{length, take, drop, getD, set, length-set}
-use lib.Ieee.{Float, nan}
-use Rattle.order.specs.Sort.{Below, keyOf}
-use Rattle.order.proofs.Laws.{below-sort}
-use Rattle.vector.specs.Vector.{axisOf}
-use Rattle.geometry.specs.Aabb.{fromPointOf, surfaceAreaOf}
-use Rattle.split.specs.Split.{aabbAtOf, centroidAtOf, boundsOf, suffixOf, sweepOf, Splits}
+use Rattle.split.specs.Split.{aabbAtOf, centroidAtOf}
 use Rattle.split.proofs.Laws as law
 use Rattle.split.proofs.search_axis.Statement.{statement}
 use Rattle.split.proofs.search_axis.Tie as tie

@@ -1,15 +1,9 @@
 -- `split::sort_by_centroid` meets its contract: keys in the order of the values sort as the values do (`sort-same`).
-use mathlib.Core.Path.{_≡_, refl, sym, ap, _∙_}
-use Prim.Native.Nat.{ℕ, _+_, _-_, _<_, _≤_, _*_}
-use native.Mathlib.Omega.{arith}
-use borrow.Author.Needs.{needs, scaled-fits}
-use lib.ListN.{length, take, drop, getD, set, length-set}
-use lib.Ieee.{Float, nan}
-use Rattle.order.specs.Sort.{Below, keyOf}
+use mathlib.Core.Path.{_∙_}
+use Rattle.order.specs.Sort.{keyOf}
 use Rattle.order.proofs.Laws.{below-sort}
 use Rattle.vector.specs.Vector.{axisOf}
-use Rattle.geometry.specs.Aabb.{fromPointOf, surfaceAreaOf}
-use Rattle.split.specs.Split.{aabbAtOf, centroidAtOf, boundsOf, suffixOf, sweepOf, Splits}
+use Rattle.split.specs.Split.{centroidAtOf}
 use Rattle.split.proofs.Laws as law
 use Rattle.split.proofs.sort_by_centroid.Statement.{statement}
 use Rattle.split.proofs.sort_by_centroid.Tie as tie

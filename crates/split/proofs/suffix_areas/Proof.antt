@@ -1,15 +1,13 @@
 -- `split::suffix_areas` meets its contract: from the back, the areas from i on are those of the boxes from each position on.
 use mathlib.Core.Path.{_≡_, refl, sym, ap, _∙_}
-use Prim.Native.Nat.{ℕ, _+_, _-_, _<_, _≤_, _*_}
+use Prim.Native.Nat.{ℕ, _-_, _<_, _≤_}
 use native.Mathlib.Omega.{arith}
 use borrow.Author.Needs.{needs, scaled-fits}
-use lib.ListN.{length, take, drop, getD, set, length-set}
-use lib.Ieee.{Float, nan}
-use Rattle.order.specs.Sort.{Below, keyOf}
-use Rattle.order.proofs.Laws.{below-sort}
-use Rattle.vector.specs.Vector.{axisOf}
-use Rattle.geometry.specs.Aabb.{fromPointOf, surfaceAreaOf}
-use Rattle.split.specs.Split.{aabbAtOf, centroidAtOf, boundsOf, suffixOf, sweepOf, Splits}
+use lib.ListN.{length, drop, getD, length-set}
+use lib.Ieee.{nan}
+use Rattle.order.specs.Sort.{Below}
+use Rattle.geometry.specs.Aabb.{surfaceAreaOf}
+use Rattle.split.specs.Split.{aabbAtOf, suffixOf}
 use Rattle.split.proofs.Laws as law
 use Rattle.split.proofs.suffix_areas.Statement.{statement}
 use Rattle.split.proofs.suffix_areas.Tie as tie

@@ -1,15 +1,12 @@
 -- `split::sweep` meets its contract: the best so far is that of the splits so far.
-use mathlib.Core.Path.{_≡_, refl, sym, ap, _∙_}
-use Prim.Native.Nat.{ℕ, _+_, _-_, _<_, _≤_, _*_}
+use mathlib.Core.Path.{_≡_, sym, ap, _∙_}
+use Prim.Native.Nat.{ℕ, _+_, _-_, _<_}
 use native.Mathlib.Omega.{arith}
 use borrow.Author.Needs.{needs, scaled-fits}
-use lib.ListN.{length, take, drop, getD, set, length-set}
-use lib.Ieee.{Float, nan}
-use Rattle.order.specs.Sort.{Below, keyOf}
-use Rattle.order.proofs.Laws.{below-sort}
-use Rattle.vector.specs.Vector.{axisOf}
-use Rattle.geometry.specs.Aabb.{fromPointOf, surfaceAreaOf}
-use Rattle.split.specs.Split.{aabbAtOf, centroidAtOf, boundsOf, suffixOf, sweepOf, Splits}
+use lib.ListN.{length, take}
+use Rattle.order.specs.Sort.{Below}
+use Rattle.geometry.specs.Aabb.{surfaceAreaOf}
+use Rattle.split.specs.Split.{aabbAtOf, boundsOf, sweepOf}
 use Rattle.split.proofs.Laws as law
 use Rattle.split.proofs.sweep.Statement.{statement}
 use Rattle.split.proofs.sweep.Tie as tie

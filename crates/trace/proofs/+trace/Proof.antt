@@ -1,14 +1,13 @@
 -- `trace::trace` meets its contract, by recursion on the fuel: a leaf, or the children in turn (`trace-node` of `Laws.antt`). The first
 -- child's box was tested with this very distance; the second one's is tested again.
-use mathlib.Core.Path.{_≡_, refl, sym, ap, _∙_}
-use Prim.Native.Nat.{ℕ, _+_, _-_, _<_, _≤_, _*_}
+use mathlib.Core.Path.{_≡_, sym, ap, _∙_}
+use Prim.Native.Nat.{ℕ, _-_, _<_}
 use native.Mathlib.Omega.{arith}
-use mathlib.Core.Bool.{true, false}
 use lib.ListN.{length}
 use Rattle.geometry.specs.declared.Aabb.{Aabb}
 use Rattle.geometry.specs.Slab.{slabOf}
 use Rattle.build.specs.declared.Links.{Links}
-use Rattle.build.specs.Areas.{boxAtOf, linksAtOf, treeAtOf}
+use Rattle.build.specs.Areas.{linksAtOf, treeAtOf}
 use Rattle.trace.specs.declared.Closest.{Closest}
 use Rattle.trace.specs.Trace.{entered, traceOf}
 use Rattle.trace.proofs.Laws as law

@@ -1,6 +1,5 @@
 -- `trace::handle_at` meets its contract: a read, or 0 past the end.
-use mathlib.Core.Path.{_≡_, refl, sym}
-use native.Mathlib.Omega.{arith}
+use mathlib.Core.Path.{refl, sym}
 use borrow.Author.Needs.{needs}
 use lib.ListN.{List·getD-eq-default}
 use Rattle.trace.proofs.handle_at.Statement.{statement}

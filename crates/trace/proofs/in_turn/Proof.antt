@@ -1,5 +1,5 @@
 -- `trace::in_turn` meets its contract: by the cases of both entries, and the test of two.
-use mathlib.Core.Path.{_≡_, refl, ap}
+use mathlib.Core.Path.{refl, ap}
 use mathlib.Core.Logic.{inl, inr}
 use borrow.Author.Needs.{needs}
 use Rattle.trace.specs.Trace.{entered}

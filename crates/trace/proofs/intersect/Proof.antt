@@ -1,5 +1,5 @@
 -- `trace::intersect` meets its contract: the trace of the padded tree is that of the plain one (`trace-padded`).
-use mathlib.Core.Path.{_≡_, refl, sym, ap, _∙_}
+use mathlib.Core.Path.{sym, _∙_}
 use Rattle.trace.proofs.Laws as law
 use Rattle.trace.proofs.intersect.Statement.{statement}
 use Rattle.trace.proofs.intersect.Tie as tie

@@ -1,5 +1,4 @@
 -- `trace::order_at` meets its contract: `in_turn` of the entries into the two boxes that it reads.
-use mathlib.Core.Path.{_≡_, refl}
 use Rattle.geometry.specs.Slab.{slabOf}
 use Rattle.trace.proofs.Laws as law
 use Rattle.trace.proofs.order_at.Statement.{statement}

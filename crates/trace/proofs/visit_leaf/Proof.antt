@@ -1,9 +1,9 @@
 -- `trace::visit_leaf` meets its contract: the rest of the leaf from here gives what the whole gives.
 use mathlib.Core.Path.{_≡_, refl, sym, ap, _∙_}
-use Prim.Native.Nat.{ℕ, _+_, _-_, _*_, _<_, _≤_}
+use Prim.Native.Nat.{ℕ, _+_, _-_, _≤_}
 use native.Mathlib.Omega.{arith}
 use borrow.Author.Needs.{needs}
-use lib.ListN.{length, take, drop, getD}
+use lib.ListN.{take, drop, getD}
 use Rattle.geometry.specs.declared.Triangle.{Triangle}
 use Rattle.trace.specs.Leaf.{visitOf, visitAllOf, Rows}
 use Rattle.trace.proofs.Laws as law
