@@ -5,13 +5,15 @@ use mathlib.Core.List.{List, [], _∷_, flatMap}
 use lib.IntN.{pos, negsuc}
 use lib.Ieee.{fin, add, sub, mul, div, neg, lt, le, eq, isNan, ofBits, round, toBits}
 use Rattle.geometry.specs.declared.Triangle.{Triangle}
-use Rattle.planes.specs.Lists.{filterBy, allBy, countBy}
-use Rattle.planes.specs.Triangles.{triangleAt, cornersOf, boxOf}
-use Rattle.planes.specs.Normal.{largerPartOf, largestPartOf, isTurned, neg3Of, canonicalOf, offsetOf}
-use Rattle.planes.specs.Plane.{Settings, Plane, patchAt, planeAt}
-use Rattle.planes.specs.Patches.{keptOf, cellOf, aroundOf, inCell, isCoplanar, foundOf, newPatch, joinedOf, placedOf, patchesOf}
-use Rattle.planes.specs.Buried.{largerOf, largestOf, signedOf, probeRayOf, isBuried, openOf}
-use Rattle.planes.specs.Merge.{rankOf, descendingKey, seedsOf, verticesOf, runAt, follow, isLinked, isAdjacent, runsOf, inCone, isWithin, takes, grownOf, groupsFrom, groupsOf}
+use Rattle.patches.specs.Lists.{filterBy, allBy, countBy}
+use Rattle.patches.specs.Triangles.{triangleAt, cornersOf, boxOf}
+use Rattle.patches.specs.Normal.{largerPartOf, largestPartOf, isTurned, neg3Of, canonicalOf, offsetOf}
+use Rattle.patches.specs.Patch.{patchAt}
+use Rattle.groups.specs.Settings.{Settings}
+use Rattle.mirror.specs.Plane.{Plane, planeAt}
+use Rattle.patches.specs.Patches.{keptOf, cellOf, aroundOf, inCell, isCoplanar, foundOf, newPatch, joinedOf, placedOf, patchesOf}
+use Rattle.buried.specs.Buried.{largerOf, largestOf, signedOf, probeRayOf, isBuried, openOf}
+use Rattle.groups.specs.Groups.{rankOf, descendingKey, seedsOf, verticesOf, runAt, follow, isLinked, isAdjacent, runsOf, inCone, isWithin, takes, grownOf, groupsFrom, groupsOf}
 use Rattle.planes.specs.Fit.{aloneOf, weightedOf, meanNormalOf, totalAreaOf, groupBoxOf, groupTrisOf, heightsOf, meanOffsetOf, spreadOf, fittedOf, planeOf}
 use Rattle.planes.specs.Rank.{sceneBoxOf, centreOf, halfDiagOf, momentsOf, areaCentreOf, importanceOf, rankedOf}
 use Rattle.planes.specs.Border.{edgeKey, keyedOf, sidesOf, isSameEdge, usedOnce, borderOf, borderedOf}

@@ -7,9 +7,9 @@ use lib.Ieee.{Float, binary32, ofBits}
 use Rattle.vector.specs.declared.Vec3.{Vec3}
 use Rattle.geometry.specs.declared.Triangle.{Triangle}
 use Rattle.faces.specs.Key.{Key, sameKey, keyBy}
-use Rattle.planes.specs.Lists.{filterBy, countBy}
-use Rattle.planes.specs.Triangles.{triangleAt}
-use Rattle.planes.specs.Plane.{Edge, Plane}
+use Rattle.patches.specs.Lists.{filterBy, countBy}
+use Rattle.patches.specs.Triangles.{triangleAt}
+use Rattle.mirror.specs.Plane.{Edge, Plane}
 
 -- 1e4: steps of 0.1 mm
 abbrev pub edgeStepsPerMetre : Float

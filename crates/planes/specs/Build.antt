@@ -3,10 +3,12 @@ use mathlib.Core.Bool.{Bool}
 use mathlib.Core.List.{List, map}
 use Rattle.vector.specs.declared.Ray.{Ray}
 use Rattle.geometry.specs.declared.Triangle.{Triangle}
-use Rattle.planes.specs.Plane.{Settings, Patch, Plane}
-use Rattle.planes.specs.Patches.{patchesOf}
-use Rattle.planes.specs.Buried.{openOf}
-use Rattle.planes.specs.Merge.{groupsOf}
+use Rattle.patches.specs.Patch.{Patch}
+use Rattle.groups.specs.Settings.{Settings}
+use Rattle.mirror.specs.Plane.{Plane}
+use Rattle.patches.specs.Patches.{patchesOf}
+use Rattle.buried.specs.Buried.{openOf}
+use Rattle.groups.specs.Groups.{groupsOf}
 use Rattle.planes.specs.Fit.{planeOf}
 use Rattle.planes.specs.Rank.{rankedOf}
 use Rattle.planes.specs.Border.{borderedOf}

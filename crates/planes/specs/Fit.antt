@@ -15,9 +15,10 @@ use Rattle.geometry.specs.Aabb.{unionOf}
 use Rattle.geometry.specs.Triangle.{triangleAreaOf, centroidOf}
 use Rattle.order.specs.Sort.{sortBy}
 use Rattle.order.specs.Runs.{headOr}
-use Rattle.planes.specs.Triangles.{triangleAt, cornersOf}
-use Rattle.planes.specs.Normal.{canonicalOf}
-use Rattle.planes.specs.Plane.{Patch, Plane, patchAt, noPatch}
+use Rattle.patches.specs.Triangles.{triangleAt, cornersOf}
+use Rattle.patches.specs.Normal.{canonicalOf}
+use Rattle.patches.specs.Patch.{Patch, patchAt, noPatch}
+use Rattle.mirror.specs.Plane.{Plane}
 
 -- a patch alone
 unfoldable pub aloneOf : Patch → Plane

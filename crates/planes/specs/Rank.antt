@@ -14,9 +14,9 @@ use Rattle.geometry.specs.Aabb.{box, growOf}
 use Rattle.geometry.specs.Triangle.{half, triangleAreaOf, centroidOf}
 use Rattle.order.specs.Sort.{sortBy, keyOf}
 use Rattle.order.specs.Runs.{headOr, upTo}
-use Rattle.planes.specs.Triangles.{triangleAt, cornersOf}
-use Rattle.planes.specs.Plane.{Plane, planeAt}
-use Rattle.planes.specs.Merge.{descendingKey}
+use Rattle.patches.specs.Triangles.{triangleAt, cornersOf}
+use Rattle.mirror.specs.Plane.{Plane, planeAt}
+use Rattle.groups.specs.Groups.{descendingKey}
 
 -- 1e-3
 abbrev pub leastHalfDiag : Float

@@ -14,10 +14,11 @@ use Rattle.vector.specs.declared.Vec3.{Vec3}
 use Rattle.vector.specs.Vector.{dot3Of}
 use Rattle.geometry.specs.declared.Triangle.{Triangle}
 use Rattle.faces.specs.Key.{Key, sameKey, vertexKey}
-use Rattle.planes.specs.Lists.{filterBy, allBy}
-use Rattle.planes.specs.Triangles.{triangleAt, cornersOf}
-use Rattle.planes.specs.Plane.{Settings, Patch, patchAt}
-use Rattle.planes.specs.Patches.{planeNormalCos}
+use Rattle.patches.specs.Lists.{filterBy, allBy}
+use Rattle.patches.specs.Triangles.{triangleAt, cornersOf}
+use Rattle.patches.specs.Patch.{Patch, patchAt}
+use Rattle.groups.specs.Settings.{Settings}
+use Rattle.patches.specs.Patches.{planeNormalCos}
 
 -- The place of x among floats, NaN lowest: for numbers x and y, x < y where the place of x is below that of y, and both zeros have one place.
 unfoldable pub rankOf : Float → ℕ

@@ -1,7 +1,7 @@
 -- `planes::largest_part` meets its contract: its calls are those of the definition.
-use Rattle.planes.specs.Normal.{largestPartOf}
-use Rattle.planes.proofs.largest_part.Statement.{statement}
-use Rattle.planes.proofs.largest_part.Tie as tie
+use Rattle.patches.specs.Normal.{largestPartOf}
+use Rattle.patches.proofs.largest_part.Statement.{statement}
+use Rattle.patches.proofs.largest_part.Tie as tie
 
 pub largest-part-spec : {M : Type 1} → statement M
 unfolding largestPartOf

@@ -1,7 +1,7 @@
 -- `planes::offset_of` meets its contract, by its test.
-use Rattle.planes.specs.Normal.{offsetOf}
-use Rattle.planes.proofs.offset_of.Statement.{statement}
-use Rattle.planes.proofs.offset_of.Tie as tie
+use Rattle.patches.specs.Normal.{offsetOf}
+use Rattle.patches.proofs.offset_of.Statement.{statement}
+use Rattle.patches.proofs.offset_of.Tie as tie
 
 pub offset-of-spec : {M : Type 1} → statement M
 unfolding offsetOf

@@ -10,9 +10,9 @@ use Rattle.vector.specs.Vector.{vec, add3Of, scale3Of}
 use Rattle.geometry.specs.declared.Triangle.{Triangle}
 use Rattle.geometry.specs.Triangle.{triangleAreaOf, centroidOf}
 use Rattle.order.specs.Runs.{headOr}
-use Rattle.planes.specs.Lists.{filterBy}
-use Rattle.planes.specs.Triangles.{triangleAt}
-use Rattle.planes.specs.Plane.{Patch}
+use Rattle.patches.specs.Lists.{filterBy}
+use Rattle.patches.specs.Triangles.{triangleAt}
+use Rattle.patches.specs.Patch.{Patch}
 
 -- `BURIED_PROBE_START`, 1e-3
 abbrev pub buriedProbeStart : Float

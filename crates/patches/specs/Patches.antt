@@ -14,10 +14,10 @@ use Rattle.geometry.specs.Triangle.{triangleAreaOf}
 use Rattle.order.specs.Runs.{firstBy, upTo}
 use Rattle.faces.specs.Key.{Key, sameKey, keyBy}
 use Rattle.faces.specs.Faces.{faceOf, isFirst}
-use Rattle.planes.specs.Lists.{filterBy}
-use Rattle.planes.specs.Triangles.{triangleAt, boxOf}
-use Rattle.planes.specs.Normal.{canonicalOf, offsetOf}
-use Rattle.planes.specs.Plane.{Patch, patchAt}
+use Rattle.patches.specs.Lists.{filterBy}
+use Rattle.patches.specs.Triangles.{triangleAt, boxOf}
+use Rattle.patches.specs.Normal.{canonicalOf, offsetOf}
+use Rattle.patches.specs.Patch.{Patch, patchAt}
 
 -- `PLANE_NORMAL_COS`, 0.99998
 abbrev pub planeNormalCos : Float

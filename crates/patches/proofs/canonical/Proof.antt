@@ -1,7 +1,7 @@
 -- `planes::canonical` meets its contract, by its test.
-use Rattle.planes.specs.Normal.{canonicalOf, neg3Of}
-use Rattle.planes.proofs.canonical.Statement.{statement}
-use Rattle.planes.proofs.canonical.Tie as tie
+use Rattle.patches.specs.Normal.{canonicalOf, neg3Of}
+use Rattle.patches.proofs.canonical.Statement.{statement}
+use Rattle.patches.proofs.canonical.Tie as tie
 
 pub canonical-spec : {M : Type 1} → statement M
 unfolding canonicalOf neg3Of

@@ -1,7 +1,7 @@
 -- `planes::larger_part` meets its contract, by its test.
-use Rattle.planes.specs.Normal.{largerPartOf}
-use Rattle.planes.proofs.larger_part.Statement.{statement}
-use Rattle.planes.proofs.larger_part.Tie as tie
+use Rattle.patches.specs.Normal.{largerPartOf}
+use Rattle.patches.proofs.larger_part.Statement.{statement}
+use Rattle.patches.proofs.larger_part.Tie as tie
 
 pub larger-part-spec : {M : Type 1} → statement M
 unfolding largerPartOf

@@ -1,7 +1,7 @@
 -- `planes::is_turned` meets its contract: its call and its test are those of the definition.
-use Rattle.planes.specs.Normal.{isTurned}
-use Rattle.planes.proofs.is_turned.Statement.{statement}
-use Rattle.planes.proofs.is_turned.Tie as tie
+use Rattle.patches.specs.Normal.{isTurned}
+use Rattle.patches.proofs.is_turned.Statement.{statement}
+use Rattle.patches.proofs.is_turned.Tie as tie
 
 pub is-turned-spec : {M : Type 1} → statement M
 unfolding isTurned

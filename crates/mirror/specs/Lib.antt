@@ -1,0 +1,2 @@
+-- A mirror plane.
+pub mod Plane

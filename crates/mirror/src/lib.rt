@@ -1,0 +1,1 @@
+// A mirror plane. So far the record alone.

@@ -1,0 +1,43 @@
+-- Patches in areas: a row of floats each (normal, offset, area, box), and for each triangle the number of its patch. The cell is that of the normal.
+use Prim.Native.Nat.{ℕ, _+_, _*_}
+use mathlib.Core.List.{List, map}
+use lib.Dec.{eqb}
+use lib.ListN.{getD}
+use lib.Ieee.{Float, nan}
+use Rattle.vector.specs.declared.Vec3.{Vec3}
+use Rattle.vector.specs.Vector.{vec}
+use Rattle.order.specs.Runs.{upTo}
+use Rattle.patches.specs.Lists.{filterBy}
+use Rattle.patches.specs.Patch.{Patch}
+use Rattle.patches.specs.Patches.{cellOf}
+
+-- how many floats a patch has
+abbrev pub patchFloats : ℕ
+patchFloats = 11
+
+-- the patch number of a triangle without a patch
+abbrev pub noneOf : ℕ
+noneOf = 4294967295
+
+-- a vector in a row
+unfoldable pub vecIn : List Float → ℕ → Vec3
+vecIn rows at = vec (getD rows at nan) (getD rows (at + 1) nan) (getD rows (at + 2) nan)
+
+-- of m triangles, those with the number p, rising
+unfoldable pub trisIn : List ℕ → ℕ → ℕ → List ℕ
+trisIn of m p = filterBy (λ i. eqb (getD of i noneOf) p) (upTo m)
+
+unfoldable pub patchIn : List Float → List ℕ → ℕ → ℕ → Patch
+patchIn rows of m p =
+    record {
+      normal = vecIn rows (patchFloats * p);
+      offset = getD rows (patchFloats * p + 3) nan;
+      area = getD rows (patchFloats * p + 4) nan;
+      box = record { min = vecIn rows (patchFloats * p + 5); max = vecIn rows (patchFloats * p + 8) };
+      tris = trisIn of m p;
+      cell = cellOf (vecIn rows (patchFloats * p));
+    }
+
+-- the first np patches
+unfoldable pub patchesIn : List Float → List ℕ → ℕ → ℕ → List Patch
+patchesIn rows of m np = map (patchIn rows of m) (upTo np)
