@@ -16,6 +16,23 @@ use Rattle.placing.specs.Corners.{Triple, triple, triples, wholeTriples,
 use Rattle.placing.specs.Passing.{World, world, state, stepOf, run}
 use Rattle.placing.specs.declared.State.{State}
 
+cond-is : {A : Type 0} (b : Bool) (x y : A) → b ≡ true → cond b x y ≡ x
+cond-is b x y e = rw (e)
+
+pub run-none : (n : ℕ) (w : World) → run n w [] ≡ w
+unfolding run
+run-none n w = refl
+
+pub run-one : (n : ℕ) (w : World) (q : Corners) → run n w (q ∷ []) ≡ stepOf n w q
+unfolding run
+run-one n w q = refl
+
+-- after a far corner nothing changes
+pub run-far : (n : ℕ) (w : World) (qs : List Corners) → w .state .far ≡ true → run n w qs ≡ w
+unfolding run stepOf
+run-far n w [] e = refl
+run-far n w (q ∷ qs) e = ap (λ v. run n v qs) (cond-is (w .state .far) w _ e) ∙ run-far n w qs e
+
 -- three indices are a triple
 pub triple-at :
     (l : List ℕ) (at : ℕ) → at + 3 ≤ length l →

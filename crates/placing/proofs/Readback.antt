@@ -17,6 +17,7 @@ use Rattle.placing.specs.declared.State.{State}
 use Rattle.placing.specs.Corners.{Corners, farIn, anyFar, trianglesOf, upToFar}
 use Rattle.placing.specs.declared.Placed.the-variants.{Far, Kept}
 use Rattle.placing.specs.Passing.{World, world, state, stepOf, run, putAll, putHandles, Reads, Passed}
+use Rattle.placing.proofs.Passes.{run-far}
 
 -- ---- reading
 
@@ -107,13 +108,6 @@ pub record Ends (n : ℕ) (w : World) (qs : List Corners) (w′ : World) : Type 
   pub filled : anyFar qs ≡ false → w′ .columns ≡ putAll (w .columns) n (w .state .kept) (trianglesOf qs)
   pub named : anyFar qs ≡ false → w′ .handles ≡ putHandles (w .handles) (w .state .kept) (trianglesOf qs)
 
--- after a far corner nothing changes
-run-stop :
-    (n : ℕ) (cs : List Float) (hs : List ℕ) (k p : ℕ) (qs : List Corners) → run n (world cs hs (state k p true)) qs ≡ world cs hs (state k p true)
-unfolding run stepOf
-run-stop n cs hs k p [] = refl
-run-stop n cs hs k p (q ∷ qs) = run-stop n cs hs k p qs
-
 ends-at :
     (n : ℕ) (w : World) (q : Corners) (qs : List Corners) (b d : Bool) →
     w .state .far ≡ false → farIn q ≡ b → isDegenerateOf (q .a) (q .b) (q .c) ≡ d →
@@ -122,7 +116,7 @@ ends-at :
 unfolding run stepOf anyFar upToFar trianglesOf triangleOf putAll putHandles
 ends-at n w q qs true d e f g after =
     let one = world (w .columns) (w .handles) (state (w .state .kept) (w .state .placings + 3) true) in
-    let ran : run n (stepOf n w q) qs ≡ one = rw (e, f) (run-stop n (w .columns) (w .handles) (w .state .kept) (w .state .placings + 3) qs) in
+    let ran : run n (stepOf n w q) qs ≡ one = rw (e, f) (run-far n (world (w .columns) (w .handles) (state (w .state .kept) (w .state .placings + 3) true)) qs refl) in
     record {
       far = rw (ran, f);
       placed = rw (ran, f) (omega arith);

@@ -83,7 +83,7 @@ fn corner(positions: &[f32], transform: &[f32], i: usize) -> Vec3
     vector::transform_point4x4(p, transform, 0)
 }
 
-// One step of the pass, the corners placed.
+// One step of the pass, the corners placed and none far before them.
 fn keep(
     a: Vec3,
     b: Vec3,
@@ -95,11 +95,9 @@ fn keep(
     handles: &mut [u32],
 ) -> State
     requires { ⌜ Room n 1 (world (now columns) (now handles) st) ⌝ }
+    requires { ⌜ st .far ≡ false ⌝ }
     ensures { λ r. ⌜ Did 1 (world (now (columns .entry)) (now (handles .entry)) st) (world (now (columns .exit)) (now (handles .exit)) r) (stepOf n (world (now (columns .entry)) (now (handles .entry)) st) (corners3 a b c handle)) ⌝ }
 {
-    if st.far {
-        return st;
-    }
     if far_corners(a, b, c) {
         return State {
             kept: st.kept,
@@ -130,7 +128,7 @@ fn wide(x: u32) -> usize
     x as usize
 }
 
-// One triple of a mesh.
+// One triple of a mesh. After a far corner nothing is placed, so that the count is that of the placings made.
 fn place_triple(
     vertices: usize,
     positions: &[f32],
@@ -149,6 +147,9 @@ fn place_triple(
     requires { ⌜ Room n 1 (world (now columns) (now handles) st) ⌝ }
     ensures { λ r. ⌜ Did 1 (world (now (columns .entry)) (now (handles .entry)) st) (world (now (columns .exit)) (now (handles .exit)) r) (run n (world (now (columns .entry)) (now (handles .entry)) st) (cornersIn vertices (now (positions .entry)) (now (transform .entry)) handle (triple i j k))) ⌝ }
 {
+    if st.far {
+        return st;
+    }
     if i < vertices {
         if j < vertices {
             if k < vertices {

@@ -1,4 +1,4 @@
--- `placing::keep` meets its contract: by its tests: nothing after a far corner, a far corner, a degenerate triangle, or one triangle stored.
+-- `placing::keep` meets its contract: by its tests: a far corner, a degenerate triangle, or one triangle stored.
 use native.Mathlib.Omega.{arith}
 use borrow.Author.Needs.{needs}
 use lib.ListN.{length-set}
@@ -11,13 +11,12 @@ unfolding stepOf
 keep-spec =
     tie.close
     (tie.spec
-    (λ c. record { made = rw (c .if1 .taken); kept = omega arith; placed = omega arith })
     (λ c κs. tt)
     (λ c. omega arith)
     (λ c.
     let d = c .before .before in
     record {
-      made = rw (d .before .if1 .left, ← d .far-corners .ensures, c .before .if2 .taken);
+      made = rw (d .before .before .before .pre .1, ← d .far-corners .ensures, c .before .if1 .taken);
       kept = omega arith;
       placed = omega arith;
     })
@@ -27,7 +26,7 @@ keep-spec =
     let e = c .before .before in
     let d = e .before .before in
     record {
-      made = rw (d .before .if1 .left, ← d .far-corners .ensures, e .before .if2 .left, ← e .is-degenerate .ensures, c .before .if3 .taken);
+      made = rw (d .before .before .before .pre .1, ← d .far-corners .ensures, e .before .if1 .left, ← e .is-degenerate .ensures, c .before .if2 .taken);
       kept = omega arith;
       placed = omega arith;
     })
@@ -47,11 +46,11 @@ keep-spec =
     record {
       made =
           rw (
-            d .before .if1 .left,
+            d .before .before .before .pre .1,
             ← d .far-corners .ensures,
-            e .before .if2 .left,
+            e .before .if1 .left,
             ← e .is-degenerate .ensures,
-            m .before .before .if3 .left,
+            m .before .before .if2 .left,
             ← m .triangle-of .ensures,
             ← p .put-triangle .ensures,
           );

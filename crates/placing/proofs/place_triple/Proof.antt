@@ -1,21 +1,23 @@
--- `placing::place_triple` meets its contract: by its tests of the three indices, nothing or the contract of `keep`.
+-- `placing::place_triple` meets its contract: nothing after a far corner, else by its tests of the three indices nothing or the contract of `keep`.
+use mathlib.Core.Path.{sym, _∙_}
 use native.Mathlib.Omega.{arith}
 use borrow.Author.Tests.{lt-ltb, le-ltb}
 use borrow.Author.Needs.{needs}
 use Rattle.placing.specs.Corners.{cornersIn}
-use Rattle.placing.specs.Passing.{run}
+use Rattle.placing.proofs.Passes.{run-none, run-one, run-far}
 use Rattle.placing.proofs.place_triple.Statement.{statement}
 use Rattle.placing.proofs.place_triple.Tie as tie
 
 pub place-triple-spec : {M : Type 1} → statement M
-unfolding cornersIn run
+unfolding cornersIn
 place-triple-spec =
     tie.close
     (tie.spec
+    (λ c. record { made = sym (run-far _ _ _ (c .if1 .taken)); kept = omega arith; placed = omega arith })
     (λ c κs. omega arith)
     (λ c κs. omega arith)
     (λ c κs. omega arith)
-    (λ c κs. omega arith)
+    (λ c κs. (omega arith, c .before .before .before .before .before .before .before .before .if1 .left))
     (λ c. search needs)
     (λ c. search needs)
     (λ c.
@@ -23,27 +25,27 @@ place-triple-spec =
     let three = k .before .before .before in
     let two = three .before in
     let one = two .before in
-    let at-if3 = one .before in
+    let at-if4 = one .before in
     let done = k .keep .ensures in
     record {
       made =
           rw (
-            lt-ltb _ _ (at-if3 .before .before .if1 .taken),
-            lt-ltb _ _ (at-if3 .before .if2 .taken),
-            lt-ltb _ _ (at-if3 .if3 .taken),
+            lt-ltb _ _ (at-if4 .before .before .if2 .taken),
+            lt-ltb _ _ (at-if4 .before .if3 .taken),
+            lt-ltb _ _ (at-if4 .if4 .taken),
             ← one .corner .ensures,
             ← two .corner2 .ensures,
             ← three .corner3 .ensures,
           )
-          (done .made);
+          (done .made ∙ sym (run-one _ _ _));
       kept = done .kept;
       placed = done .placed;
     })
     (λ c.
     record {
-      made = rw (lt-ltb _ _ (c .before .before .if1 .taken), lt-ltb _ _ (c .before .if2 .taken), le-ltb _ _ (c .if3 .left));
+      made = rw (lt-ltb _ _ (c .before .before .if2 .taken), lt-ltb _ _ (c .before .if3 .taken), le-ltb _ _ (c .if4 .left)) (sym (run-none _ _));
       kept = omega arith;
       placed = omega arith;
     })
-    (λ c. record { made = rw (lt-ltb _ _ (c .before .if1 .taken), le-ltb _ _ (c .if2 .left)); kept = omega arith; placed = omega arith })
-    (λ c. record { made = rw (le-ltb _ _ (c .if1 .left)); kept = omega arith; placed = omega arith }))
+    (λ c. record { made = rw (lt-ltb _ _ (c .before .if2 .taken), le-ltb _ _ (c .if3 .left)) (sym (run-none _ _)); kept = omega arith; placed = omega arith })
+    (λ c. record { made = rw (le-ltb _ _ (c .if2 .left)) (sym (run-none _ _)); kept = omega arith; placed = omega arith }))
