@@ -2,3 +2,4 @@
 pub mod Model
 pub mod Settings
 pub mod Loads
+pub mod Hits

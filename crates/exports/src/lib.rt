@@ -5,10 +5,13 @@ use packet::Written;
 use placing::Loaded;
 use scene::Areas;
 use scene::Settings;
+use trace::Hit;
+use vector::Ray;
+use vector::Vec3;
 ghost use mathlib.Core.Path.{_≡_};
 ghost use mathlib.Core.List.{[], _∷_};
-ghost use Prim.Native.Nat.{_≤_};
-ghost use lib.ListN.{length};
+ghost use Prim.Native.Nat.{ℕ, _*_, _≤_, _<_};
+ghost use lib.ListN.{length, getD};
 ghost use lib.Seq.{sets};
 ghost use Rattle.float.specs.Sqrt.{sqrtOf};
 ghost use Rattle.float.specs.Compare.{minOf, maxOf, clampOf, absOf};
@@ -23,6 +26,13 @@ ghost use Rattle.placing.specs.Loading.{firstRefusal};
 ghost use Rattle.exports.specs.Model.{curveOf, modelOf};
 ghost use Rattle.exports.specs.Settings.{settingsFrom};
 ghost use Rattle.exports.specs.Loads.{areas, Loads};
+ghost use Rattle.exports.specs.Hits.{rayFrom, flatOf, Hits};
+ghost use Rattle.geometry.specs.declared.Triangle.{Triangle};
+ghost use Rattle.build.specs.Tree.{Tree};
+ghost use Rattle.build.specs.Areas.{treeAtOf};
+ghost use Rattle.trace.specs.Leaf.{Rows};
+ghost use Rattle.trace.specs.Trace.{intersectOf, paddedTreeOf, Held};
+ghost use Rattle.bvh.specs.Bvh.{Lent, BvhOf};
 
 // ---- numbers
 
@@ -266,4 +276,143 @@ pub extern "C" fn biv_load_scene(
             0
         }
     }
+}
+
+// ---- the tree
+
+// `build_flat_bvh`: as many triangles as perm is long. The answer is the count of nodes, 0 where a centroid is not finite.
+#[no_mangle]
+pub extern "C" fn biv_build_flat_bvh(
+    columns: &[f32],
+    handles: &[u32],
+    n: usize,
+    extents: &mut [f32],
+    kx: &mut [u64],
+    ky: &mut [u64],
+    kz: &mut [u64],
+    perm: &mut [u32],
+    words: &mut [u64],
+    scratch: &mut [u64],
+    areas: &mut [f32],
+    boxes: &mut [f32],
+    nodes: &mut [u32],
+    padded: &mut [f32],
+    rows: &mut [f32],
+) -> usize
+    requires { ⌜ Lent (now columns) (now handles) n (now extents) (now kx) (now ky) (now kz) (now perm) (now words) (now scratch) (now areas) (now boxes) (now nodes) ⌝ }
+    requires { ⌜ (12 * length (now perm) ≤ length (now padded)) × (10 * length (now perm) ≤ length (now rows)) ⌝ }
+    ensures { λ r. ⌜ BvhOf (now (columns .entry)) (now (handles .entry)) n (length (now (perm .entry))) (now (boxes .exit)) (now (nodes .exit)) (now (perm .exit)) (now (padded .exit)) (now (rows .exit)) r ⌝ }
+{
+    bvh::build_flat_bvh(
+        columns,
+        handles,
+        n,
+        extents,
+        kx,
+        ky,
+        kz,
+        perm,
+        words,
+        scratch,
+        areas,
+        boxes,
+        nodes,
+        padded,
+        rows,
+    )
+}
+
+// A ray is origin, direction, least and greatest distance.
+fn ray_from(ray: &[f32]) -> Ray
+    requires { ⌜ length (now ray) ≡ 8 ⌝ }
+    ensures { λ r. ⌜ r ≡ rayFrom (now (ray .entry)) ⌝ }
+{
+    let origin = Vec3 {
+        x: ray[0],
+        y: ray[1],
+        z: ray[2],
+    };
+    let direction = Vec3 {
+        x: ray[3],
+        y: ray[4],
+        z: ray[5],
+    };
+    let min_distance = ray[6];
+    let max_distance = ray[7];
+    Ray {
+        origin,
+        direction,
+        min_distance,
+        max_distance,
+    }
+}
+
+// A hit as numbers, all zero where there is none.
+struct FlatHit {
+    found: bool,
+    distance: f32,
+    point: Vec3,
+    triangle: usize,
+}
+
+fn flat(answer: Hit) -> FlatHit
+    ensures { λ r. ⌜ r ≡ flatOf answer ⌝ }
+{
+    match answer {
+        Hit::At(h) => {
+            let point = h.point;
+            FlatHit {
+                found: true,
+                distance: h.distance,
+                point,
+                triangle: h.triangle,
+            }
+        }
+        Hit::Nothing => {
+            let point = Vec3 {
+                x: 0.0,
+                y: 0.0,
+                z: 0.0,
+            };
+            FlatHit {
+                found: false,
+                distance: 0.0,
+                point,
+                triangle: 0,
+            }
+        }
+    }
+}
+
+// `FlatBvh::intersect` on what `biv_build_flat_bvh` left. The answer is whether there is a hit; `hit` then has its distance and point,
+// `place` its triangle.
+#[no_mangle]
+pub extern "C" fn biv_intersect(
+    padded: &[f32],
+    nodes: &[u32],
+    perm: &[u32],
+    rows: &[f32],
+    handles: &[u32],
+    count: usize,
+    ray: &[f32],
+    hit: &mut [f32],
+    place: &mut [usize],
+) -> bool
+    requires { ⌜ Held (now padded) (now nodes) (now perm) (now rows) count ⌝ }
+    requires { ⌜ 0 < count ⌝ }
+    requires { ⌜ length (now ray) ≡ 8 ⌝ }
+    requires { ⌜ 4 ≤ length (now hit) ⌝ }
+    requires { ⌜ 1 ≤ length (now place) ⌝ }
+    ensures { λ r. ⌜ ((tri : ℕ → Triangle) (t : Tree) → Rows tri (now (perm .entry)) (now (rows .entry)) → ((i : ℕ) → tri i .«material_handle» ≡ getD (now (handles .entry)) i 0) → treeAtOf (now (padded .entry)) (now (nodes .entry)) (now (perm .entry)) 33 0 ≡ paddedTreeOf t → Hits (flatOf (intersectOf tri (rayFrom (now (ray .entry))) t)) (now (hit .entry)) (now (place .entry)) r (now (hit .exit)) (now (place .exit))) ⌝ }
+{
+    let hit_is = flat(trace::intersect(padded, nodes, perm, rows, handles, count, ray_from(ray)));
+    if hit_is.found {
+        hit[0] = hit_is.distance;
+        hit[1] = hit_is.point.x;
+        hit[2] = hit_is.point.y;
+        hit[3] = hit_is.point.z;
+        place[0] = hit_is.triangle;
+        return true;
+    }
+    false
 }
