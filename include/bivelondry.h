@@ -3,6 +3,7 @@
 #ifndef BIVELONDRY_H
 #define BIVELONDRY_H
 
+#include <stdbool.h>
 #include <stddef.h>
 #include <stdint.h>
 
@@ -53,6 +54,26 @@ uint32_t biv_load_scene(const uint32_t *counts, size_t counts_len, const float *
                         const float *materials, size_t materials_len, uint32_t rows,
                         size_t candidate_floats, size_t candidate_words, size_t output,
                         float *columns, size_t columns_len, uint32_t *handles, size_t handles_len, size_t *found, size_t found_len);
+
+/* ---- the tree */
+
+/* bvh/specs/Bvh.antt. The tree over the first perm_len triangles of columns of n floats (what biv_load_scene left); 0 < perm_len <= n and
+ * perm_len < 65,536. Answers the count of its nodes, 0 where a centroid is not finite. In triangles m = perm_len the least lengths are:
+ * extents 9 m, kx, ky, kz, words, scratch and areas m, boxes 12 m, nodes 8 m, padded 12 m, rows 10 m. A node is six floats of boxes
+ * (least and greatest corner) and four words of nodes (left, right, start, len; len is 0 unless it is a leaf, whose triangles stand in
+ * perm from start on). The caller keeps the lengths. */
+size_t biv_build_flat_bvh(const float *columns, size_t columns_len, const uint32_t *handles, size_t handles_len, size_t n,
+                          float *extents, size_t extents_len, uint64_t *kx, size_t kx_len, uint64_t *ky, size_t ky_len,
+                          uint64_t *kz, size_t kz_len, uint32_t *perm, size_t perm_len, uint64_t *words, size_t words_len,
+                          uint64_t *scratch, size_t scratch_len, float *areas, size_t areas_len, float *boxes, size_t boxes_len,
+                          uint32_t *nodes, size_t nodes_len, float *padded, size_t padded_len, float *rows, size_t rows_len);
+
+/* trace/specs/Trace.antt, intersectOf. The nearest hit in a tree of count nodes, count above 0, that biv_build_flat_bvh left in padded,
+ * nodes, perm and rows. ray has 8 floats: origin, direction, least and greatest distance. Answers whether there is a hit; hit (4 floats or
+ * more) then has its distance and point, place its triangle; else they are as they were. */
+bool biv_intersect(const float *padded, size_t padded_len, const uint32_t *nodes, size_t nodes_len, const uint32_t *perm, size_t perm_len,
+                   const float *rows, size_t rows_len, const uint32_t *handles, size_t handles_len, size_t count,
+                   const float *ray, size_t ray_len, float *hit, size_t hit_len, size_t *place, size_t place_len);
 
 #ifdef __cplusplus
 }

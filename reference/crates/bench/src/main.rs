@@ -3,7 +3,7 @@
 use oracle::{Case, Mesh, Row, Settings, IDENTITY};
 use compare::front::{areas, lent};
 use compare::random::Random;
-use port::{OUTPUT, TAPS, TAP_WORDS};
+use port::{Loaded, Tree, OUTPUT, TAPS, TAP_WORDS};
 use std::hint::black_box;
 use std::time::Instant;
 
@@ -14,6 +14,7 @@ fn main() {
     roots();
     sorts();
     fronts();
+    trees();
     packets();
 }
 
@@ -90,7 +91,7 @@ fn soup(n: usize) -> Case {
         }
     }
     let row = Row { absorption: [0.2; 8], transmission: [0.0; 8] };
-    Case { name: format!("soup-{n}"), settings: Settings::default(), materials: vec![row], meshes: vec![m], source: [0.0; 3], listener: [1.0; 3], separated: false }
+    Case { name: format!("soup-{n}"), settings: Settings { room: 0, ..Settings::default() }, materials: vec![row], meshes: vec![m], source: [0.0; 3], listener: [1.0; 3], separated: false }
 }
 
 fn fronts() {
@@ -98,10 +99,50 @@ fn fronts() {
         let c = soup(n);
         let l = lent(&c);
         let mut a = areas(n, 0);
+        assert!(matches!(port::load_scene(&l, &mut a), Loaded::Triangles { .. }));
         let backend = oracle::unbuilt(&c, false, &oracle::Overrides::default());
         let sets = (8192 / n).max(1);
         let (p, q) = both(|| (), |_| (0..sets).for_each(|_| { black_box(port::load_scene(&l, &mut a)); }), |_| (0..sets).for_each(|_| { black_box(backend.oracle_place()); }));
         line(&format!("load_scene against triangles_from_scene, {n}"), p / sets as f64, q / sets as f64);
+    }
+}
+
+/// Rays from within a scene in all directions.
+fn rays(n: usize) -> Vec<[f32; 8]> {
+    let mut r = Random::new(n as u64 + 9);
+    (0..1000)
+        .map(|_| {
+            let from: [f32; 3] = std::array::from_fn(|_| unit(&mut r) * 8.0 - 4.0);
+            let d: [f32; 3] = std::array::from_fn(|_| unit(&mut r) * 2.0 - 1.0);
+            let length = (d[0] * d[0] + d[1] * d[1] + d[2] * d[2]).sqrt().max(1e-3);
+            [from[0], from[1], from[2], d[0] / length, d[1] / length, d[2] / length, 1e-3, 50.0]
+        })
+        .collect()
+}
+
+fn trees() {
+    for n in [12, 500, 4096] {
+        let c = soup(n);
+        let mut a = areas(n, 0);
+        assert!(matches!(port::load_scene(&lent(&c), &mut a), Loaded::Triangles { .. }));
+        let backend = oracle::built(&c, false);
+        let mut tree = Tree::areas(n);
+        assert!(tree.build(&a.columns, &a.handles, n));
+        let sets = (4096 / n).max(1);
+        let (p, q) = both(
+            || (),
+            |_| (0..sets).for_each(|_| { black_box(tree.build(&a.columns, &a.handles, n)); }),
+            |_| (0..sets).for_each(|_| { black_box(backend.oracle_build_tree()); }),
+        );
+        line(&format!("build_flat_bvh, {n} triangles"), p / sets as f64, q / sets as f64);
+        let (rays, rust) = (rays(n), backend.oracle_tree().expect("a tree"));
+        assert!(rays.iter().all(|r| tree.intersect(r).map(|h| h.triangle) == rust.intersect(r).map(|h| h.triangle as usize)));
+        let (p, q) = both(
+            || (),
+            |_| rays.iter().for_each(|r| { black_box(tree.intersect(r)); }),
+            |_| rays.iter().for_each(|r| { black_box(rust.intersect(r)); }),
+        );
+        line(&format!("intersect, {n} triangles, a ray"), p / 1e3, q / 1e3);
     }
 }
 

@@ -1,6 +1,7 @@
 //! Runs stages of the port and the Rust on generated cases and on files, stops at the first difference, and makes its case small.
-use crate::front::{self, Damage, DAMAGES, SLIPS};
+use crate::front::{self, Damage, DAMAGES};
 use crate::scenes::{self, Kind, KINDS};
+use crate::tree::{self, Traced};
 use oracle::Case;
 use port::Loaded;
 use std::collections::BTreeMap;
@@ -13,9 +14,22 @@ struct Coverage {
     refusals: BTreeMap<u32, u64>,
     triangles: u64,
     most: usize,
+    trees: u64,
+    nodes: u64,
+    deepest: u64,
+    rays: u64,
+    hits: u64,
 }
 
 impl Coverage {
+    fn add_tree(&mut self, t: Traced) {
+        self.trees += (t.nodes > 0) as u64;
+        self.nodes += t.nodes;
+        self.deepest = self.deepest.max(t.depth);
+        self.rays += t.rays;
+        self.hits += t.hits;
+    }
+
     fn add(&mut self, answer: Loaded) {
         self.calls += 1;
         match answer {
@@ -35,12 +49,13 @@ impl Coverage {
             println!("  refusal {k}: {n} calls");
         }
         println!("  triangles: {}, at most {} in a scene", self.triangles, self.most);
+        println!("  trees: {}, {} nodes, at most {} deep; {} rays, {} hits", self.trees, self.nodes, self.deepest, self.rays, self.hits);
     }
 }
 
 /// A smaller case with the same difference, as far as meshes and triples can be left out.
 fn small(mut c: Case, d: Damage) -> Case {
-    let differs = |c: &Case| matches!(front::run(c, d, None), Some(Err(_)));
+    let differs = |c: &Case| matches!(stages(c, d, None), Some(Err(_)));
     loop {
         let mut tries: Vec<Case> = Vec::new();
         for k in 0..c.meshes.len() {
@@ -72,10 +87,32 @@ fn fail(c: &Case, d: Damage, words: &str) -> ! {
     std::process::exit(1)
 }
 
+/// Slips of all stages: those of the front, then those of the tree.
+const SLIPS: usize = front::SLIPS + tree::SLIPS;
+
+/// One call, stage by stage. None where the damage or the slip does not apply.
+fn stages(c: &Case, d: Damage, planted: Option<usize>) -> Option<Result<(Loaded, Traced), String>> {
+    let left = match front::run(c, d, planted.filter(|&k| k < front::SLIPS))? {
+        Ok(left) => left,
+        Err(words) => return Some(Err(words)),
+    };
+    let later = planted.and_then(|k| k.checked_sub(front::SLIPS));
+    match left.answer {
+        Loaded::Triangles { kept, triples, .. } => match tree::run(c, &left.areas, kept, triples, later)? {
+            Ok(traced) => Some(Ok((left.answer, traced))),
+            Err(words) => Some(Err(words)),
+        },
+        Loaded::Refused(_) => later.is_none().then_some(Ok((left.answer, Traced::default()))),
+    }
+}
+
 fn check(c: &Case, cover: &mut Coverage) {
     for d in DAMAGES {
-        match front::run(c, d, None) {
-            Some(Ok(answer)) => cover.add(answer),
+        match stages(c, d, None) {
+            Some(Ok((answer, traced))) => {
+                cover.add(answer);
+                cover.add_tree(traced);
+            }
             Some(Err(words)) => fail(c, d, &words),
             None => {}
         }
@@ -120,7 +157,7 @@ pub fn slips(count: u64, seed: u64) {
     for k in 0..count {
         let c = scenes::case(KINDS[k as usize % KINDS.len()], seed.wrapping_mul(1_000_003) + k);
         for s in 0..SLIPS {
-            match front::run(&c, Damage::None, Some(s)) {
+            match stages(&c, Damage::None, Some(s)) {
                 Some(Err(_)) => planted += 1,
                 Some(Ok(_)) => {
                     planted += 1;

@@ -170,7 +170,7 @@ fn slip(left: &mut Left, kind: usize) -> bool {
 }
 
 /// Runs a case; the slip, if any, is planted into the port's answer. None where the damage or the slip does not apply.
-pub fn run(c: &Case, d: Damage, planted: Option<usize>) -> Option<Result<Loaded, String>> {
+pub fn run(c: &Case, d: Damage, planted: Option<usize>) -> Option<Result<Left, String>> {
     let mut l = lent(c);
     let mut found = areas(triples(c), c.settings.room.min(250_000) as usize);
     if !damage(&mut l, &mut found, d) {
@@ -184,7 +184,7 @@ pub fn run(c: &Case, d: Damage, planted: Option<usize>) -> Option<Result<Loaded,
         }
     }
     Some(match difference(c, d, &found, &left) {
-        None => Ok(left.answer),
+        None => Ok(left),
         Some(words) => Err(words),
     })
 }

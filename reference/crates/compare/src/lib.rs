@@ -4,3 +4,4 @@ pub mod front;
 pub mod numbers;
 pub mod random;
 pub mod scenes;
+pub mod tree;

@@ -21,6 +21,8 @@ pub enum Kind {
     Ties,
     /// Random triangles, up to 4,096.
     Soup,
+    /// Triangles of one box: all splits cost the same, one triangle goes at a time, and the tree is as deep as it may be.
+    Deep,
     /// Transforms that rotate, scale, mirror, shear and move, some far.
     Transforms,
     /// Any floats in the material table.
@@ -33,9 +35,9 @@ pub enum Kind {
     Limits,
 }
 
-pub const KINDS: [Kind; 13] = [
-    Kind::Booth, Kind::Panels, Kind::Vault, Kind::Duplicates, Kind::Buried, Kind::Broken, Kind::Ties, Kind::Soup, Kind::Transforms, Kind::Materials,
-    Kind::Positions, Kind::Curtains, Kind::Limits,
+pub const KINDS: [Kind; 14] = [
+    Kind::Booth, Kind::Panels, Kind::Vault, Kind::Duplicates, Kind::Buried, Kind::Broken, Kind::Ties, Kind::Soup, Kind::Deep, Kind::Transforms,
+    Kind::Materials, Kind::Positions, Kind::Curtains, Kind::Limits,
 ];
 
 type V = [f32; 3];
@@ -77,16 +79,16 @@ impl Random {
         ((self.bits() >> 32) as usize * n) >> 32
     }
 
-    fn chance(&mut self, one_in: usize) -> bool {
+    pub fn chance(&mut self, one_in: usize) -> bool {
         self.below(one_in) == 0
     }
 
     /// From a to b.
-    fn from(&mut self, a: f32, b: f32) -> f32 {
+    pub fn from(&mut self, a: f32, b: f32) -> f32 {
         a + (b - a) * ((self.bits() >> 40) as f32 / 16_777_216.0)
     }
 
-    fn vector(&mut self, size: f32) -> V {
+    pub fn vector(&mut self, size: f32) -> V {
         std::array::from_fn(|_| self.from(-size, size))
     }
 
@@ -260,6 +262,17 @@ fn soup(c: &mut Case, r: &mut Random) {
     c.settings.order = r.below(3) as u32;
 }
 
+fn deep(c: &mut Case, r: &mut Random) {
+    let mut m = mesh(handle(c, r));
+    let (at, side) = (r.grid(2.0), r.from(0.5, 4.0));
+    for _ in 0..8 + r.below(100) {
+        let third = std::array::from_fn(|k| at[k] + r.from(0.0, side));
+        triangle(&mut m, at, add(at, [side; 3]), third);
+    }
+    c.meshes.push(m);
+    c.settings.order = r.below(2) as u32;
+}
+
 fn curtains(c: &mut Case, r: &mut Random) {
     let mut m = mesh(0);
     quad(&mut m, [-4.0, 0.0, -4.0], [8.0, 0.0, 0.0], [0.0, 0.0, 8.0]);
@@ -320,6 +333,7 @@ pub fn case(kind: Kind, seed: u64) -> Case {
         Kind::Broken => broken(&mut c, &mut r),
         Kind::Ties => ties(&mut c, &mut r),
         Kind::Soup => soup(&mut c, &mut r),
+        Kind::Deep => deep(&mut c, &mut r),
         Kind::Transforms => {
             (0..1 + r.below(4)).for_each(|_| panel(&mut c, &mut r));
             c.meshes.iter_mut().for_each(|m| m.transform = r.transform());

@@ -28,6 +28,19 @@ mod ffi {
             candidate_floats: usize, candidate_words: usize, output: usize,
             columns: *mut f32, columns_len: usize, handles: *mut u32, handles_len: usize, found: *mut usize, found_len: usize,
         ) -> u32;
+        #[rustfmt::skip]
+        pub fn biv_build_flat_bvh(
+            columns: *const f32, columns_len: usize, handles: *const u32, handles_len: usize, n: usize, extents: *mut f32, extents_len: usize,
+            kx: *mut u64, kx_len: usize, ky: *mut u64, ky_len: usize, kz: *mut u64, kz_len: usize, perm: *mut u32, perm_len: usize,
+            words: *mut u64, words_len: usize, scratch: *mut u64, scratch_len: usize, areas: *mut f32, areas_len: usize,
+            boxes: *mut f32, boxes_len: usize, nodes: *mut u32, nodes_len: usize, padded: *mut f32, padded_len: usize, rows: *mut f32, rows_len: usize,
+        ) -> usize;
+        #[rustfmt::skip]
+        pub fn biv_intersect(
+            padded: *const f32, padded_len: usize, nodes: *const u32, nodes_len: usize, perm: *const u32, perm_len: usize,
+            rows: *const f32, rows_len: usize, handles: *const u32, handles_len: usize, count: usize,
+            ray: *const f32, ray_len: usize, hit: *mut f32, hit_len: usize, place: *mut usize, place_len: usize,
+        ) -> bool;
         pub fn biv_distance_gain(curve: u32, reference: f32, rolloff: f32, least: f32, greatest: f32, distance: f32) -> f32;
     }
 }
@@ -167,5 +180,90 @@ pub fn load_scene(l: &Lent, a: &mut Areas) -> Loaded {
     match refusal {
         0 => Loaded::Triangles { kept: found[0], placings: found[1], triples: found[2] },
         k => Loaded::Refused(k),
+    }
+}
+
+/// The tree over the first `m` triangles of columns, with the areas it was built in.
+#[derive(Clone, Debug)]
+pub struct Tree {
+    extents: Vec<f32>,
+    keys: [Vec<u64>; 5],
+    areas: Vec<f32>,
+    padded: Vec<f32>,
+    rows: Vec<f32>,
+    handles: Vec<u32>,
+    /// Six floats a node, its box; four words a node, its links (left, right, start, len); the triangles in the order of the leaves.
+    pub boxes: Vec<f32>,
+    pub nodes: Vec<u32>,
+    pub order: Vec<u32>,
+    pub count: usize,
+}
+
+/// What `Tree::intersect` answers.
+#[derive(Clone, Copy, Debug, PartialEq)]
+pub struct Hit {
+    pub distance: f32,
+    pub point: [f32; 3],
+    pub triangle: usize,
+}
+
+/// A node has links to nodes of the tree, or a part of the order.
+fn sound(nodes: &[u32], count: usize, m: usize) -> bool {
+    nodes.chunks_exact(4).take(count).all(|n| match n[3] {
+        0 => (n[0] as usize) < count && (n[1] as usize) < count,
+        len => n[2] as usize + len as usize <= m,
+    })
+}
+
+impl Tree {
+    /// Areas for a tree of `m` triangles; no tree stands in them yet.
+    pub fn areas(m: usize) -> Tree {
+        let words = || vec![0u64; m];
+        Tree {
+            extents: vec![0.0; 9 * m], keys: [words(), words(), words(), words(), words()], areas: vec![0.0; m], padded: vec![0.0; 12 * m],
+            rows: vec![0.0; 10 * m], handles: Vec::new(), boxes: vec![0.0; 12 * m], nodes: vec![0; 8 * m], order: vec![0; m], count: 0,
+        }
+    }
+
+    /// Builds the tree over the first triangles of columns of `n` floats, as many as it has areas for; false where a centroid is not finite.
+    pub fn build(&mut self, columns: &[f32], handles: &[u32], n: usize) -> bool {
+        let m = self.order.len();
+        assert!(columns.len() >= COLUMNS * n && handles.len() >= n, "the columns are short of {n} triangles");
+        assert!(0 < m && m <= n && m < 65536, "{m} of {n} triangles are no tree");
+        let [kx, ky, kz, words, scratch] = &mut self.keys;
+        // SAFETY: as asserted; the areas have the lengths of `areas`, each is distinct and goes with its own length.
+        #[rustfmt::skip]
+        let count = unsafe {
+            ffi::biv_build_flat_bvh(
+                columns.as_ptr(), columns.len(), handles.as_ptr(), handles.len(), n, self.extents.as_mut_ptr(), self.extents.len(),
+                kx.as_mut_ptr(), kx.len(), ky.as_mut_ptr(), ky.len(), kz.as_mut_ptr(), kz.len(), self.order.as_mut_ptr(), m,
+                words.as_mut_ptr(), words.len(), scratch.as_mut_ptr(), scratch.len(), self.areas.as_mut_ptr(), self.areas.len(),
+                self.boxes.as_mut_ptr(), self.boxes.len(), self.nodes.as_mut_ptr(), self.nodes.len(),
+                self.padded.as_mut_ptr(), self.padded.len(), self.rows.as_mut_ptr(), self.rows.len(),
+            )
+        };
+        self.count = count;
+        self.handles.clear();
+        self.handles.extend_from_slice(&handles[..n]);
+        count > 0
+    }
+
+    /// The nearest hit of a ray of origin, direction, least and greatest distance.
+    pub fn intersect(&self, ray: &[f32; 8]) -> Option<Hit> {
+        if self.count == 0 {
+            return None;
+        }
+        debug_assert!(sound(&self.nodes, self.count, self.order.len()));
+        let (mut hit, mut place) = ([0.0f32; 4], [0usize]);
+        // SAFETY: a tree of `count` nodes stands in the areas; ray, hit and place have their lengths.
+        #[rustfmt::skip]
+        let found = unsafe {
+            ffi::biv_intersect(
+                self.padded.as_ptr(), self.padded.len(), self.nodes.as_ptr(), self.nodes.len(), self.order.as_ptr(), self.order.len(),
+                self.rows.as_ptr(), self.rows.len(), self.handles.as_ptr(), self.handles.len(), self.count,
+                ray.as_ptr(), ray.len(), hit.as_mut_ptr(), hit.len(), place.as_mut_ptr(), place.len(),
+            )
+        };
+        found.then(|| Hit { distance: hit[0], point: [hit[1], hit[2], hit[3]], triangle: place[0] })
     }
 }
