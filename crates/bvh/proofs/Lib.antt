@@ -5,3 +5,4 @@ pub mod Hits
 mod Examples
 mod Rows
 mod Laws
+pub mod Finite

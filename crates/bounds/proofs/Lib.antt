@@ -1,0 +1,3 @@
+-- The laws on the size of floats.
+pub mod Rounded
+pub mod Operations

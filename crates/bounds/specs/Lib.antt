@@ -1,0 +1,2 @@
+-- What it means that a float is bounded.
+pub mod Bounds
