@@ -1,0 +1,115 @@
+-- Laws on the definitions: an image in one plane more, the ways that a turn back goes, and that a way back depends only on the planes and
+-- images below its start.
+use mathlib.Core.Path.{_≡_, refl, sym, ap, _∙_}
+use mathlib.Core.List.{List, [], _∷_, _++_, foldl}
+use Prim.Native.Nat.{ℕ, zero, suc, _+_, _-_, _<_, _≤_}
+use native.Mathlib.Numerals.{add-one}
+use native.Mathlib.Omega.{arith}
+use lib.Ieee.{Float, binary32, mul}
+use lib.ListN.{length, getD, set, take, drop, length-set}
+use lib.Seq.{slice, slice-cons, getD-set-same, take-set-lt, drop-set-lt}
+use Rattle.vector.specs.declared.Vec3.{Vec3}
+use Rattle.geometry.specs.declared.Triangle.{Triangle}
+use Rattle.mirror.specs.Plane.{Plane, planeAt}
+use Rattle.mirror.specs.Mirror.{mirrorOf}
+use Rattle.mirror.specs.Rows.{rowOf, trisOf, borderOf, planeOf, planeIn, planesIn}
+use Rattle.mirror.proofs.Laws.{plane-at}
+use Rattle.bounces.specs.Image.{imageOf}
+use Rattle.bounces.specs.declared.Bounce.{Bounce}
+use Rattle.bounces.specs.declared.Bounce.the-variants.{NotCrossed, OffSurface, On}
+use Rattle.bounces.specs.declared.Trail.{Trail}
+use Rattle.bounces.specs.Bounces.{bounceOf, Bounces, thenOf, backOf}
+use Rattle.bounces.specs.Areas.{trailOf}
+
+pub never : {A : Type 0} (x m : ℕ) → x ≡ suc m → x ≡ 0 → A
+never x m a b = let no : ⊥ = omega arith in absurd no
+
+-- ---- images
+
+pub image-none : (planes : List Plane) (source : Vec3) → imageOf planes source [] ≡ source
+unfolding imageOf
+image-none planes source = refl
+
+-- one plane more
+pub image-next : (planes : List Plane) (source : Vec3) (seq : List ℕ) (p : ℕ) → imageOf planes source (seq ++ (p ∷ [])) ≡ mirrorOf (planeAt planes p) (imageOf planes source seq)
+unfolding imageOf
+image-next planes source [] p = refl
+image-next planes source (q ∷ seq) p = image-next planes (mirrorOf (planeAt planes q) source) seq p
+
+-- ---- a store in a run
+
+pub slice-put :
+    {A : Type 0} (l : List A) (x d : A) (k n : ℕ) → k < n → n ≤ length l → slice k n (set l k x) ≡ x ∷ slice (k + 1) n l
+slice-put l x d k n h fits =
+    let long : length (set l k x) ≡ length l = length-set l k x in
+    let cons : slice k n (set l k x) ≡ getD (set l k x) k d ∷ slice (suc k) n (set l k x) = slice-cons k n (set l k x) d h (omega arith) in
+    let tail : slice (suc k) n (set l k x) ≡ slice (suc k) n l =
+    ap (drop (suc k)) (take-set-lt n l k x h) ∙ drop-set-lt (suc k) (take n l) k x (omega arith) in
+    rw (cons, getD-set-same l k x d (omega arith), tail, add-one)
+
+-- ---- the ways that a turn back goes
+
+module _ (tri : ℕ → Triangle) (fade : Float) (plane : ℕ → Plane) (image : ℕ → Vec3) where
+  pub back-none :
+      (t : Trail) (k n : ℕ) (prev : Vec3) → k ≡ 0 → t .fate ≡ 0 →
+      trailOf t n ≡ backOf tri fade plane image k prev (t .weight) (slice k n (t .points)) (slice k n (t .tris))
+  unfolding trailOf backOf
+  back-none t k n prev z f = rw (z, f)
+
+  module _ (k : ℕ) (prev : Vec3) (weight : Float) (ps : List Vec3) (is : List ℕ) (b : Bounce)
+      (some : k ≡ 0 → ⊥) (turn : b ≡ bounceOf tri fade (plane (k - 1)) prev (image k)) where
+    back-step : backOf tri fade plane image k prev weight ps is ≡ thenOf (λ i w q. backOf tri fade plane image (k - 1) q (mul binary32 weight w) (q ∷ ps) (i ∷ is)) b
+    unfolding backOf
+    back-step = opened k some turn where
+      opened :
+          (k : ℕ) → (k ≡ 0 → ⊥) → b ≡ bounceOf tri fade (plane (k - 1)) prev (image k) →
+          backOf tri fade plane image k prev weight ps is ≡ thenOf (λ i w q. backOf tri fade plane image (k - 1) q (mul binary32 weight w) (q ∷ ps) (i ∷ is)) b
+      opened zero ne e = absurd (ne refl)
+      opened (suc k) ne e = let l : suc k - 1 ≡ k = omega arith in rw (e, l)
+
+    pub back-not-crossed : (r : Trail) (n : ℕ) → r .fate ≡ 2 → b ≡ NotCrossed → trailOf r n ≡ backOf tri fade plane image k prev weight ps is
+    unfolding trailOf
+    back-not-crossed r n f h = rw (f, back-step, h)
+
+    pub back-off-surface : (r : Trail) (n : ℕ) → r .fate ≡ 3 → b ≡ OffSurface → trailOf r n ≡ backOf tri fade plane image k prev weight ps is
+    unfolding trailOf
+    back-off-surface r n f h = rw (f, back-step, h)
+
+    pub back-on :
+        (i : ℕ) (w : Float) (q : Vec3) → b ≡ On i w q →
+        backOf tri fade plane image (k - 1) q (mul binary32 weight w) (q ∷ ps) (i ∷ is) ≡ backOf tri fade plane image k prev weight ps is
+    back-on i w q h = rw (back-step, h)
+
+-- ---- what a way back depends on
+
+then-ext : (f g : ℕ → Float → Vec3 → Bounces) (b : Bounce) → ((i : ℕ) (w : Float) (q : Vec3) → f i w q ≡ g i w q) → thenOf f b ≡ thenOf g b
+then-ext f g NotCrossed same = refl
+then-ext f g OffSurface same = refl
+then-ext f g (On i w q) same = same i w q
+
+module _ (tri : ℕ → Triangle) (fade : Float) (plane plane′ : ℕ → Plane) (image image′ : ℕ → Vec3) where
+  pub back-ext :
+      (k : ℕ) (prev : Vec3) (weight : Float) (ps : List Vec3) (is : List ℕ) →
+      ((j : ℕ) → j < k → plane j ≡ plane′ j) → ((j : ℕ) → j ≤ k → image j ≡ image′ j) →
+      backOf tri fade plane image k prev weight ps is ≡ backOf tri fade plane′ image′ k prev weight ps is
+  unfolding backOf
+  back-ext zero prev weight ps is ep ei = refl
+  back-ext (suc k) prev weight ps is ep ei =
+      ap (λ (b : Bounce). thenOf (λ i w q. backOf tri fade plane image k q (mul binary32 weight w) (q ∷ ps) (i ∷ is)) b) turn
+      ∙ then-ext (λ i w q. backOf tri fade plane image k q (mul binary32 weight w) (q ∷ ps) (i ∷ is))
+      (λ i w q. backOf tri fade plane′ image′ k q (mul binary32 weight w) (q ∷ ps) (i ∷ is))
+      (bounceOf tri fade (plane′ k) prev (image′ (suc k)))
+      (λ i w q. back-ext k q (mul binary32 weight w) (q ∷ ps) (i ∷ is) (λ j h. ep j (omega arith)) (λ j h. ei j (omega arith)))
+    where
+      turn : bounceOf tri fade (plane k) prev (image (suc k)) ≡ bounceOf tri fade (plane′ k) prev (image′ (suc k))
+      turn = rw (ep k (omega arith), ei (suc k) (omega arith))
+
+-- ---- planes in areas
+
+-- `planes[p]`, from its row
+pub plane-row :
+    (floats : List Float) (words members : List ℕ) (edges : List Float) (count p : ℕ) → p < count →
+    planeAt (planesIn floats words members edges count) p
+    ≡ planeOf (rowOf floats words p) (trisOf (rowOf floats words p) members) (borderOf (rowOf floats words p) edges)
+unfolding planeIn
+plane-row floats words members edges count p h = plane-at floats words members edges count p h

@@ -1,0 +1,193 @@
+// The bounces of a path by way of a sequence of planes, found from the listener back to the source, and the images that they aim at.
+use mirror::Located;
+use mirror::PlaneCrossing;
+use vector::Vec3;
+ghost use mathlib.Core.Path.{_≡_};
+ghost use mathlib.Core.List.{List, _∷_};
+ghost use Prim.Native.Nat.{ℕ, _+_, _*_, _<_, _≤_};
+ghost use lib.ListN.{length, getD};
+ghost use lib.Seq.{slice};
+ghost use lib.Ieee.{Float, binary32, mul};
+ghost use Rattle.float.specs.Literals.{one32};
+ghost use Rattle.geometry.specs.declared.Triangle.{Triangle};
+ghost use Rattle.mirror.specs.Plane.{noPoint, planeAt};
+ghost use Rattle.mirror.specs.Mirror.{mirrorOf};
+ghost use Rattle.mirror.specs.Rows.{planeFloats, planeWords, planesIn};
+ghost use Rattle.bounces.specs.Image.{liesOnOf};
+ghost use Rattle.bounces.specs.Bounces.{bounceOf, backOf, planeOn};
+ghost use Rattle.bounces.specs.Areas.{PlanesLent, PlanesRead, maxOrder, trailOf, Going};
+
+const PLANE_SIDE_EPS: f32 = 1e-4;
+
+const NOT_CROSSED: u32 = 2;
+
+const OFF_SURFACE: u32 = 3;
+
+// One bounce: the triangle, the edge weight and the point.
+pub enum Bounce {
+    NotCrossed,
+    OffSurface,
+    On(usize, f32, Vec3),
+}
+
+// The bounces found so far, source side first, and the product of their weights. The fate is 0, or that of the first bounce that failed.
+pub struct Trail {
+    pub points: [Vec3; 8],
+    pub tris: [usize; 8],
+    pub weight: f32,
+    pub fate: u32,
+}
+
+// ---- images
+
+// Whether the source lies on plane p, so that a sequence may not begin with it.
+pub fn lies_on(floats: &[f32], words: &[u32], p: usize, source: Vec3) -> bool
+    requires { ⌜ (planeFloats * p + planeFloats ≤ length (now floats)) × (planeWords * p + planeWords ≤ length (now words)) ⌝ }
+    ensures { λ r. ⌜ ((members : List ℕ) (edges : List Float) (count : ℕ) → p < count → r ≡ liesOnOf (planeAt (planesIn (now (floats .entry)) (now (words .entry)) members edges count) p) source) ⌝ }
+{
+    float::abs(mirror::signed_distance(mirror::plane_at(floats, words, p), source)) < PLANE_SIDE_EPS
+}
+
+// The image of an image in plane p.
+pub fn next_image(floats: &[f32], words: &[u32], p: usize, image: Vec3) -> Vec3
+    requires { ⌜ (planeFloats * p + planeFloats ≤ length (now floats)) × (planeWords * p + planeWords ≤ length (now words)) ⌝ }
+    ensures { λ r. ⌜ ((members : List ℕ) (edges : List Float) (count : ℕ) → p < count → r ≡ mirrorOf (planeAt (planesIn (now (floats .entry)) (now (words .entry)) members edges count) p) image) ⌝ }
+{
+    mirror::mirror(mirror::plane_at(floats, words, p), image)
+}
+
+// ---- bounces
+
+// The bounce on plane p, between `prev` and the image `target`.
+fn bounce_on(
+    columns: &[f32],
+    n: usize,
+    floats: &[f32],
+    words: &[u32],
+    members: &[u32],
+    edges: &[f32],
+    count: usize,
+    fade: f32,
+    p: usize,
+    prev: Vec3,
+    target: Vec3,
+) -> Bounce
+    requires { ⌜ PlanesLent (now columns) n (now floats) (now words) (now members) (now edges) count ⌝ }
+    requires { ⌜ p < count ⌝ }
+    ensures { λ r. ⌜ ((tri : ℕ → Triangle) → PlanesRead tri (now (columns .entry)) n (now (floats .entry)) (now (words .entry)) (now (members .entry)) count → r ≡ bounceOf tri fade (planeAt (planesIn (now (floats .entry)) (now (words .entry)) (now (members .entry)) (now (edges .entry)) count) p) prev target) ⌝ }
+{
+    let plane = mirror::plane_at(floats, words, p);
+    let PlaneCrossing::At(b) = mirror::crossing(plane, prev, target) else {
+        return Bounce::NotCrossed;
+    };
+    let Located::On(i, w, q) = mirror::locate_on_plane(columns, n, plane, members, edges, fade, b)
+    else {
+        return Bounce::OffSurface;
+    };
+    Bounce::On(i, w, q)
+}
+
+fn failed(t: Trail, fate: u32) -> Trail
+    ensures { λ r. ⌜ r .fate ≡ fate ⌝ }
+{
+    let mut u = t;
+    u.fate = fate;
+    u
+}
+
+// A trail with bounce k.
+fn put(t: Trail, k: usize, i: usize, w: f32, q: Vec3) -> Trail
+    requires { ⌜ (k < maxOrder) × Going t ⌝ }
+    ensures { λ r. ⌜ Going r × (r .weight ≡ mul binary32 (t .weight) w) ⌝ }
+    ensures { λ r. ⌜ ((m : ℕ) → k < m → m ≤ maxOrder → slice k m (r .points) ≡ q ∷ slice (k + 1) m (t .points)) ⌝ }
+    ensures { λ r. ⌜ ((m : ℕ) → k < m → m ≤ maxOrder → slice k m (r .tris) ≡ i ∷ slice (k + 1) m (t .tris)) ⌝ }
+{
+    let mut u = t;
+    u.points[k] = q;
+    u.tris[k] = i;
+    u.weight = t.weight * w;
+    u
+}
+
+// A trail without bounces.
+pub fn no_bounces() -> Trail
+    ensures { λ r. ⌜ Going r × (r .weight ≡ one32) ⌝ }
+{
+    let zero = Vec3 {
+        x: 0.0,
+        y: 0.0,
+        z: 0.0,
+    };
+    let points = [zero; 8];
+    let tris = [0usize; 8];
+    Trail {
+        points,
+        tris,
+        weight: 1.0,
+        fate: 0,
+    }
+}
+
+// The k bounces next to the source, from `prev` on, before the others of `order` bounces, which t has.
+pub fn back(
+    columns: &[f32],
+    n: usize,
+    floats: &[f32],
+    words: &[u32],
+    members: &[u32],
+    edges: &[f32],
+    count: usize,
+    fade: f32,
+    seq: [u32; 8],
+    images: [Vec3; 9],
+    order: usize,
+    k: usize,
+    prev: Vec3,
+    t: Trail,
+) -> Trail
+    requires { ⌜ PlanesLent (now columns) n (now floats) (now words) (now members) (now edges) count ⌝ }
+    requires { ⌜ (k ≤ order) × (order ≤ maxOrder) ⌝ }
+    requires { ⌜ ((j : ℕ) → j < order → getD seq j 0 < count) ⌝ }
+    requires { ⌜ Going t ⌝ }
+    ensures { λ r. ⌜ ((tri : ℕ → Triangle) → PlanesRead tri (now (columns .entry)) n (now (floats .entry)) (now (words .entry)) (now (members .entry)) count → trailOf r order ≡ backOf tri fade (planeOn (planesIn (now (floats .entry)) (now (words .entry)) (now (members .entry)) (now (edges .entry)) count) seq) (λ j. getD images j noPoint) k prev (t .weight) (slice k order (t .points)) (slice k order (t .tris))) ⌝ }
+    ensures { λ r. ⌜ (r .fate ≡ 0 → Going r) ⌝ }
+{
+    if k == 0 {
+        return t;
+    }
+    let d = k - 1;
+    let p = seq[d] as usize;
+    let target = images[k];
+    match bounce_on(
+        columns,
+        n,
+        floats,
+        words,
+        members,
+        edges,
+        count,
+        fade,
+        p,
+        prev,
+        target,
+    ) {
+        Bounce::NotCrossed => failed(t, NOT_CROSSED),
+        Bounce::OffSurface => failed(t, OFF_SURFACE),
+        Bounce::On(i, w, q) => back(
+            columns,
+            n,
+            floats,
+            words,
+            members,
+            edges,
+            count,
+            fade,
+            seq,
+            images,
+            order,
+            d,
+            q,
+            put(t, d, i, w, q),
+        ),
+    }
+}

@@ -1,0 +1,110 @@
+-- The laws that the proofs cite: the plane at an index, the runs of a plane, and one step of each loop over them.
+use mathlib.Core.Path.{_≡_, refl, sym, ap, _∙_}
+use mathlib.Core.Bool.{cond}
+use mathlib.Core.List.{List, [], _∷_, _++_, map, foldl}
+use Prim.Native.Nat.{ℕ, zero, suc, _+_, _-_, _<_, _≤_}
+use native.Mathlib.Numerals.{add-one}
+use native.Mathlib.Omega.{arith}
+use lib.Ieee.{Float}
+use lib.ListN.{length, getD, take, drop, length-drop, drop-of-length-le}
+use lib.Seq.{drop-cons, length-take-le}
+use Rattle.order.specs.Sort.{Below}
+use Rattle.order.specs.Runs.{upTo}
+use Rattle.vector.specs.declared.Vec3.{Vec3}
+use Rattle.vector.specs.declared.Ray.{Ray}
+use Rattle.geometry.specs.declared.Triangle.{Triangle}
+use Rattle.geometry.specs.Intersect.{intersectMaxOf}
+use Rattle.geometry.specs.Contains.{containsOf, containsPointOf}
+use Rattle.columns.specs.Columns.{vecAtOf, edgesAtOf, dotsAtOf}
+use Rattle.mirror.specs.Plane.{Edge, Plane, noPlane, planeAt}
+use Rattle.mirror.specs.Border.{nearerOf}
+use Rattle.mirror.specs.Locate.{snapOf, snapEdgesOf, snapAllOf, findOf}
+use Rattle.mirror.specs.Rows.{edgeIn, edgesIn, planeIn, planesIn, ReadsAs}
+use Rattle.mirror.specs.declared.Snap.{Snap}
+use Rattle.mirror.specs.declared.Spot.the-variants.{Outside, Inside}
+
+-- ---- the plane at an index
+
+upTo-length : (n : ℕ) → length (upTo n) ≡ n
+unfolding upTo
+upTo-length zero = refl
+upTo-length (suc n) = long (upTo n) n ∙ ap suc (upTo-length n) where
+  long : (xs : List ℕ) (k : ℕ) → length (xs ++ (k ∷ [])) ≡ suc (length xs)
+  long [] k = refl
+  long (x ∷ xs) k = ap suc (long xs k)
+
+map-before : {A : Type 0} (f : ℕ → A) (d : A) (xs : List ℕ) (n i : ℕ) → i < length xs → getD (map f (xs ++ (n ∷ []))) i d ≡ getD (map f xs) i d
+map-before f d [] n i h = let no : ⊥ = omega arith in absurd no
+map-before f d (x ∷ xs) n zero h = refl
+map-before f d (x ∷ xs) n (suc i) h = map-before f d xs n i (omega arith)
+
+map-last : {A : Type 0} (f : ℕ → A) (d : A) (xs : List ℕ) (n : ℕ) → getD (map f (xs ++ (n ∷ []))) (length xs) d ≡ f n
+map-last f d [] n = refl
+map-last f d (x ∷ xs) n = map-last f d xs n
+
+-- the element was put k turns before the last
+map-at : {A : Type 0} (f : ℕ → A) (d : A) (i k n : ℕ) → n ≡ k + i → getD (map f (upTo (suc n))) i d ≡ f i
+unfolding upTo
+map-at f d i zero n e =
+    let f₁ : n ≡ i = omega arith in
+    let f₂ : i ≡ length (upTo n) = omega (arith, upTo-length n) in
+    ap (λ (j : ℕ). getD (map f (upTo n ++ (n ∷ []))) j d) f₂ ∙ map-last f d (upTo n) n ∙ ap f f₁
+map-at f d i (suc k) zero e = let no : ⊥ = omega arith in absurd no
+map-at f d i (suc k) (suc n) e =
+    let long : length (upTo (suc n)) ≡ suc n = upTo-length (suc n) in
+    let e₁ : n ≡ k + i = omega arith in
+    map-before f d (upTo (suc n)) (suc n) i (omega arith) ∙ map-at f d i k n e₁
+
+-- `planes[p]`
+pub plane-at : (floats : List Float) (words members : List ℕ) (edges : List Float) (count p : ℕ) → p < count →
+    planeAt (planesIn floats words members edges count) p ≡ planeIn floats words members edges p
+unfolding planeAt planesIn
+plane-at floats words members edges zero p h = let no : ⊥ = omega arith in absurd no
+plane-at floats words members edges (suc n) p h = map-at (planeIn floats words members edges) noPlane p (n - p) n (omega arith)
+
+-- ---- the border
+
+module _ (edges : List Float) (p : Vec3) (first count k : ℕ) (d : Float) where
+  pub border-step : k < count →
+      foldl (nearerOf p) d (edgesIn edges (first + k) (count - k)) ≡ foldl (nearerOf p) (nearerOf p d (edgeIn edges (first + k))) (edgesIn edges (first + (k + 1)) (count - (k + 1)))
+  unfolding edgesIn
+  border-step h =
+      let e : count - k ≡ suc (count - (k + 1)) = omega arith in
+      let f : first + k + 1 ≡ first + (k + 1) = omega arith in
+      rw (e, f)
+
+  pub border-done : count ≤ k → foldl (nearerOf p) d (edgesIn edges (first + k) (count - k)) ≡ d
+  unfolding edgesIn
+  border-done h = let e : count - k ≡ 0 = omega arith in rw e
+
+-- ---- the triangles
+
+-- a triangle by what stands of it in the columns
+pub snap-read : (columns : List Float) (n i : ℕ) (t : Triangle) (ray : Ray) (best : Snap) → ReadsAs columns n i t →
+    snapEdgesOf (vecAtOf columns n i) (edgesAtOf columns n i) ray i best ≡ snapOf t ray i best
+unfolding snapEdgesOf snapOf intersectMaxOf
+snap-read columns n i t ray best h = rw (h .corner, h .edges)
+
+pub contains-read : (columns : List Float) (n i : ℕ) (t : Triangle) (p : Vec3) → ReadsAs columns n i t →
+    containsOf (vecAtOf columns n i) (edgesAtOf columns n i) (dotsAtOf columns n i) p ≡ containsPointOf t p
+unfolding containsPointOf
+contains-read columns n i t p h = rw (h .corner, h .edges, h .dots)
+
+module _ (tri : ℕ → Triangle) (members : List ℕ) (k : ℕ) where
+  pub snap-step : (ray : Ray) (best : Snap) → k < length members →
+      snapAllOf tri ray (drop k members) best ≡ snapAllOf tri ray (drop (k + 1) members) (snapOf (tri (getD members k 0)) ray (getD members k 0) best)
+  unfolding snapAllOf
+  snap-step ray best h = rw (add-one, drop-cons members k 0)
+
+  pub snap-done : (ray : Ray) (best : Snap) → length members ≤ k → snapAllOf tri ray (drop k members) best ≡ best
+  unfolding snapAllOf
+  snap-done ray best h = rw (drop-of-length-le members h)
+
+  pub find-step : (p : Vec3) → k < length members →
+      findOf tri p (drop k members) ≡ cond (containsPointOf (tri (getD members k 0)) p) (Inside (getD members k 0) p) (findOf tri p (drop (k + 1) members))
+  unfolding findOf
+  find-step p h = rw (add-one, drop-cons members k 0)
+
+  pub find-done : (p : Vec3) → length members ≤ k → findOf tri p (drop k members) ≡ Outside
+  unfolding findOf
+  find-done p h = rw (drop-of-length-le members h)

@@ -1,0 +1,361 @@
+// What is left of a sound along a segment: the product of what each surface on the way lets through, averaged over a bundle of nine probes.
+// Each answer counts the traces made for it.
+use bands::Band8;
+use trace::Hit;
+use vector::Angle;
+use vector::Basis;
+use vector::Ray;
+use vector::Vec3;
+ghost use mathlib.Core.Path.{_≡_};
+ghost use Prim.Native.Nat.{ℕ, _+_, _*_, _^_, _<_, _≤_};
+ghost use lib.ListN.{length};
+ghost use Rattle.geometry.specs.declared.Triangle.{Triangle};
+ghost use Rattle.build.specs.Tree.{Tree};
+ghost use Rattle.segments.specs.Materials.{materialFloats, bandsIn, clampedOf, transmissionOf, coefficientOf, coefficientsOf, reflectionOf};
+ghost use Rattle.segments.specs.Segment.{maxCrossings, visibilityRadius, segmentRayOf, walkOf, segmentTransmissionOf, offsetOf, midOf, addPartOf, probeOf, segmentSoftTransmissionOf};
+ghost use Rattle.segments.specs.Areas.{traceIn, TreeReads, Traceable};
+
+const OCCLUSION_EPS: f32 = 1e-3;
+
+const OCCLUSION_MAX_CROSSINGS: usize = 8;
+
+const REFLECTION_VISIBILITY_RADIUS: f32 = 0.06;
+
+const PROBES: usize = 8;
+
+const MATERIAL_FLOATS: usize = 16;
+
+// A gain, and the traces made for it.
+pub struct Transmission {
+    pub gain: Band8,
+    pub rays: u32,
+}
+
+// ---- materials
+
+fn bands_in(l: &[f32], at: usize) -> Band8
+    requires { ⌜ at + 8 ≤ length (now l) ⌝ }
+    ensures { λ r. ⌜ r ≡ bandsIn (now (l .entry)) at ⌝ }
+{
+    Band8 {
+        b0: l[at],
+        b1: l[at + 1],
+        b2: l[at + 2],
+        b3: l[at + 3],
+        b4: l[at + 4],
+        b5: l[at + 5],
+        b6: l[at + 6],
+        b7: l[at + 7],
+    }
+}
+
+fn clamped(a: Band8) -> Band8
+    ensures { λ r. ⌜ r ≡ clampedOf a ⌝ }
+{
+    Band8 {
+        b0: float::clamp(a.b0, 0.0, 1.0),
+        b1: float::clamp(a.b1, 0.0, 1.0),
+        b2: float::clamp(a.b2, 0.0, 1.0),
+        b3: float::clamp(a.b3, 0.0, 1.0),
+        b4: float::clamp(a.b4, 0.0, 1.0),
+        b5: float::clamp(a.b5, 0.0, 1.0),
+        b6: float::clamp(a.b6, 0.0, 1.0),
+        b7: float::clamp(a.b7, 0.0, 1.0),
+    }
+}
+
+// What a surface lets through.
+fn transmission_of(materials: &[f32], handle: u32) -> Band8
+    requires { ⌜ materialFloats * handle + materialFloats ≤ length (now materials) ⌝ }
+    ensures { λ r. ⌜ r ≡ transmissionOf (now (materials .entry)) handle ⌝ }
+{
+    let h = handle as usize;
+    clamped(bands_in(materials, MATERIAL_FLOATS * h + 8))
+}
+
+fn coefficient(a: f32) -> f32
+    ensures { λ r. ⌜ r ≡ coefficientOf a ⌝ }
+{
+    if float::is_finite(a) {
+        return float::sqrt(1.0 - float::clamp(a, 0.0, 1.0));
+    }
+    float::sqrt(1.0 - 1.0)
+}
+
+fn coefficients(a: Band8) -> Band8
+    ensures { λ r. ⌜ r ≡ coefficientsOf a ⌝ }
+{
+    Band8 {
+        b0: coefficient(a.b0),
+        b1: coefficient(a.b1),
+        b2: coefficient(a.b2),
+        b3: coefficient(a.b3),
+        b4: coefficient(a.b4),
+        b5: coefficient(a.b5),
+        b6: coefficient(a.b6),
+        b7: coefficient(a.b7),
+    }
+}
+
+// What a surface reflects.
+pub fn reflection_of(materials: &[f32], handle: u32) -> Band8
+    requires { ⌜ materialFloats * handle + materialFloats ≤ length (now materials) ⌝ }
+    ensures { λ r. ⌜ r ≡ reflectionOf (now (materials .entry)) handle ⌝ }
+{
+    let h = handle as usize;
+    coefficients(bands_in(materials, MATERIAL_FLOATS * h))
+}
+
+// ---- a half segment
+
+fn segment_ray(origin: Vec3, dir: Vec3, remaining: f32) -> Ray
+    ensures { λ r. ⌜ r ≡ segmentRayOf origin dir remaining ⌝ }
+{
+    Ray {
+        origin,
+        direction: dir,
+        min_distance: OCCLUSION_EPS,
+        max_distance: remaining - OCCLUSION_EPS,
+    }
+}
+
+// Goes on from `origin` with `left` crossings left; one more gives zeros.
+fn walk(
+    padded: &[f32],
+    nodes: &[u32],
+    perm: &[u32],
+    rows: &[f32],
+    handles: &[u32],
+    count: usize,
+    materials: &[f32],
+    dir: Vec3,
+    left: usize,
+    origin: Vec3,
+    remaining: f32,
+    product: Band8,
+    rays: u32,
+) -> Transmission
+    requires { ⌜ Traceable (now padded) (now nodes) (now perm) (now rows) (now handles) count (now materials) ⌝ }
+    requires { ⌜ rays + left + 1 < 2 ^ 32 ⌝ }
+    ensures { λ r. ⌜ ((tri : ℕ → Triangle) (t : Tree) → TreeReads (now (padded .entry)) (now (nodes .entry)) (now (perm .entry)) (now (rows .entry)) (now (handles .entry)) tri t → r ≡ walkOf (traceIn tri t) (transmissionOf (now (materials .entry))) dir left origin remaining product rays) ⌝ }
+{
+    if remaining > 2.0 * OCCLUSION_EPS {
+        let Hit::At(hit) = trace::intersect(
+            padded,
+            nodes,
+            perm,
+            rows,
+            handles,
+            count,
+            segment_ray(origin, dir, remaining),
+        ) else {
+            return Transmission {
+                gain: product,
+                rays: rays + 1,
+            };
+        };
+        if left == 0 {
+            return Transmission {
+                gain: bands::zeros(),
+                rays: rays + 1,
+            };
+        }
+        let share = transmission_of(materials, hit.material_handle);
+        return walk(
+            padded,
+            nodes,
+            perm,
+            rows,
+            handles,
+            count,
+            materials,
+            dir,
+            left - 1,
+            hit.point,
+            remaining - hit.distance,
+            bands::mul(product, share),
+            rays + 1,
+        );
+    }
+    Transmission {
+        gain: product,
+        rays,
+    }
+}
+
+// A half segment.
+fn segment_transmission(
+    padded: &[f32],
+    nodes: &[u32],
+    perm: &[u32],
+    rows: &[f32],
+    handles: &[u32],
+    count: usize,
+    materials: &[f32],
+    from: Vec3,
+    to: Vec3,
+) -> Transmission
+    requires { ⌜ Traceable (now padded) (now nodes) (now perm) (now rows) (now handles) count (now materials) ⌝ }
+    ensures { λ r. ⌜ ((tri : ℕ → Triangle) (t : Tree) → TreeReads (now (padded .entry)) (now (nodes .entry)) (now (perm .entry)) (now (rows .entry)) (now (handles .entry)) tri t → r ≡ segmentTransmissionOf (traceIn tri t) (transmissionOf (now (materials .entry))) maxCrossings from to) ⌝ }
+    ensures { λ r. ⌜ r .rays ≤ maxCrossings + 1 ⌝ }
+{
+    let total = vector::distance3(from, to);
+    let dir = vector::normalize3(vector::sub3(to, from));
+    walk(
+        padded,
+        nodes,
+        perm,
+        rows,
+        handles,
+        count,
+        materials,
+        dir,
+        OCCLUSION_MAX_CROSSINGS,
+        from,
+        total,
+        bands::splat(1.0),
+        0,
+    )
+}
+
+// ---- the bundle
+
+fn offset(b: Basis, a: Angle) -> Vec3
+    ensures { λ r. ⌜ r ≡ offsetOf visibilityRadius b a ⌝ }
+{
+    Vec3 {
+        x: REFLECTION_VISIBILITY_RADIUS * (b.u.x * a.cos + b.w.x * a.sin),
+        y: REFLECTION_VISIBILITY_RADIUS * (b.u.y * a.cos + b.w.y * a.sin),
+        z: REFLECTION_VISIBILITY_RADIUS * (b.u.z * a.cos + b.w.z * a.sin),
+    }
+}
+
+fn mid(a: Vec3, b: Vec3, o: Vec3) -> Vec3
+    ensures { λ r. ⌜ r ≡ midOf a b o ⌝ }
+{
+    Vec3 {
+        x: 0.5 * (a.x + b.x) + o.x,
+        y: 0.5 * (a.y + b.y) + o.y,
+        z: 0.5 * (a.z + b.z) + o.z,
+    }
+}
+
+fn add_part(s: Band8, g: Band8) -> Band8
+    ensures { λ r. ⌜ r ≡ addPartOf s g ⌝ }
+{
+    Band8 {
+        b0: s.b0 + g.b0 / 9.0,
+        b1: s.b1 + g.b1 / 9.0,
+        b2: s.b2 + g.b2 / 9.0,
+        b3: s.b3 + g.b3 / 9.0,
+        b4: s.b4 + g.b4 / 9.0,
+        b5: s.b5 + g.b5 / 9.0,
+        b6: s.b6 + g.b6 / 9.0,
+        b7: s.b7 + g.b7 / 9.0,
+    }
+}
+
+// One probe, by way of `via`.
+fn probe(
+    padded: &[f32],
+    nodes: &[u32],
+    perm: &[u32],
+    rows: &[f32],
+    handles: &[u32],
+    count: usize,
+    materials: &[f32],
+    from: Vec3,
+    via: Vec3,
+    to: Vec3,
+    sum: Transmission,
+) -> Transmission
+    requires { ⌜ Traceable (now padded) (now nodes) (now perm) (now rows) (now handles) count (now materials) ⌝ }
+    requires { ⌜ sum .rays + 2 * (maxCrossings + 1) < 2 ^ 32 ⌝ }
+    ensures { λ r. ⌜ ((tri : ℕ → Triangle) (t : Tree) → TreeReads (now (padded .entry)) (now (nodes .entry)) (now (perm .entry)) (now (rows .entry)) (now (handles .entry)) tri t → r ≡ probeOf (traceIn tri t) (transmissionOf (now (materials .entry))) maxCrossings from via to sum) ⌝ }
+    ensures { λ r. ⌜ r .rays ≤ sum .rays + 2 * (maxCrossings + 1) ⌝ }
+{
+    let a = segment_transmission(
+        padded,
+        nodes,
+        perm,
+        rows,
+        handles,
+        count,
+        materials,
+        from,
+        via,
+    );
+    let b = segment_transmission(
+        padded,
+        nodes,
+        perm,
+        rows,
+        handles,
+        count,
+        materials,
+        via,
+        to,
+    );
+    Transmission {
+        gain: add_part(sum.gain, bands::mul(a.gain, b.gain)),
+        rays: sum.rays + a.rays + b.rays,
+    }
+}
+
+// The bundle along a segment: at most 162 traces.
+pub fn segment_soft_transmission(
+    padded: &[f32],
+    nodes: &[u32],
+    perm: &[u32],
+    rows: &[f32],
+    handles: &[u32],
+    count: usize,
+    materials: &[f32],
+    from: Vec3,
+    to: Vec3,
+) -> Transmission
+    requires { ⌜ Traceable (now padded) (now nodes) (now perm) (now rows) (now handles) count (now materials) ⌝ }
+    ensures { λ r. ⌜ ((tri : ℕ → Triangle) (t : Tree) → TreeReads (now (padded .entry)) (now (nodes .entry)) (now (perm .entry)) (now (rows .entry)) (now (handles .entry)) tri t → r ≡ segmentSoftTransmissionOf (traceIn tri t) (transmissionOf (now (materials .entry))) maxCrossings visibilityRadius from to) ⌝ }
+    ensures { λ r. ⌜ r .rays ≤ 18 * (maxCrossings + 1) ⌝ }
+{
+    let b = vector::probe_basis(vector::normalize3(vector::sub3(to, from)));
+    let still = Vec3 {
+        x: 0.0,
+        y: 0.0,
+        z: 0.0,
+    };
+    let nothing = Transmission {
+        gain: bands::zeros(),
+        rays: 0,
+    };
+    let mut sum = probe(
+        padded,
+        nodes,
+        perm,
+        rows,
+        handles,
+        count,
+        materials,
+        from,
+        mid(from, to, still),
+        to,
+        nothing,
+    );
+    for k in 0..PROBES {
+        let via = mid(from, to, offset(b, vector::probe_angle(k)));
+        sum = probe(
+            padded,
+            nodes,
+            perm,
+            rows,
+            handles,
+            count,
+            materials,
+            from,
+            via,
+            to,
+            sum,
+        );
+    }
+    sum
+}
