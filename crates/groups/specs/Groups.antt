@@ -2,7 +2,7 @@
 use Prim.Native.Nat.{ℕ, zero, suc, _+_, _-_, _*_}
 use mathlib.Core.Bool.{Bool, true, false, cond, not, _&&_, _||_}
 use mathlib.Core.List.{List, [], _∷_, _++_, map, flatMap}
-use lib.Dec.{ltb, leb, eqb}
+use lib.Dec.{ltb, eqb}
 use lib.ListN.{length, getD}
 use lib.Ieee.{Float, binary32, sub, lt, le, isNan}
 use Rattle.float.specs.Literals.{zero32}
@@ -17,6 +17,7 @@ use Rattle.faces.specs.Key.{Key, sameKey, vertexKey}
 use Rattle.patches.specs.Lists.{filterBy, allBy}
 use Rattle.patches.specs.Triangles.{triangleAt, cornersOf}
 use Rattle.patches.specs.Patch.{Patch, patchAt}
+use Rattle.links.specs.Links.{isLinked}
 use Rattle.groups.specs.Settings.{Settings}
 use Rattle.patches.specs.Patches.{planeNormalCos}
 
@@ -34,10 +35,6 @@ seedsOf ps = let keys = map (λ (p : Patch). descendingKey (p .area) (headOr 0 (
 
 -- ---- adjacency
 
--- a vertex's patches are linked all to all up to so many
-abbrev pub mostLinked : ℕ
-mostLinked = 8
-
 -- the vertices of a patch
 unfoldable pub verticesOf : List Triangle → Patch → List Key
 verticesOf ts p = flatMap (λ i. map vertexKey (cornersOf (triangleAt ts i))) (p .tris)
@@ -45,17 +42,6 @@ verticesOf ts p = flatMap (λ i. map vertexKey (cornersOf (triangleAt ts i))) (p
 -- a run of `verts`: the patches at a vertex, each once, rising
 unfoldable pub runAt : List (List Key) → Key → List ℕ
 runAt vs k = filterBy (λ i. anyBy (sameKey k) (getD vs i [])) (upTo (length vs))
-
--- `windows(2)`: p and q follow one another
-unfoldable pub follow : List ℕ → ℕ → ℕ → Bool
-follow [] p q = false
-follow (x ∷ []) p q = false
-follow (x ∷ y ∷ r) p q = (eqb x p && eqb y q) || follow (y ∷ r) p q
-
--- whether a run links p and q: all to all up to eight patches, neighbours beyond
-unfoldable pub isLinked : List ℕ → ℕ → ℕ → Bool
-isLinked run p q =
-    cond (leb (length run) mostLinked) (not (eqb p q) && anyBy (eqb p) run && anyBy (eqb q) run) (follow run p q || follow run q p)
 
 -- `adj`: p and q share a vertex that links them
 unfoldable pub isAdjacent : List (List ℕ) → ℕ → ℕ → Bool

@@ -13,7 +13,8 @@ use Rattle.groups.specs.Settings.{Settings}
 use Rattle.mirror.specs.Plane.{Plane, planeAt}
 use Rattle.patches.specs.Patches.{keptOf, cellOf, aroundOf, inCell, isCoplanar, foundOf, newPatch, joinedOf, placedOf, patchesOf}
 use Rattle.buried.specs.Buried.{largerOf, largestOf, signedOf, probeRayOf, isBuried, openOf}
-use Rattle.groups.specs.Groups.{rankOf, descendingKey, seedsOf, verticesOf, runAt, follow, isLinked, isAdjacent, runsOf, inCone, isWithin, takes, grownOf, groupsFrom, groupsOf}
+use Rattle.links.specs.Links.{follow, isLinked}
+use Rattle.groups.specs.Groups.{rankOf, descendingKey, seedsOf, verticesOf, runAt, isAdjacent, runsOf, inCone, isWithin, takes, grownOf, groupsFrom, groupsOf}
 use Rattle.planes.specs.Fit.{aloneOf, weightedOf, meanNormalOf, totalAreaOf, groupBoxOf, groupTrisOf, heightsOf, meanOffsetOf, spreadOf, fittedOf, planeOf}
 use Rattle.planes.specs.Rank.{sceneBoxOf, centreOf, halfDiagOf, momentsOf, areaCentreOf, importanceOf, rankedOf}
 use Rattle.planes.specs.Border.{edgeKey, keyedOf, sidesOf, isSameEdge, usedOnce, borderOf, borderedOf}

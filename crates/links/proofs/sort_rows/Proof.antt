@@ -1,0 +1,56 @@
+use borrow.Author.Needs.{needs}
+use mathlib.Core.Path.{_≡_, refl, sym, ap, _∙_}
+use Prim.Native.Nat.{ℕ, _+_, _-_, _*_, _≤_, _<_}
+use native.Mathlib.Omega.{arith}
+use lib.ListN.{length, take}
+use lib.Seq.{length-take-le}
+use Rattle.links.proofs.Cutting.{set-sorted, rows-are}
+use Rattle.links.proofs.sort_rows.Statement.{statement}
+use Rattle.links.proofs.sort_rows.Tie as tie
+
+-- `links::sort_rows` meets its contract: the words sorted, without repeats, and cut into rows (`rows-are`).
+
+sort-words-requires : tie.Need-sort-words-requires
+sort-words-requires c κs = c .before .before .before .before .before .before .pre .0
+
+compact-requires : tie.Need-compact-requires
+compact-requires c κs = omega (arith, c .before .before .before .before .before .before .sort-words .kept .0, c .before .before .before .before .before .before .before .before .before .before .before .before .before .pre .1 .0)
+
+slice-reshare-prefix-row-starts : tie.Need-slice-reshare-prefix-row-starts
+slice-reshare-prefix-row-starts c = omega (arith, c .before .before .compact .ensures .0, c .before .before .compact .kept .1 .0, c .before .before .before .before .before .before .before .before .before .sort-words .kept .0, c .before .before .before .before .before .before .before .before .before .before .before .before .before .before .before .before .pre .1 .0)
+
+slice-aggregate-row-starts : tie.Need-slice-aggregate-row-starts
+slice-aggregate-row-starts c = sym (length-take-le (c .before .before .before .compact .result) (c .before .before .before .compact .last .1 .0) (omega (arith, c .before .before .before .compact .ensures .0, c .before .before .before .compact .kept .1 .0, c .before .before .before .before .before .before .before .before .before .before .sort-words .kept .0, c .before .before .before .before .before .before .before .before .before .before .before .before .before .before .before .before .before .pre .1 .0)))
+
+row-starts-requires : tie.Need-row-starts-requires
+row-starts-requires c κs =
+    let t = length-take-le (c .before .before .before .before .compact .result) (c .before .before .before .before .compact .last .1 .0) (omega (arith, c .before .before .before .before .compact .ensures .0, c .before .before .before .before .compact .kept .1 .0, c .before .before .before .before .before .before .before .before .before .before .before .sort-words .kept .0, c .before .before .before .before .before .before .before .before .before .before .before .before .before .before .before .before .before .before .pre .1 .0)) in (
+      c .before .before .before .before .before .before .before .before .before .before .before .before .before .before .before .before .before .before .pre .1 .1 .1 .0,
+      (
+        c .before .before .before .before .before .before .before .before .before .before .before .before .before .before .before .before .before .before .pre .1 .1 .1 .1,
+        (
+          omega (arith, t, c .before .before .before .before .compact .ensures .0, c .before .before .before .before .before .before .before .before .before .before .before .sort-words .kept .0, c .before .before .before .before .before .before .before .before .before .before .before .before .before .before .before .before .before .before .pre .1 .1 .0),
+          set-sorted (c .before .before .before .before .before .before .before .before .before .before .before .before .before .before .before .before .before .before .args .words .now) (c .before .before .before .before .before .before .before .before .before .before .before .sort-words .last .0) (c .before .before .before .before .compact .last .1 .0) (c .before .before .before .before .compact .result) (c .before .before .before .before .before .before .before .before .before .before .before .sort-words .ensures) (c .before .before .before .before .compact .ensures .1),
+        ),
+      ),
+    )
+
+returns : tie.Need-returns
+returns c =
+    rows-are (c .before .before .before .before .before .before .before .before .before .before .before .before .before .before .before .before .before .before .before .before .before .args .words .now) (c .before .before .before .before .before .before .before .before .before .before .before .before .before .before .sort-words .last .0) (c .before .before .before .before .before .before .before .compact .last .1 .0) (c .before .before .before .before .before .before .before .compact .result) (c .before .before .before .before .before .before .before .before .before .before .before .before .before .before .sort-words .ensures) (c .before .before .before .before .before .before .before .compact .ensures .1)
+    (c .before .before .row-starts .last .1 .1 .0) (c .before .before .before .before .before .before .before .before .before .before .before .before .before .before .before .before .before .before .before .before .before .args .rows) (omega (arith, c .before .before .before .before .before .before .before .compact .ensures .0, c .before .before .before .before .before .before .before .compact .kept .1 .0, c .before .before .before .before .before .before .before .before .before .before .before .before .before .before .sort-words .kept .0, c .before .before .before .before .before .before .before .before .before .before .before .before .before .before .before .before .before .before .before .before .before .pre .1 .0)) (c .before .before .row-starts .ensures)
+
+pub sort-rows-spec : {M : Type 1} → statement M
+sort-rows-spec =
+    tie.close
+    (tie.spec
+    sort-words-requires
+    compact-requires
+    slice-reshare-prefix-row-starts
+    slice-aggregate-row-starts
+    row-starts-requires
+    (λ c. search needs)
+    (λ c. search needs)
+    (λ c. search needs)
+    (λ c. search needs)
+    returns)

@@ -1,0 +1,77 @@
+use borrow.Author.Needs.{needs}
+use mathlib.Core.Path.{_≡_, refl, sym, ap, _∙_}
+use mathlib.Core.Bool.{Bool, _&&_, _||_}
+use Prim.Native.Nat.{ℕ, _+_, _-_, _*_, _%_, _≤_, _<_}
+use native.Mathlib.Omega.{arith}
+use lib.Dec.{eqb}
+use lib.ListN.{length, getD, take, drop}
+use Rattle.links.specs.Links.{hasCorner}
+use Rattle.links.proofs.Pushing.{Told, told-none, corner-skip, corner-more}
+use Rattle.links.proofs.vertex_words.Statement.{statement}
+use Rattle.links.proofs.vertex_words.Tie as tie
+
+-- `links::vertex_words` meets its contract: the loop keeps `Told`, three words a triangle.
+
+abbrev Inv-loop : tie.InvT-loop
+Inv-loop id n of m np words₀ k₀ i₀ words k i = (i ≤ m) × (k ≤ 3 * i) × (length words ≡ length words₀) × Told (hasCorner id n of np) words k i
+
+abbrev μ-loop : tie.MeasureT-loop
+μ-loop id n of m np words₀ k₀ i₀ words k i = m - i
+
+loop-holds : tie.Need-loop-holds Inv-loop μ-loop
+loop-holds c = (omega arith, omega arith, refl, told-none (hasCorner (c .before .before .before .args .id .now) (c .before .before .before .args .n) (c .before .before .before .args .of .now) (c .before .before .before .args .np)) (c .before .before .before .args .words .now))
+
+loop-again : tie.Need-loop-again Inv-loop μ-loop
+loop-again c = (omega arith, omega arith, c .before .before .before .before .before .before .loop .inv .2, corner-skip (c .before .before .before .before .before .before .before .before .before .before .args .id .now) (c .before .before .before .before .before .before .before .before .before .before .args .n) (c .before .before .before .before .before .before .before .before .before .before .args .of .now) (c .before .before .before .before .before .before .before .before .before .before .args .np) (c .before .before .before .before .before .before .loop .words) (c .before .before .before .before .before .before .loop .k) (c .before .before .before .before .before .before .loop .i) (c .before .before .before .before .before .before .loop .inv .3) (c .if1 .taken))
+
+push-requires : tie.Need-push-requires Inv-loop μ-loop
+push-requires c κs = (omega (arith, c .before .before .before .before .before .before .before .loop .inv .2), (c .before .before .before .before .before .before .before .before .before .before .before .pre .1 .1 .1 .1 .0 (c .before .before .before .before .before .before .before .loop .i) (omega arith), omega (arith, c .before .if1 .left)))
+
+push-requires-2 : tie.Need-push-requires-2 Inv-loop μ-loop
+push-requires-2 c κs = (omega (arith, c .before .before .before .before .before .before .before .before .before .before .before .loop .inv .2, c .before .before .before .push .kept .0, c .before .before .before .push .ensures .0), (c .before .before .before .before .before .before .before .before .before .before .before .before .before .before .before .pre .1 .1 .1 .1 .0 (c .before .before .before .before .before .before .before .before .before .before .before .before .before .before .before .args .n + c .before .before .before .before .before .before .before .before .before .before .before .loop .i) (omega arith), omega (arith, c .before .before .before .before .before .if1 .left)))
+
+push-requires-3 : tie.Need-push-requires-3 Inv-loop μ-loop
+push-requires-3 c κs = (omega (arith, c .before .before .before .before .before .before .before .before .before .before .before .before .before .before .before .loop .inv .2, c .before .before .before .before .before .before .before .push .kept .0, c .before .before .before .before .before .before .before .push .ensures .0, c .before .before .before .push2 .kept .0, c .before .before .before .push2 .ensures .0), (c .before .before .before .before .before .before .before .before .before .before .before .before .before .before .before .before .before .before .before .pre .1 .1 .1 .1 .0 (2 * c .before .before .before .before .before .before .before .before .before .before .before .before .before .before .before .before .before .before .before .args .n + c .before .before .before .before .before .before .before .before .before .before .before .before .before .before .before .loop .i) (omega arith), omega (arith, c .before .before .before .before .before .before .before .before .before .if1 .left)))
+
+loop-again-2 : tie.Need-loop-again-2 Inv-loop μ-loop
+loop-again-2 c = (
+  omega arith,
+  omega (arith, c .before .before .before .before .before .before .before .before .before .before .push .ensures .0, c .before .before .before .before .before .before .push2 .ensures .0, c .before .before .push3 .ensures .0),
+  c .before .before .push3 .kept .0 ∙ c .before .before .before .before .before .before .push2 .kept .0 ∙ c .before .before .before .before .before .before .before .before .before .before .push .kept .0 ∙ c .before .before .before .before .before .before .before .before .before .before .before .before .before .before .before .before .before .before .loop .inv .2,
+  corner-more (c .before .before .before .before .before .before .before .before .before .before .before .before .before .before .before .before .before .before .before .before .before .before .args .id .now) (c .before .before .before .before .before .before .before .before .before .before .before .before .before .before .before .before .before .before .before .before .before .before .args .n) (c .before .before .before .before .before .before .before .before .before .before .before .before .before .before .before .before .before .before .before .before .before .before .args .of .now) (c .before .before .before .before .before .before .before .before .before .before .before .before .before .before .before .before .before .before .before .before .before .before .args .np) (c .before .before .before .before .before .before .before .before .before .before .before .before .before .before .before .before .before .before .loop .words) (c .before .before .before .before .before .before .before .before .before .before .before .before .before .before .before .before .before .before .loop .k) (c .before .before .before .before .before .before .before .before .before .before .before .before .before .before .before .before .before .before .loop .i) (c .before .before .before .before .before .before .before .before .before .before .before .before .before .before .before .before .before .before .loop .inv .3) (c .before .before .before .before .before .before .before .before .before .before .push .last .0) (c .before .before .before .before .before .before .push2 .last .0) (c .before .before .push3 .last .0) (c .before .before .before .before .before .before .before .before .before .before .push .result) (c .before .before .before .before .before .before .push2 .result) (c .before .before .push3 .result) (c .before .before .before .before .before .before .before .before .before .before .before .before .if1 .left) (c .before .before .before .before .before .before .before .before .before .before .before .before .before .before .before .before .before .before .before .before .before .before .pre .0) (c .before .before .before .before .before .before .before .before .before .before .push .ensures .1) (c .before .before .before .before .before .before .push2 .ensures .1) (c .before .before .push3 .ensures .1),
+)
+
+same-length : tie.Need-same-length Inv-loop μ-loop
+same-length c = c .before .loop .inv .2
+
+returns : tie.Need-returns Inv-loop μ-loop
+returns c = let e : c .before .loop .i ≡ c .before .before .before .before .before .args .m = omega arith in (omega arith, rw e at (c .before .loop .inv .3))
+
+pub vertex-words-spec : {M : Type 1} → statement M
+vertex-words-spec =
+    tie.close
+    (tie.spec
+    Inv-loop
+    μ-loop
+    loop-holds
+    (λ c. omega arith)
+    (λ c. omega arith)
+    (λ c. omega arith)
+    (λ c. omega arith)
+    (λ c. omega arith)
+    (λ c. omega arith)
+    (λ c. omega arith)
+    (λ c. omega arith)
+    (λ c. omega arith)
+    (λ c. omega arith)
+    (λ c. omega arith)
+    (λ c. omega arith)
+    (λ c. omega arith)
+    loop-again
+    push-requires
+    push-requires-2
+    push-requires-3
+    (λ c. omega arith)
+    loop-again-2
+    same-length
+    returns)
