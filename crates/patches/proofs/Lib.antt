@@ -3,3 +3,5 @@ pub mod Lists
 pub mod Chains
 pub mod Stores
 pub mod Around
+pub mod Turns
+pub mod Filling

@@ -14,7 +14,7 @@ use Rattle.faces.specs.Key.{Key, sameKey}
 use Rattle.patches.specs.Lists.{filterBy}
 use Rattle.patches.specs.Normal.{canonicalOf, offsetOf}
 use Rattle.patches.specs.Patches.{cellOf, isCoplanar}
-use Rattle.patches.specs.Rows.{patchFloats, vecIn, patchIn}
+use Rattle.patches.specs.Rows.{patchFloats, vecIn, patchIn, Numbered}
 use Rattle.patches.specs.declared.PlaneKey.{PlaneKey}
 
 abbrev pub key : ℕ → ℕ → ℕ → Key
@@ -78,3 +78,9 @@ pub record Grid (rows : List Float) (cells heads next : List ℕ) (np : ℕ) : T
   pub cells-are : (p : ℕ) → p < np → cellAt cells p ≡ cellIn rows p
   pub heads-are : (h : ℕ) → h < bucketCount → getD heads h 0 ≡ newest (λ j. eqb (bucketOf (cellAt cells j)) h) np
   pub next-are : (p : ℕ) → p < np → getD next p 0 ≡ newest (λ j. eqb (bucketOf (cellAt cells j)) (bucketOf (cellAt cells p))) p
+
+-- the areas hold the np patches of the first t triangles
+pub record Standing (rows : List Float) (of cells heads next : List ℕ) (t np : ℕ) : Type 0 where
+  pub grid : Grid rows cells heads next np
+  pub few : np ≤ t
+  pub numbered : Numbered of t np

@@ -5,10 +5,15 @@ use mathlib.Core.Logic.{_⊎_}
 use mathlib.Core.List.{List, map}
 use lib.Dec.{eqb}
 use lib.ListN.{getD}
-use lib.Ieee.{Float, nan}
+use lib.Ieee.{Float, nan, binary32, add}
 use Rattle.vector.specs.declared.Vec3.{Vec3}
 use Rattle.vector.specs.Vector.{vec}
+use Rattle.geometry.specs.declared.Triangle.{Triangle}
+use Rattle.geometry.specs.Aabb.{unionOf}
+use Rattle.geometry.specs.Triangle.{triangleAreaOf}
 use Rattle.order.specs.Runs.{upTo}
+use Rattle.patches.specs.Normal.{canonicalOf, offsetOf}
+use Rattle.patches.specs.Triangles.{boxOf}
 use Rattle.patches.specs.Lists.{filterBy}
 use Rattle.patches.specs.Patch.{Patch}
 use Rattle.patches.specs.Patches.{cellOf}
@@ -39,6 +44,13 @@ rowIn rows p =
       area = getD rows (patchFloats * p + 4) nan;
       aabb = record { min = vecIn rows (patchFloats * p + 5); max = vecIn rows (patchFloats * p + 8) };
     }
+
+-- the row of a new patch, and of one that a triangle joins
+unfoldable pub newRowOf : Triangle → PatchRow
+newRowOf t = record { normal = canonicalOf (t .normal); offset = offsetOf t; area = triangleAreaOf t; aabb = boxOf t }
+
+unfoldable pub joinedRowOf : PatchRow → Triangle → PatchRow
+joinedRowOf r t = record { normal = r .normal; offset = r .offset; area = add binary32 (r .area) (triangleAreaOf t); aabb = unionOf (r .aabb) (boxOf t) }
 
 -- of m triangles, those with the number p, rising
 unfoldable pub trisIn : List ℕ → ℕ → ℕ → List ℕ

@@ -6,14 +6,22 @@ use geometry::Triangle;
 use vector::Vec3;
 ghost use mathlib.Core.Path.{_≡_};
 ghost use mathlib.Core.Bool.{cond};
-ghost use mathlib.Core.List.{[], _∷_, map, flatMap};
+ghost use mathlib.Core.List.{List, [], _∷_, map, flatMap};
 ghost use Prim.Native.Nat.{ℕ, suc, _+_, _-_, _*_, _<_, _≤_};
+ghost use lib.Dec.{eqb};
 ghost use lib.ListN.{length, getD, set};
+ghost use Rattle.geometry.specs.declared.Triangle.{Triangle};
+ghost use Rattle.columns.specs.Columns.{columnCount, triangleAtOf};
 ghost use Rattle.faces.specs.Key.{stepOf, sameKey};
+ghost use Rattle.faces.specs.Faces.{isFirst, facesIn};
 ghost use Rattle.patches.specs.Normal.{largerPartOf, largestPartOf, isTurned, canonicalOf, offsetOf};
-ghost use Rattle.patches.specs.Patches.{cellsPerUnit, besideOf, aroundOf};
-ghost use Rattle.patches.specs.Rows.{patchFloats, vecIn, rowIn, Beside};
-ghost use Rattle.patches.specs.Grid.{key, planeKeyOf, bucketCount, bucketOf, cellAt, chainOf, lastBy, coplanarAt, matchAt, firstAmong, Grid};
+ghost use Rattle.patches.specs.Patches.{cellsPerUnit, besideOf, aroundOf, placedOf, patchesOf};
+ghost use Rattle.patches.specs.Rows.{patchFloats, vecIn, rowIn, newRowOf, joinedRowOf, patchesIn, Numbered, Beside};
+ghost use Rattle.patches.specs.Triangles.{triangleAt, trianglesIn};
+ghost use Rattle.patches.specs.Grid.{key, planeKeyOf, bucketCount, bucketOf, cellAt, chainOf, lastBy, coplanarAt, matchAt, firstAmong, Grid, Standing};
+
+// The number of a triangle without a patch.
+pub const NONE: u32 = 0xffff_ffff;
 
 // What stands of a patch in a row.
 pub struct PatchRow {
@@ -352,4 +360,146 @@ fn link(heads: &mut [u32], next: &mut [u32], p: usize, h: usize)
 {
     next[p] = heads[h];
     heads[h] = (p + 1) as u32;
+}
+
+// Patch p of cell k goes to the front of its chain.
+fn put_in_grid(cells: &mut [u64], heads: &mut [u32], next: &mut [u32], p: usize, k: PlaneKey)
+    requires { ⌜ (3 * p + 3 ≤ length (now cells)) × (length (now heads) ≡ bucketCount) × (p < length (now next)) × (p < 4294967295) ⌝ }
+    ensures { λ _. ⌜ cellAt (now (cells .exit)) p ≡ key (k .x) (k .y) (k .z) ⌝ }
+    ensures { λ _. ⌜ ((q : ℕ) → (q ≡ p → ⊥) → cellAt (now (cells .exit)) q ≡ cellAt (now (cells .entry)) q) ⌝ }
+    ensures { λ _. ⌜ now (heads .exit) ≡ set (now (heads .entry)) (bucketOf (key (k .x) (k .y) (k .z))) (suc p) ⌝ }
+    ensures { λ _. ⌜ now (next .exit) ≡ set (now (next .entry)) p (getD (now (heads .entry)) (bucketOf (key (k .x) (k .y) (k .z))) 0) ⌝ }
+{
+    put_cell(cells, p, k.x, k.y, k.z);
+    link(heads, next, p, bucket(k.x, k.y, k.z));
+}
+
+// ---- patches
+
+// The row of a patch of triangle t alone.
+fn new_patch(rows: &mut [f32], p: usize, t: Triangle, k: PlaneKey)
+    requires { ⌜ patchFloats * p + patchFloats ≤ length (now rows) ⌝ }
+    requires { ⌜ k ≡ planeKeyOf t ⌝ }
+    ensures { λ _. ⌜ rowIn (now (rows .exit)) p ≡ newRowOf t ⌝ }
+    ensures { λ _. ⌜ ((q : ℕ) → (q ≡ p → ⊥) → rowIn (now (rows .exit)) q ≡ rowIn (now (rows .entry)) q) ⌝ }
+{
+    let normal = k.normal;
+    let area = geometry::triangle_area(t);
+    let aabb = geometry::from_corners(t.a, t.b, t.c);
+    let r = PatchRow {
+        normal,
+        offset: k.offset,
+        area,
+        aabb,
+    };
+    put_row(rows, p, r);
+}
+
+// Triangle t joins patch p.
+fn join_patch(rows: &mut [f32], p: usize, t: Triangle)
+    requires { ⌜ patchFloats * p + patchFloats ≤ length (now rows) ⌝ }
+    ensures { λ _. ⌜ rowIn (now (rows .exit)) p ≡ joinedRowOf (rowIn (now (rows .entry)) p) t ⌝ }
+    ensures { λ _. ⌜ ((q : ℕ) → (q ≡ p → ⊥) → rowIn (now (rows .exit)) q ≡ rowIn (now (rows .entry)) q) ⌝ }
+{
+    let old = row_at(rows, p);
+    let normal = old.normal;
+    let area = old.area + geometry::triangle_area(t);
+    let aabb = geometry::union(old.aabb, geometry::from_corners(t.a, t.b, t.c));
+    let r = PatchRow {
+        normal,
+        offset: old.offset,
+        area,
+        aabb,
+    };
+    put_row(rows, p, r);
+}
+
+// Triangle t, which is kept, joins the first patch of its plane, or starts one. The number of patches is returned.
+fn place(
+    area: &[f32],
+    handles: &[u32],
+    n: usize,
+    t: usize,
+    np: usize,
+    rows: &mut [f32],
+    cells: &mut [u64],
+    heads: &mut [u32],
+    next: &mut [u32],
+    of: &mut [u32],
+) -> usize
+    requires { ⌜ (columnCount * n ≤ length (now area)) × (n ≤ length (now handles)) × (t < n) × (t < 4294967295) ⌝ }
+    requires { ⌜ (patchFloats * t + patchFloats ≤ length (now rows)) × (3 * t + 3 ≤ length (now cells)) × (t < length (now next)) × (t < length (now of)) ⌝ }
+    requires { ⌜ Standing (now rows) (now of) (now cells) (now heads) (now next) t np ⌝ }
+    ensures { λ r. ⌜ Standing (now (rows .exit)) (now (of .exit)) (now (cells .exit)) (now (heads .exit)) (now (next .exit)) (suc t) r ⌝ }
+    ensures { λ r. ⌜ ((ts : List Triangle) → triangleAt ts t ≡ triangleAtOf (now (area .entry)) (now (handles .entry)) n t → patchesIn (now (rows .exit)) (now (of .exit)) (suc t) r ≡ placedOf ts (patchesIn (now (rows .entry)) (now (of .entry)) t np) t) ⌝ }
+{
+    let tri = columns::triangle_at(area, handles, n, t);
+    let k = plane_key(tri);
+    let p = found(rows, cells, heads, next, np, k);
+    if p < np {
+        join_patch(rows, p, tri);
+        of[t] = p as u32;
+        return np;
+    }
+    new_patch(rows, np, tri, k);
+    put_in_grid(cells, heads, next, np, k);
+    of[t] = np as u32;
+    np + 1
+}
+
+// Triangle t, where it is kept.
+fn turn(
+    area: &[f32],
+    handles: &[u32],
+    n: usize,
+    first: &[u32],
+    t: usize,
+    np: usize,
+    rows: &mut [f32],
+    cells: &mut [u64],
+    heads: &mut [u32],
+    next: &mut [u32],
+    of: &mut [u32],
+) -> usize
+    requires { ⌜ (columnCount * n ≤ length (now area)) × (n ≤ length (now handles)) × (t < n) × (t < 4294967295) × (t < length (now first)) ⌝ }
+    requires { ⌜ (patchFloats * t + patchFloats ≤ length (now rows)) × (3 * t + 3 ≤ length (now cells)) × (t < length (now next)) × (t < length (now of)) ⌝ }
+    requires { ⌜ Standing (now rows) (now of) (now cells) (now heads) (now next) t np ⌝ }
+    ensures { λ r. ⌜ Standing (now (rows .exit)) (now (of .exit)) (now (cells .exit)) (now (heads .exit)) (now (next .exit)) (suc t) r ⌝ }
+    ensures { λ r. ⌜ ((ts : List Triangle) → triangleAt ts t ≡ triangleAtOf (now (area .entry)) (now (handles .entry)) n t → patchesIn (now (rows .exit)) (now (of .exit)) (suc t) r ≡ cond (eqb (getD (now (first .entry)) t 0) t) (placedOf ts (patchesIn (now (rows .entry)) (now (of .entry)) t np) t) (patchesIn (now (rows .entry)) (now (of .entry)) t np)) ⌝ }
+{
+    if first[t] == t as u32 {
+        return place(area, handles, n, t, np, rows, cells, heads, next, of);
+    }
+    of[t] = NONE;
+    np
+}
+
+// STEP 2 of the planes: the patches of the first m triangles, as rows and as the number of each triangle's patch. `first` tells which
+// triangles are kept, by `faces::duplicates`. The number of patches is returned.
+pub fn coplanar_patches(
+    area: &[f32],
+    handles: &[u32],
+    n: usize,
+    m: usize,
+    first: &[u32],
+    cells: &mut [u64],
+    heads: &mut [u32],
+    next: &mut [u32],
+    rows: &mut [f32],
+    of: &mut [u32],
+) -> usize
+    requires { ⌜ (columnCount * n ≤ length (now area)) × (n ≤ length (now handles)) × (m ≤ n) × (m ≤ 4294967295) × (m ≤ length (now first)) ⌝ }
+    requires { ⌜ (length (now heads) ≡ bucketCount) × (patchFloats * m ≤ length (now rows)) × (3 * m ≤ length (now cells)) × (m ≤ length (now next)) × (m ≤ length (now of)) ⌝ }
+    requires { ⌜ ((i : ℕ) → i < m → eqb (getD (now first) i 0) i ≡ isFirst (facesIn (now area) n) i) ⌝ }
+    ensures { λ r. ⌜ patchesIn (now (rows .exit)) (now (of .exit)) m r ≡ patchesOf (trianglesIn (now (area .entry)) (now (handles .entry)) n m) ⌝ }
+    ensures { λ r. ⌜ (r ≤ m) × Numbered (now (of .exit)) m r ⌝ }
+{
+    columns::clear_u32(heads);
+    let mut np = 0;
+    let mut t = 0;
+    while t < m {
+        np = turn(area, handles, n, first, t, np, rows, cells, heads, next, of);
+        t += 1;
+    }
+    np
 }
