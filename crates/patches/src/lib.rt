@@ -1,9 +1,44 @@
 // Coplanar patches of a scene, step 2 of `build_planes`: each triangle joins the first patch of its plane, or starts one.
-// So far the canonical normal and the offset of a triangle.
+// A patch is a row of floats and the number that its triangles have in `of`. In place of the Rust's map from cells to patches, patches
+// whose cells share one of 4,096 buckets are chained, newest first.
+use geometry::Aabb;
 use geometry::Triangle;
 use vector::Vec3;
 ghost use mathlib.Core.Path.{_≡_};
+ghost use mathlib.Core.Bool.{cond};
+ghost use mathlib.Core.List.{List, [], _∷_, map, flatMap};
+ghost use Prim.Native.Nat.{ℕ, suc, _+_, _-_, _*_, _<_, _≤_};
+ghost use lib.Dec.{eqb};
+ghost use lib.ListN.{length, getD, set};
+ghost use Rattle.geometry.specs.declared.Triangle.{Triangle};
+ghost use Rattle.columns.specs.Columns.{columnCount, triangleAtOf};
+ghost use Rattle.faces.specs.Key.{stepOf, sameKey};
+ghost use Rattle.faces.specs.Faces.{isFirst, facesIn};
 ghost use Rattle.patches.specs.Normal.{largerPartOf, largestPartOf, isTurned, canonicalOf, offsetOf};
+ghost use Rattle.patches.specs.Patches.{cellsPerUnit, besideOf, aroundOf, placedOf, patchesOf};
+ghost use Rattle.patches.specs.Rows.{patchFloats, vecIn, rowIn, newRowOf, joinedRowOf, patchesIn, Numbered, Beside};
+ghost use Rattle.patches.specs.Triangles.{triangleAt, trianglesIn};
+ghost use Rattle.patches.specs.Grid.{key, planeKeyOf, bucketCount, bucketOf, cellAt, chainOf, lastBy, coplanarAt, matchAt, firstAmong, Grid, Standing};
+
+// The number of a triangle without a patch.
+pub const NONE: u32 = 0xffff_ffff;
+
+// What stands of a patch in a row.
+pub struct PatchRow {
+    pub normal: Vec3,
+    pub offset: f32,
+    pub area: f32,
+    pub aabb: Aabb,
+}
+
+// What the search for a triangle's patch needs of it: canonical normal, offset and cell.
+pub struct PlaneKey {
+    pub normal: Vec3,
+    pub offset: f32,
+    pub x: u64,
+    pub y: u64,
+    pub z: u64,
+}
 
 // The one of larger size, the first of equal ones.
 fn larger_part(p: f32, q: f32) -> f32
@@ -47,4 +82,424 @@ pub fn offset_of(t: Triangle) -> f32
         return -d;
     }
     d
+}
+
+// ---- rows of floats
+
+fn vec_in(rows: &[f32], at: usize) -> Vec3
+    requires { ⌜ at + 3 ≤ length (now rows) ⌝ }
+    ensures { λ r. ⌜ r ≡ vecIn (now (rows .entry)) at ⌝ }
+{
+    Vec3 {
+        x: rows[at],
+        y: rows[at + 1],
+        z: rows[at + 2],
+    }
+}
+
+// The row of patch p.
+pub fn row_at(rows: &[f32], p: usize) -> PatchRow
+    requires { ⌜ patchFloats * p + patchFloats ≤ length (now rows) ⌝ }
+    ensures { λ r. ⌜ r ≡ rowIn (now (rows .entry)) p ⌝ }
+{
+    let at = 11 * p;
+    let normal = vec_in(rows, at);
+    let aabb = Aabb {
+        min: vec_in(rows, at + 5),
+        max: vec_in(rows, at + 8),
+    };
+    PatchRow {
+        normal,
+        offset: rows[at + 3],
+        area: rows[at + 4],
+        aabb,
+    }
+}
+
+fn put_vec(rows: &mut [f32], at: usize, v: Vec3)
+    requires { ⌜ at + 3 ≤ length (now rows) ⌝ }
+    ensures { λ _. ⌜ vecIn (now (rows .exit)) at ≡ v ⌝ }
+    ensures { λ _. ⌜ Beside at 3 (now (rows .entry)) (now (rows .exit)) ⌝ }
+{
+    rows[at] = v.x;
+    rows[at + 1] = v.y;
+    rows[at + 2] = v.z;
+}
+
+// Stores the row of patch p.
+pub fn put_row(rows: &mut [f32], p: usize, r: PatchRow)
+    requires { ⌜ patchFloats * p + patchFloats ≤ length (now rows) ⌝ }
+    ensures { λ _. ⌜ rowIn (now (rows .exit)) p ≡ r ⌝ }
+    ensures { λ _. ⌜ ((q : ℕ) → (q ≡ p → ⊥) → rowIn (now (rows .exit)) q ≡ rowIn (now (rows .entry)) q) ⌝ }
+{
+    let at = 11 * p;
+    put_vec(rows, at, r.normal);
+    rows[at + 3] = r.offset;
+    rows[at + 4] = r.area;
+    put_vec(rows, at + 5, r.aabb.min);
+    put_vec(rows, at + 8, r.aabb.max);
+}
+
+// ---- the grid of normals
+
+fn cell_part(x: f32) -> u64
+    ensures { λ r. ⌜ (r ≡ stepOf cellsPerUnit x) × (r < 4294967296) ⌝ }
+{
+    faces::whole(x * 50.0) as u64
+}
+
+fn plane_key(t: Triangle) -> PlaneKey
+    ensures { λ r. ⌜ r ≡ planeKeyOf t ⌝ }
+    ensures { λ r. ⌜ (r .x < 4294967296) × (r .y < 4294967296) × (r .z < 4294967296) ⌝ }
+{
+    let normal = canonical(t.normal);
+    let offset = offset_of(t);
+    PlaneKey {
+        normal,
+        offset,
+        x: cell_part(normal.x),
+        y: cell_part(normal.y),
+        z: cell_part(normal.z),
+    }
+}
+
+fn bucket(x: u64, y: u64, z: u64) -> usize
+    ensures { λ r. ⌜ (r ≡ bucketOf (key x y z)) × (r < bucketCount) ⌝ }
+{
+    (x % 16 * 256 + y % 16 * 16 + z % 16) as usize
+}
+
+fn in_cell(cells: &[u64], p: usize, x: u64, y: u64, z: u64) -> bool
+    requires { ⌜ 3 * p + 3 ≤ length (now cells) ⌝ }
+    ensures { λ r. ⌜ r ≡ sameKey (cellAt (now (cells .entry)) p) (key x y z) ⌝ }
+{
+    let at = 3 * p;
+    if cells[at] == x {
+        if cells[at + 1] == y {
+            return cells[at + 2] == z;
+        }
+    }
+    false
+}
+
+fn is_coplanar(rows: &[f32], p: usize, k: PlaneKey) -> bool
+    requires { ⌜ patchFloats * p + patchFloats ≤ length (now rows) ⌝ }
+    ensures { λ r. ⌜ r ≡ coplanarAt (now (rows .entry)) (k .normal) (k .offset) p ⌝ }
+{
+    let at = 11 * p;
+    let offset = rows[at + 3];
+    if vector::dot3(vec_in(rows, at), k.normal) > 0.999_98 {
+        return float::abs(offset - k.offset) < 2e-3;
+    }
+    false
+}
+
+// Patch p where it matches, else `found`.
+fn match_or(
+    rows: &[f32],
+    cells: &[u64],
+    p: usize,
+    x: u64,
+    y: u64,
+    z: u64,
+    k: PlaneKey,
+    found: usize,
+) -> usize
+    requires { ⌜ (patchFloats * p + patchFloats ≤ length (now rows)) × (3 * p + 3 ≤ length (now cells)) ⌝ }
+    ensures { λ r. ⌜ r ≡ cond (matchAt (now (rows .entry)) (now (cells .entry)) (key x y z) (k .normal) (k .offset) p) p found ⌝ }
+{
+    if in_cell(cells, p, x, y, z) {
+        if is_coplanar(rows, p, k) {
+            return p;
+        }
+    }
+    found
+}
+
+// The last match of a chain: the first in order of making, since the chain has the newest first.
+fn last_match(
+    rows: &[f32],
+    cells: &[u64],
+    next: &[u32],
+    head: u32,
+    np: usize,
+    x: u64,
+    y: u64,
+    z: u64,
+    k: PlaneKey,
+) -> usize
+    requires { ⌜ (patchFloats * np ≤ length (now rows)) × (3 * np ≤ length (now cells)) × (np ≤ length (now next)) × (head ≤ np) ⌝ }
+    requires { ⌜ ((p : ℕ) → p < np → getD (now next) p 0 ≤ p) ⌝ }
+    ensures { λ r. ⌜ r ≡ lastBy (matchAt (now (rows .entry)) (now (cells .entry)) (key x y z) (k .normal) (k .offset)) np (chainOf (now (next .entry)) np head) ⌝ }
+{
+    let mut found = np;
+    let mut link = head as usize;
+    while link > 0 {
+        let p = link - 1;
+        found = match_or(rows, cells, p, x, y, z, k, found);
+        link = next[p] as usize;
+    }
+    found
+}
+
+// The first patch of a cell in the plane of k, else np.
+fn first_in_cell(
+    rows: &[f32],
+    cells: &[u64],
+    heads: &[u32],
+    next: &[u32],
+    np: usize,
+    x: u64,
+    y: u64,
+    z: u64,
+    k: PlaneKey,
+) -> usize
+    requires { ⌜ Grid (now rows) (now cells) (now heads) (now next) np ⌝ }
+    ensures { λ r. ⌜ r ≡ firstAmong (now (rows .entry)) np (k .normal) (k .offset) (key x y z ∷ []) ⌝ }
+{
+    let head = heads[bucket(x, y, z)];
+    last_match(rows, cells, next, head, np, x, y, z, k)
+}
+
+// The cell below c, 0 having none.
+fn below(c: u64) -> u64
+    ensures { λ r. ⌜ r ≡ c - 1 ⌝ }
+{
+    if c == 0 {
+        return 0;
+    }
+    c - 1
+}
+
+fn first_along_z(
+    rows: &[f32],
+    cells: &[u64],
+    heads: &[u32],
+    next: &[u32],
+    np: usize,
+    x: u64,
+    y: u64,
+    z: u64,
+    k: PlaneKey,
+) -> usize
+    requires { ⌜ Grid (now rows) (now cells) (now heads) (now next) np ⌝ }
+    requires { ⌜ z < 4294967296 ⌝ }
+    ensures { λ r. ⌜ r ≡ firstAmong (now (rows .entry)) np (k .normal) (k .offset) (map (key x y) (besideOf z)) ⌝ }
+{
+    let a = first_in_cell(rows, cells, heads, next, np, x, y, below(z), k);
+    if a < np {
+        return a;
+    }
+    let b = first_in_cell(rows, cells, heads, next, np, x, y, z, k);
+    if b < np {
+        return b;
+    }
+    first_in_cell(rows, cells, heads, next, np, x, y, z + 1, k)
+}
+
+fn first_along_y(
+    rows: &[f32],
+    cells: &[u64],
+    heads: &[u32],
+    next: &[u32],
+    np: usize,
+    x: u64,
+    y: u64,
+    z: u64,
+    k: PlaneKey,
+) -> usize
+    requires { ⌜ Grid (now rows) (now cells) (now heads) (now next) np ⌝ }
+    requires { ⌜ (y < 4294967296) × (z < 4294967296) ⌝ }
+    ensures { λ r. ⌜ r ≡ firstAmong (now (rows .entry)) np (k .normal) (k .offset) (flatMap (λ b. map (key x b) (besideOf z)) (besideOf y)) ⌝ }
+{
+    let a = first_along_z(rows, cells, heads, next, np, x, below(y), z, k);
+    if a < np {
+        return a;
+    }
+    let b = first_along_z(rows, cells, heads, next, np, x, y, z, k);
+    if b < np {
+        return b;
+    }
+    first_along_z(rows, cells, heads, next, np, x, y + 1, z, k)
+}
+
+// The first patch in the 27 cells around that of k, x slowest, else np.
+fn found(rows: &[f32], cells: &[u64], heads: &[u32], next: &[u32], np: usize, k: PlaneKey) -> usize
+    requires { ⌜ Grid (now rows) (now cells) (now heads) (now next) np ⌝ }
+    requires { ⌜ (k .x < 4294967296) × (k .y < 4294967296) × (k .z < 4294967296) ⌝ }
+    ensures { λ r. ⌜ r ≡ firstAmong (now (rows .entry)) np (k .normal) (k .offset) (aroundOf (key (k .x) (k .y) (k .z))) ⌝ }
+{
+    let a = first_along_y(rows, cells, heads, next, np, below(k.x), k.y, k.z, k);
+    if a < np {
+        return a;
+    }
+    let b = first_along_y(rows, cells, heads, next, np, k.x, k.y, k.z, k);
+    if b < np {
+        return b;
+    }
+    first_along_y(rows, cells, heads, next, np, k.x + 1, k.y, k.z, k)
+}
+
+// Stores the cell of patch p.
+fn put_cell(cells: &mut [u64], p: usize, x: u64, y: u64, z: u64)
+    requires { ⌜ 3 * p + 3 ≤ length (now cells) ⌝ }
+    ensures { λ _. ⌜ cellAt (now (cells .exit)) p ≡ key x y z ⌝ }
+    ensures { λ _. ⌜ ((q : ℕ) → (q ≡ p → ⊥) → cellAt (now (cells .exit)) q ≡ cellAt (now (cells .entry)) q) ⌝ }
+{
+    let at = 3 * p;
+    cells[at] = x;
+    cells[at + 1] = y;
+    cells[at + 2] = z;
+}
+
+// Patch p goes to the front of a chain.
+fn link(heads: &mut [u32], next: &mut [u32], p: usize, h: usize)
+    requires { ⌜ (h < length (now heads)) × (p < length (now next)) × (p < 4294967295) ⌝ }
+    ensures { λ _. ⌜ now (heads .exit) ≡ set (now (heads .entry)) h (suc p) ⌝ }
+    ensures { λ _. ⌜ now (next .exit) ≡ set (now (next .entry)) p (getD (now (heads .entry)) h 0) ⌝ }
+{
+    next[p] = heads[h];
+    heads[h] = (p + 1) as u32;
+}
+
+// Patch p of cell k goes to the front of its chain.
+fn put_in_grid(cells: &mut [u64], heads: &mut [u32], next: &mut [u32], p: usize, k: PlaneKey)
+    requires { ⌜ (3 * p + 3 ≤ length (now cells)) × (length (now heads) ≡ bucketCount) × (p < length (now next)) × (p < 4294967295) ⌝ }
+    ensures { λ _. ⌜ cellAt (now (cells .exit)) p ≡ key (k .x) (k .y) (k .z) ⌝ }
+    ensures { λ _. ⌜ ((q : ℕ) → (q ≡ p → ⊥) → cellAt (now (cells .exit)) q ≡ cellAt (now (cells .entry)) q) ⌝ }
+    ensures { λ _. ⌜ now (heads .exit) ≡ set (now (heads .entry)) (bucketOf (key (k .x) (k .y) (k .z))) (suc p) ⌝ }
+    ensures { λ _. ⌜ now (next .exit) ≡ set (now (next .entry)) p (getD (now (heads .entry)) (bucketOf (key (k .x) (k .y) (k .z))) 0) ⌝ }
+{
+    put_cell(cells, p, k.x, k.y, k.z);
+    link(heads, next, p, bucket(k.x, k.y, k.z));
+}
+
+// ---- patches
+
+// The row of a patch of triangle t alone.
+fn new_patch(rows: &mut [f32], p: usize, t: Triangle, k: PlaneKey)
+    requires { ⌜ patchFloats * p + patchFloats ≤ length (now rows) ⌝ }
+    requires { ⌜ k ≡ planeKeyOf t ⌝ }
+    ensures { λ _. ⌜ rowIn (now (rows .exit)) p ≡ newRowOf t ⌝ }
+    ensures { λ _. ⌜ ((q : ℕ) → (q ≡ p → ⊥) → rowIn (now (rows .exit)) q ≡ rowIn (now (rows .entry)) q) ⌝ }
+{
+    let normal = k.normal;
+    let area = geometry::triangle_area(t);
+    let aabb = geometry::from_corners(t.a, t.b, t.c);
+    let r = PatchRow {
+        normal,
+        offset: k.offset,
+        area,
+        aabb,
+    };
+    put_row(rows, p, r);
+}
+
+// Triangle t joins patch p.
+fn join_patch(rows: &mut [f32], p: usize, t: Triangle)
+    requires { ⌜ patchFloats * p + patchFloats ≤ length (now rows) ⌝ }
+    ensures { λ _. ⌜ rowIn (now (rows .exit)) p ≡ joinedRowOf (rowIn (now (rows .entry)) p) t ⌝ }
+    ensures { λ _. ⌜ ((q : ℕ) → (q ≡ p → ⊥) → rowIn (now (rows .exit)) q ≡ rowIn (now (rows .entry)) q) ⌝ }
+{
+    let old = row_at(rows, p);
+    let normal = old.normal;
+    let area = old.area + geometry::triangle_area(t);
+    let aabb = geometry::union(old.aabb, geometry::from_corners(t.a, t.b, t.c));
+    let r = PatchRow {
+        normal,
+        offset: old.offset,
+        area,
+        aabb,
+    };
+    put_row(rows, p, r);
+}
+
+// Triangle t, which is kept, joins the first patch of its plane, or starts one. The number of patches is returned.
+fn place(
+    area: &[f32],
+    handles: &[u32],
+    n: usize,
+    t: usize,
+    np: usize,
+    rows: &mut [f32],
+    cells: &mut [u64],
+    heads: &mut [u32],
+    next: &mut [u32],
+    of: &mut [u32],
+) -> usize
+    requires { ⌜ (columnCount * n ≤ length (now area)) × (n ≤ length (now handles)) × (t < n) × (t < 4294967295) ⌝ }
+    requires { ⌜ (patchFloats * t + patchFloats ≤ length (now rows)) × (3 * t + 3 ≤ length (now cells)) × (t < length (now next)) × (t < length (now of)) ⌝ }
+    requires { ⌜ Standing (now rows) (now of) (now cells) (now heads) (now next) t np ⌝ }
+    ensures { λ r. ⌜ Standing (now (rows .exit)) (now (of .exit)) (now (cells .exit)) (now (heads .exit)) (now (next .exit)) (suc t) r ⌝ }
+    ensures { λ r. ⌜ ((ts : List Triangle) → triangleAt ts t ≡ triangleAtOf (now (area .entry)) (now (handles .entry)) n t → patchesIn (now (rows .exit)) (now (of .exit)) (suc t) r ≡ placedOf ts (patchesIn (now (rows .entry)) (now (of .entry)) t np) t) ⌝ }
+{
+    let tri = columns::triangle_at(area, handles, n, t);
+    let k = plane_key(tri);
+    let p = found(rows, cells, heads, next, np, k);
+    if p < np {
+        join_patch(rows, p, tri);
+        of[t] = p as u32;
+        return np;
+    }
+    new_patch(rows, np, tri, k);
+    put_in_grid(cells, heads, next, np, k);
+    of[t] = np as u32;
+    np + 1
+}
+
+// Triangle t, where it is kept.
+fn turn(
+    area: &[f32],
+    handles: &[u32],
+    n: usize,
+    first: &[u32],
+    t: usize,
+    np: usize,
+    rows: &mut [f32],
+    cells: &mut [u64],
+    heads: &mut [u32],
+    next: &mut [u32],
+    of: &mut [u32],
+) -> usize
+    requires { ⌜ (columnCount * n ≤ length (now area)) × (n ≤ length (now handles)) × (t < n) × (t < 4294967295) × (t < length (now first)) ⌝ }
+    requires { ⌜ (patchFloats * t + patchFloats ≤ length (now rows)) × (3 * t + 3 ≤ length (now cells)) × (t < length (now next)) × (t < length (now of)) ⌝ }
+    requires { ⌜ Standing (now rows) (now of) (now cells) (now heads) (now next) t np ⌝ }
+    ensures { λ r. ⌜ Standing (now (rows .exit)) (now (of .exit)) (now (cells .exit)) (now (heads .exit)) (now (next .exit)) (suc t) r ⌝ }
+    ensures { λ r. ⌜ ((ts : List Triangle) → triangleAt ts t ≡ triangleAtOf (now (area .entry)) (now (handles .entry)) n t → patchesIn (now (rows .exit)) (now (of .exit)) (suc t) r ≡ cond (eqb (getD (now (first .entry)) t 0) t) (placedOf ts (patchesIn (now (rows .entry)) (now (of .entry)) t np) t) (patchesIn (now (rows .entry)) (now (of .entry)) t np)) ⌝ }
+{
+    if first[t] == t as u32 {
+        return place(area, handles, n, t, np, rows, cells, heads, next, of);
+    }
+    of[t] = NONE;
+    np
+}
+
+// STEP 2 of the planes: the patches of the first m triangles, as rows and as the number of each triangle's patch. `first` tells which
+// triangles are kept, by `faces::duplicates`. The number of patches is returned.
+pub fn coplanar_patches(
+    area: &[f32],
+    handles: &[u32],
+    n: usize,
+    m: usize,
+    first: &[u32],
+    cells: &mut [u64],
+    heads: &mut [u32],
+    next: &mut [u32],
+    rows: &mut [f32],
+    of: &mut [u32],
+) -> usize
+    requires { ⌜ (columnCount * n ≤ length (now area)) × (n ≤ length (now handles)) × (m ≤ n) × (m ≤ 4294967295) × (m ≤ length (now first)) ⌝ }
+    requires { ⌜ (length (now heads) ≡ bucketCount) × (patchFloats * m ≤ length (now rows)) × (3 * m ≤ length (now cells)) × (m ≤ length (now next)) × (m ≤ length (now of)) ⌝ }
+    requires { ⌜ ((i : ℕ) → i < m → eqb (getD (now first) i 0) i ≡ isFirst (facesIn (now area) n) i) ⌝ }
+    ensures { λ r. ⌜ patchesIn (now (rows .exit)) (now (of .exit)) m r ≡ patchesOf (trianglesIn (now (area .entry)) (now (handles .entry)) n m) ⌝ }
+    ensures { λ r. ⌜ (r ≤ m) × Numbered (now (of .exit)) m r ⌝ }
+{
+    columns::clear_u32(heads);
+    let mut np = 0;
+    let mut t = 0;
+    while t < m {
+        np = turn(area, handles, n, first, t, np, rows, cells, heads, next, of);
+        t += 1;
+    }
+    np
 }

@@ -1,0 +1,29 @@
+-- `patches::is_coplanar` meets its contract, by its calls and tests.
+use borrow.Author.Needs.{needs}
+use Rattle.patches.specs.Patches.{isCoplanar}
+use Rattle.patches.specs.Rows.{patchIn}
+use Rattle.patches.specs.Grid.{coplanarAt}
+use Rattle.patches.proofs.is_coplanar.Statement.{statement}
+use Rattle.patches.proofs.is_coplanar.Tie as tie
+
+returns : tie.Need-returns
+unfolding coplanarAt isCoplanar patchIn
+returns c = rw (← c .before .before .before .before .vec-in .ensures, ← c .before .before .before .dot3 .ensures, c .before .before .if1 .taken, ← c .abs .ensures)
+
+returns-2 : tie.Need-returns-2
+unfolding coplanarAt isCoplanar patchIn
+returns-2 c = rw (← c .before .before .vec-in .ensures, ← c .before .dot3 .ensures, c .if1 .left)
+
+pub is-coplanar-spec : {M : Type 1} → statement M
+is-coplanar-spec =
+    tie.close
+    (tie.spec
+    (λ c. search needs)
+    (λ c. search needs)
+    (λ c. search needs)
+    (λ c. search needs)
+    (λ c κs. search needs)
+    (λ c κs. tt)
+    (λ c κs. tt)
+    returns
+    returns-2)
