@@ -10,7 +10,7 @@ use Rattle.patches.specs.Patches.{patchesOf}
 use Rattle.buried.specs.Buried.{openOf}
 use Rattle.groups.specs.Groups.{groupsOf}
 use Rattle.planes.specs.Fit.{planeOf}
-use Rattle.planes.specs.Rank.{rankedOf}
+use Rattle.importance.specs.Importance.{rankedOf}
 use Rattle.planes.specs.Border.{borderedOf}
 
 -- steps 1 to 3

@@ -17,6 +17,7 @@ use Rattle.order.specs.Runs.{headOr, upTo}
 use Rattle.patches.specs.Triangles.{triangleAt, cornersOf}
 use Rattle.mirror.specs.Plane.{Plane, planeAt}
 use Rattle.groups.specs.Groups.{descendingKey}
+use Rattle.importance.specs.declared.Moments.{Moments}
 
 -- 1e-3
 abbrev pub leastHalfDiag : Float
@@ -26,8 +27,14 @@ abbrev pub splat : Float → Vec3
 splat v = vec v v v
 
 -- `lo` and `hi`: the box of all triangles, duplicates too
+unfoldable pub grownByOf : Aabb → Triangle → Aabb
+grownByOf b t = foldl growOf b (cornersOf t)
+
+abbrev pub noBoxOf : Aabb
+noBoxOf = box (splat (inf false)) (splat (inf true))
+
 unfoldable pub sceneBoxOf : List Triangle → Aabb
-sceneBoxOf ts = foldl (λ b t. foldl growOf b (cornersOf t)) (box (splat (inf false)) (splat (inf true))) ts
+sceneBoxOf ts = foldl grownByOf noBoxOf ts
 
 -- `centre`
 unfoldable pub centreOf : Aabb → Vec3
@@ -38,25 +45,34 @@ unfoldable pub halfDiagOf : Aabb → Float
 halfDiagOf b = maxOf (mul binary32 half (distance3Of (b .min) (b .max))) leastHalfDiag
 
 -- `c` and `w`: the sum of the areas times the centroids, and the sum of the areas
-unfoldable pub momentsOf : List Triangle → Vec3 × Float → ℕ → Vec3 × Float
-momentsOf ts s i =
-    let t = triangleAt ts i in
+abbrev pub noMoments : Moments
+noMoments = record { sum = splat zero32; weight = zero32 }
+
+-- with one triangle more
+unfoldable pub momentOf : Moments → Triangle → Moments
+momentOf s t =
     let a = triangleAreaOf t in
     let c = centroidOf t in
-    (add3Of (s .0) (vec (mul binary32 a (c .x)) (mul binary32 a (c .y)) (mul binary32 a (c .z))), add binary32 (s .1) a)
+    record { sum = add3Of (s .sum) (vec (mul binary32 a (c .x)) (mul binary32 a (c .y)) (mul binary32 a (c .z))); weight = add binary32 (s .weight) a }
 
--- the area's centre
+-- the centre of the area
+unfoldable pub meanOf : Moments → Vec3
+meanOf s =
+    let w = maxOf (s .weight) tiny in
+    vec (div binary32 (s .sum .x) w) (div binary32 (s .sum .y) w) (div binary32 (s .sum .z) w)
+
 unfoldable pub areaCentreOf : List Triangle → List ℕ → Vec3
-areaCentreOf ts is =
-    let s = foldl (momentsOf ts) (splat zero32, zero32) is in
-    let w = maxOf (s .1) tiny in
-    vec (div binary32 (s .0 .x) w) (div binary32 (s .0 .y) w) (div binary32 (s .0 .z) w)
+areaCentreOf ts is = meanOf (foldl (λ s i. momentOf s (triangleAt ts i)) noMoments is)
+
+-- `p.area / (1.0 + d * d)`, with d the distance of the area's centre c from the scene's in half diagonals
+unfoldable pub weighedOf : Aabb → Float → Vec3 → Float
+weighedOf b area c =
+    let d = div binary32 (distance3Of c (centreOf b)) (halfDiagOf b) in
+    div binary32 area (add binary32 one32 (mul binary32 d d))
 
 -- `importance`
 unfoldable pub importanceOf : List Triangle → Aabb → Plane → Float
-importanceOf ts b p =
-    let d = div binary32 (distance3Of (areaCentreOf ts (p .tris)) (centreOf b)) (halfDiagOf b) in
-    div binary32 (p .area) (add binary32 one32 (mul binary32 d d))
+importanceOf ts b p = weighedOf b (p .area) (areaCentreOf ts (p .tris))
 
 -- `ranked`: the most important first, and of equal ones that with the lower first triangle
 unfoldable pub rankedOf : List Triangle → ℕ → List Plane → List Plane

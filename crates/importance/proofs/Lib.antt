@@ -1,0 +1,2 @@
+-- The laws that the proofs of `importance` cite.
+pub mod Folds
