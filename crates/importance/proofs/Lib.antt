@@ -1,2 +1,3 @@
 -- The laws that the proofs of `importance` cite.
 pub mod Folds
+pub mod Ranks

@@ -16,6 +16,8 @@ use Rattle.order.specs.Sort.{sortBy, keyOf}
 use Rattle.order.specs.Runs.{headOr, upTo}
 use Rattle.patches.specs.Triangles.{triangleAt, cornersOf}
 use Rattle.mirror.specs.Plane.{Plane, planeAt}
+use Rattle.mirror.specs.declared.PlaneRow.{PlaneRow}
+use Rattle.mirror.specs.Rows.{trisOf}
 use Rattle.groups.specs.Groups.{descendingKey}
 use Rattle.importance.specs.declared.Moments.{Moments}
 
@@ -74,9 +76,22 @@ weighedOf b area c =
 unfoldable pub importanceOf : List Triangle → Aabb → Plane → Float
 importanceOf ts b p = weighedOf b (p .area) (areaCentreOf ts (p .tris))
 
--- `ranked`: the most important first, and of equal ones that with the lower first triangle
+-- a key that has the more important plane first, and of equal ones that with the lower first triangle
+unfoldable pub keyOfPlane : List Triangle → Aabb → Plane → ℕ
+keyOfPlane ts b p = descendingKey (importanceOf ts b p) (headOr 0 (p .tris))
+
+-- the numbers of the planes, sorted by it
+unfoldable pub rankingOf : List Triangle → List Plane → List ℕ
+rankingOf ts ps = let keys = map (keyOfPlane ts (sceneBoxOf ts)) ps in sortBy (keyOf keys) (upTo (length ps))
+
+-- `ranked`: the first `most` of them
 unfoldable pub rankedOf : List Triangle → ℕ → List Plane → List Plane
-rankedOf ts most ps =
-    let b = sceneBoxOf ts in
-    let keys = map (λ (p : Plane). descendingKey (importanceOf ts b p) (headOr 0 (p .tris))) ps in
-    map (planeAt ps) (take most (sortBy (keyOf keys) (upTo (length ps))))
+rankedOf ts most ps = map (planeAt ps) (take most (rankingOf ts ps))
+
+-- ---- the same over triangles by number and the rows of planes, as the code has them
+
+unfoldable pub keyIn : (ℕ → Triangle) → Aabb → Float → List ℕ → ℕ
+keyIn tri b area is = descendingKey (weighedOf b area (meanOf (foldl (λ s i. momentOf s (tri i)) noMoments is))) (headOr 0 is)
+
+unfoldable pub rowKeyIn : (ℕ → Triangle) → Aabb → PlaneRow → List ℕ → ℕ
+rowKeyIn tri b row members = keyIn tri b (row .area) (trisOf row members)

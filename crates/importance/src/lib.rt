@@ -4,7 +4,7 @@ use geometry::Aabb;
 use geometry::Triangle;
 use vector::Vec3;
 ghost use mathlib.Core.Path.{_≡_};
-ghost use mathlib.Core.List.{List, map, foldl};
+ghost use mathlib.Core.List.{[], map, foldl};
 ghost use Prim.Native.Nat.{ℕ, _+_, _*_, _<_, _≤_};
 ghost use lib.ListN.{length, getD, take};
 ghost use lib.Ieee.{Float};
@@ -14,8 +14,9 @@ ghost use Rattle.geometry.specs.declared.Aabb.{Aabb};
 ghost use Rattle.geometry.specs.Aabb.{growOf};
 ghost use Rattle.columns.specs.Columns.{columnCount, triangleAtOf};
 ghost use Rattle.patches.specs.Triangles.{trianglesIn};
-ghost use Rattle.mirror.specs.Rows.{planesIn, planeIn, PlanesHeld, RunsIn, trisOf};
-ghost use Rattle.importance.specs.Importance.{grownByOf, noBoxOf, sceneBoxOf, centreOf, halfDiagOf, noMoments, momentOf, meanOf, weighedOf};
+ghost use Rattle.mirror.specs.Rows.{rowOf, planesIn, PlanesHeld};
+ghost use Rattle.importance.specs.Importance.{grownByOf, noBoxOf, sceneBoxOf, centreOf, halfDiagOf, noMoments, momentOf, meanOf, weighedOf, keyIn, rowKeyIn, rankingOf};
+ghost use Rattle.groups.specs.Groups.{rankOf, descendingKey};
 
 // The sum of areas times centroids, and of areas.
 pub struct Moments {
@@ -38,10 +39,7 @@ fn grow(b: Aabb, p: Vec3) -> Aabb
         y: float::max(b.max.y, p.y),
         z: float::max(b.max.z, p.z),
     };
-    Aabb {
-        min,
-        max,
-    }
+    Aabb { min, max }
 }
 
 fn grow_by(b: Aabb, t: Triangle) -> Aabb
@@ -65,10 +63,7 @@ fn no_box() -> Aabb
         y: -far,
         z: -far,
     };
-    Aabb {
-        min,
-        max,
-    }
+    Aabb { min, max }
 }
 
 // The box of the first m triangles.
@@ -163,4 +158,130 @@ fn weigh(centre: Vec3, half_diag: f32, area: f32, c: Vec3) -> f32
 {
     let d = vector::distance3(c, centre) / half_diag;
     area / (1.0 + d * d)
+}
+
+// The place of x among floats, NaN lowest.
+fn rank(x: f32) -> u32
+    ensures { λ r. ⌜ r ≡ rankOf x ⌝ }
+{
+    if float::is_nan(x) {
+        return 0;
+    }
+    float::float_key(x)
+}
+
+fn descending_key(x: f32, i: u32) -> u64
+    ensures { λ r. ⌜ r ≡ descendingKey x i ⌝ }
+{
+    let place = rank(x);
+    (0xffff_ffff - place) as u64 * 0x1_0000_0000 + i as u64
+}
+
+fn first_of(tris: &[u32]) -> u32
+    ensures { λ r. ⌜ r ≡ headOr 0 (now (tris .entry)) ⌝ }
+{
+    if tris.len() == 0 {
+        return 0;
+    }
+    tris[0]
+}
+
+// The key of a plane with these triangles: the most important first, and of equal ones that with the lower first triangle.
+fn plane_key(
+    area: &[f32],
+    handles: &[u32],
+    n: usize,
+    centre: Vec3,
+    half_diag: f32,
+    plane_area: f32,
+    tris: &[u32],
+) -> u64
+    requires { ⌜ columnCount * n ≤ length (now area) ⌝ }
+    requires { ⌜ n ≤ length (now handles) ⌝ }
+    requires { ⌜ Below n (now tris) ⌝ }
+    ensures { λ r. ⌜ ((b : Aabb) → centre ≡ centreOf b → «half_diag» ≡ halfDiagOf b → r ≡ keyIn (triangleAtOf (now (area .entry)) (now (handles .entry)) n) b «plane_area» (now (tris .entry))) ⌝ }
+{
+    let c = mean(moments_of(area, handles, n, tris));
+    descending_key(weigh(centre, half_diag, plane_area, c), first_of(tris))
+}
+
+// Stores the key of each plane, and its number.
+fn put_keys(
+    area: &[f32],
+    handles: &[u32],
+    n: usize,
+    floats: &[f32],
+    words: &[u32],
+    members: &[u32],
+    centre: Vec3,
+    half_diag: f32,
+    keys: &mut [u64],
+    index: &mut [u32],
+)
+    requires { ⌜ columnCount * n ≤ length (now area) ⌝ }
+    requires { ⌜ n ≤ length (now handles) ⌝ }
+    requires { ⌜ PlanesHeld (now floats) (now words) (now members) [] n (length (now index)) ⌝ }
+    requires { ⌜ length (now keys) ≡ length (now index) ⌝ }
+    requires { ⌜ length (now index) < 4294967296 ⌝ }
+    ensures { λ _. ⌜ now (index .exit) ≡ upTo (length (now (index .entry))) ⌝ }
+    ensures { λ _. ⌜ ((b : Aabb) → centre ≡ centreOf b → «half_diag» ≡ halfDiagOf b → now (keys .exit) ≡ map (λ g. rowKeyIn (triangleAtOf (now (area .entry)) (now (handles .entry)) n) b (rowOf (now (floats .entry)) (now (words .entry)) g) (now (members .entry))) (upTo (length (now (index .entry))))) ⌝ }
+{
+    let count = index.len();
+    let mut g = 0;
+    while g < count {
+        let row = mirror::plane_at(floats, words, g);
+        let from = row.first;
+        let to = from + row.count;
+        keys[g] = plane_key(
+            area,
+            handles,
+            n,
+            centre,
+            half_diag,
+            row.area,
+            &members[from..to],
+        );
+        index[g] = g as u32;
+        g += 1;
+    }
+}
+
+// `ranked`: the numbers of the planes, the most important first. There are as many as index is long; m triangles stand in the columns.
+pub fn rank_planes(
+    area: &[f32],
+    handles: &[u32],
+    n: usize,
+    m: usize,
+    floats: &[f32],
+    words: &[u32],
+    members: &[u32],
+    keys: &mut [u64],
+    index: &mut [u32],
+    sort_words: &mut [u64],
+    scratch: &mut [u64],
+)
+    requires { ⌜ columnCount * n ≤ length (now area) ⌝ }
+    requires { ⌜ n ≤ length (now handles) ⌝ }
+    requires { ⌜ m ≤ n ⌝ }
+    requires { ⌜ PlanesHeld (now floats) (now words) (now members) [] m (length (now index)) ⌝ }
+    requires { ⌜ length (now keys) ≡ length (now index) ⌝ }
+    requires { ⌜ length (now index) < 4294967296 ⌝ }
+    requires { ⌜ length (now index) ≤ length (now «sort_words») ⌝ }
+    requires { ⌜ length (now index) ≤ length (now scratch) ⌝ }
+    ensures { λ _. ⌜ now (index .exit) ≡ rankingOf (trianglesIn (now (area .entry)) (now (handles .entry)) n m) (planesIn (now (floats .entry)) (now (words .entry)) (now (members .entry)) [] (length (now (index .entry)))) ⌝ }
+{
+    let b = scene_box(area, handles, n, m);
+    put_keys(
+        area,
+        handles,
+        n,
+        floats,
+        words,
+        members,
+        centre(b),
+        half_diag(b),
+        keys,
+        index,
+    );
+    order::sort_by_key(keys, index, sort_words, scratch);
 }

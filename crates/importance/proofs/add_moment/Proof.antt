@@ -10,6 +10,7 @@ add-moment-spec =
     (tie.spec
     (λ c κs. tt)
     (λ c κs. tt)
-    (λ c. rw
-      (← c .before .before .before .before .before .before .before .before .triangle-area .ensures,
-        ← c .before .before .before .before .before .before .before .centroid .ensures)))
+    (λ c. rw (
+      ← c .before .before .before .before .before .before .before .before .triangle-area .ensures,
+      ← c .before .before .before .before .before .before .before .centroid .ensures,
+    )))

@@ -13,10 +13,11 @@ grow-spec =
     (λ c κs. tt)
     (λ c κs. tt)
     (λ c κs. tt)
-    (λ c. rw
-      (← c .before .before .before .before .before .min .ensures,
-        ← c .before .before .before .before .min2 .ensures,
-        ← c .before .before .before .min3 .ensures,
-        ← c .before .before .max .ensures,
-        ← c .before .max2 .ensures,
-        ← c .max3 .ensures)))
+    (λ c. rw (
+      ← c .before .before .before .before .before .min .ensures,
+      ← c .before .before .before .before .min2 .ensures,
+      ← c .before .before .before .min3 .ensures,
+      ← c .before .before .max .ensures,
+      ← c .before .max2 .ensures,
+      ← c .max3 .ensures,
+    )))
