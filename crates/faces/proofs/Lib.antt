@@ -6,3 +6,4 @@ pub mod Numbers
 pub mod Packing
 pub mod Corners
 pub mod Scene
+pub mod Numbering

@@ -10,9 +10,9 @@ ghost use Rattle.order.specs.Sort.{Below};
 ghost use Rattle.order.specs.Runs.{upTo, headOr, firstAt, runStart, runStarts};
 ghost use Rattle.columns.specs.Columns.{columnCount, vecAtOf};
 ghost use Rattle.faces.specs.Whole.{wholeOf, sizeOf, placeOf};
-ghost use Rattle.faces.specs.Key.{stepOf, keyBy};
+ghost use Rattle.faces.specs.Key.{stepOf, keyBy, vertexKey};
 ghost use Rattle.faces.specs.Triples.{lesser, greater, lowest, middle, highest, packed3};
-ghost use Rattle.faces.specs.Numbers.{keyAt, numberOf, isNewAt};
+ghost use Rattle.faces.specs.Numbers.{keyAt, numberOf, isNewAt, Numbered};
 ghost use Rattle.faces.specs.Faces.{isFirst, facesIn};
 
 // ---- the first index of each key
@@ -285,7 +285,33 @@ pub fn corner_keys(area: &[f32], n: usize, scale: f32, hi: &mut [u64], lo: &mut 
     point_keys(area, n, 6 * n, 2 * n, scale, hi, lo);
 }
 
-// STEP 1 of the planes: first[i] becomes i exactly where no earlier triangle has the same vertices.
+// The corners of n triangles by number: equal numbers where they lie in one step of 1 / scale.
+pub fn corner_numbers(
+    area: &[f32],
+    n: usize,
+    scale: f32,
+    hi: &mut [u64],
+    lo: &mut [u64],
+    index: &mut [u32],
+    words: &mut [u64],
+    scratch: &mut [u64],
+    id: &mut [u32],
+)
+    requires { ⌜ 3 * n ≤ 4294967296 ⌝ }
+    requires { ⌜ 9 * n ≤ length (now area) ⌝ }
+    requires { ⌜ length (now hi) ≡ 3 * n ⌝ }
+    requires { ⌜ length (now lo) ≡ 3 * n ⌝ }
+    requires { ⌜ length (now index) ≡ 3 * n ⌝ }
+    requires { ⌜ length (now words) ≡ 3 * n ⌝ }
+    requires { ⌜ length (now scratch) ≡ 3 * n ⌝ }
+    requires { ⌜ length (now id) ≡ 3 * n ⌝ }
+    ensures { λ _. ⌜ Numbered (keyBy scale) (now (area .entry)) n n (now (id .exit)) ⌝ }
+{
+    corner_keys(area, n, scale, hi, lo);
+    first_indexes(hi, lo, index, words, scratch, id);
+}
+
+// STEP 1 of the planes: first[i] becomes i exactly where no earlier triangle has the same vertices, and id the numbers of the vertices.
 pub fn duplicates(
     area: &[f32],
     n: usize,
@@ -311,6 +337,7 @@ pub fn duplicates(
     requires { ⌜ length (now flo) ≡ n ⌝ }
     requires { ⌜ length (now first) ≡ n ⌝ }
     ensures { λ _. ⌜ ((i : ℕ) → i < n → eqb (getD (now (first .exit)) i 0) i ≡ isFirst (facesIn (now (area .entry)) n) i) ⌝ }
+    ensures { λ _. ⌜ Numbered vertexKey (now (area .entry)) n n (now (id .exit)) ⌝ }
 {
     corner_keys(area, n, 1000.0, vhi, vlo);
     first_faces(vhi, vlo, n, index, words, scratch, id, fhi, flo, first);

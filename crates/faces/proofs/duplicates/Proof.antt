@@ -3,7 +3,9 @@ use mathlib.Core.Path.{_≡_, refl, sym, ap, _∙_}
 use native.Mathlib.Omega.{arith}
 use lib.ListN.{getD}
 use Rattle.faces.specs.Numbers.{keyAt}
+use Rattle.faces.specs.Key.{vertexStepsPerMetre, vertexKey}
 use Rattle.faces.proofs.Corners.{first-at}
+use Rattle.faces.proofs.Numbering.{numbered}
 use borrow.Author.Needs.{needs}
 use Rattle.faces.proofs.duplicates.Statement.{statement}
 use Rattle.faces.proofs.duplicates.Tie as tie
@@ -19,11 +21,15 @@ first-faces-requires c κs =
     (s .pre .0, (c .before .before .before .before .before .before .before .before .before .before .before .before .before .corner-keys .kept .1 .1 .1 .0 ∙ s .pre .1 .1 .0, (c .before .before .before .before .before .before .before .before .before .before .before .before .before .corner-keys .kept .1 .1 .1 .1 .0 ∙ s .pre .1 .1 .1 .0, (c .before .before .before .before .before .before .before .before .before .before .before .before .before .corner-keys .ensures .0, s .pre .1 .1 .1 .1))))
 
 returns : tie.Need-returns
+unfolding vertexKey
 returns c =
-    λ i h.
-    let s = c .before .before .before .before .before .before .before .before .before .before .before .before .before .before .before .before .before .before .before .before .before .before .before .before .before .before .before .before .before .before .before .before .before .before .before .before .before .before .before .before .before in
-    let g = s .args in
-    first-at (g .area .now) (g .n) (keyAt (c .before .before .before .before .before .before .before .before .before .before .before .before .before .before .before .before .before .before .before .before .before .before .before .before .before .before .before .before .corner-keys .last .1 .1 .1 .0) (c .before .before .before .before .before .before .before .before .before .before .before .before .before .before .before .before .before .before .before .before .before .before .before .before .before .before .before .before .corner-keys .last .1 .1 .1 .1 .0)) (c .before .before .before .before .before .before .before .before .before .before .before .before .before .before .before .before .before .before .before .before .before .before .before .before .before .before .before .before .corner-keys .ensures .1 .0) (c .before .before .before .before .before .before .before .before .before .before .before .before .before .before .before .before .before .before .before .before .before .before .before .before .before .before .before .before .corner-keys .ensures .1 .1 .0) (c .before .before .before .before .before .before .before .before .before .before .before .before .before .before .before .before .before .before .before .before .before .before .before .before .before .before .before .before .corner-keys .ensures .1 .1 .1) i (getD (c .before .before .before .before .before .before .before .before .before .before .before .before .before .before .first-faces .last .1 .1 .1 .1 .1 .1 .1 .1 .1 .0) i 0) h (c .before .before .before .before .before .before .before .before .before .before .before .before .before .before .first-faces .ensures .1 i h)
+    let g = c .before .before .before .before .before .before .before .before .before .before .before .before .before .before .before .before .before .before .before .before .before .before .before .before .before .before .before .before .before .before .before .before .before .before .before .before .before .before .before .before .before .args in
+    let k = c .before .before .before .before .before .before .before .before .before .before .before .before .before .before .before .before .before .before .before .before .before .before .before .before .before .before .before .before .corner-keys in
+    let f = c .before .before .before .before .before .before .before .before .before .before .before .before .before .before .first-faces in
+    let key = keyAt (k .last .1 .1 .1 .0) (k .last .1 .1 .1 .1 .0) in (
+      λ i h. first-at (g .area .now) (g .n) key (k .ensures .1 .0) (k .ensures .1 .1 .0) (k .ensures .1 .1 .1) i (getD (f .last .1 .1 .1 .1 .1 .1 .1 .1 .1 .0) i 0) h (f .ensures .1 i h),
+      numbered (g .area .now) (g .n) vertexStepsPerMetre key _ (k .ensures .1 .0) (k .ensures .1 .1 .0) (k .ensures .1 .1 .1) (f .ensures .0),
+    )
 
 pub duplicates-spec : {M : Type 1} → statement M
 duplicates-spec =
