@@ -30,7 +30,7 @@ use Rattle.paths.specs.Path.{verdict, bouncedOf, pathWith, pathOf}
 
 -- ---- as many bounces as planes
 
-abbrev Long : ℕ → Bounces → Type 0
+abbrev pub Long : ℕ → Bounces → Type 0
 Long n notCrossed = Unit {0}
 Long n offSurface = Unit {0}
 Long n (made points tris weight) = length points ≡ n
@@ -40,7 +40,7 @@ then-long n f NotCrossed all = tt
 then-long n f OffSurface all = tt
 then-long n f (On i w q) all = all i w q
 
-back-long :
+pub back-long :
     (tri : ℕ → Triangle) (fade : Float) (plane : ℕ → Plane) (image : ℕ → Vec3) (k : ℕ) (prev : Vec3) (weight : Float) (ps : List Vec3) (is : List ℕ) (n : ℕ) →
     k + length ps ≡ n → Long n (backOf tri fade plane image k prev weight ps is)
 unfolding backOf

@@ -2,4 +2,5 @@
 pub mod Visibility
 pub mod Gains
 pub mod Path
+pub mod Numbers
 pub mod Areas
