@@ -9,6 +9,7 @@ use vector::Vec3;
 ghost use mathlib.Core.Path.{_≡_};
 ghost use Prim.Native.Nat.{ℕ, _+_, _*_, _^_, _<_, _≤_};
 ghost use lib.ListN.{length};
+ghost use Rattle.vector.specs.Vector.{length3Of, normalize3Of};
 ghost use Rattle.geometry.specs.declared.Triangle.{Triangle};
 ghost use Rattle.build.specs.Tree.{Tree};
 ghost use Rattle.segments.specs.Materials.{materialFloats, bandsIn, clampedOf, transmissionOf, coefficientOf, coefficientsOf, reflectionOf};
@@ -183,7 +184,25 @@ fn walk(
     }
 }
 
-// A half segment.
+// The direction of v, with its length at hand: `normalize3` without its root.
+fn direction(v: Vec3, len: f32) -> Vec3
+    ensures { λ r. ⌜ (len ≡ length3Of v → r ≡ normalize3Of v) ⌝ }
+{
+    if len > 1e-12 {
+        return Vec3 {
+            x: v.x / len,
+            y: v.y / len,
+            z: v.z / len,
+        };
+    }
+    Vec3 {
+        x: 0.0,
+        y: 0.0,
+        z: 1.0,
+    }
+}
+
+// A half segment. The Rust takes two roots, for its length and for its direction; they are one (`distance-turned` of proofs/Turned.antt).
 fn segment_transmission(
     padded: &[f32],
     nodes: &[u32],
@@ -199,8 +218,9 @@ fn segment_transmission(
     ensures { λ r. ⌜ ((tri : ℕ → Triangle) (t : Tree) → TreeReads (now (padded .entry)) (now (nodes .entry)) (now (perm .entry)) (now (rows .entry)) (now (handles .entry)) tri t → r ≡ segmentTransmissionOf (traceIn tri t) (transmissionOf (now (materials .entry))) maxCrossings from to) ⌝ }
     ensures { λ r. ⌜ r .rays ≤ maxCrossings + 1 ⌝ }
 {
-    let total = vector::distance3(from, to);
-    let dir = vector::normalize3(vector::sub3(to, from));
+    let v = vector::sub3(to, from);
+    let total = vector::length3(v);
+    let dir = direction(v, total);
     walk(
         padded,
         nodes,

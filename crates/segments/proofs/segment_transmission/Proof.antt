@@ -5,6 +5,7 @@ use Rattle.segments.specs.Materials.{transmissionOf}
 use Rattle.segments.specs.Segment.{maxCrossings, segmentTransmissionOf}
 use Rattle.segments.specs.Areas.{traceIn}
 use Rattle.segments.proofs.Laws.{segment-bound}
+use Rattle.segments.proofs.Turned.{distance-turned}
 use Rattle.segments.proofs.segment_transmission.Statement.{statement}
 use Rattle.segments.proofs.segment_transmission.Tie as tie
 
@@ -17,8 +18,8 @@ returns c =
     let able = c .before .before .before .before .before .before .before .before .before .before .before .pre in
     let a = c .before .before .before .before .before .before .before .before .before .before .before .args in
     let made : c .walk .result ≡ segmentTransmissionOf (traceIn (able .tri) (able .tree)) (transmissionOf (a .materials .now)) maxCrossings (a .from) (a .to) =
-    rw (← c .before .before .before .before .distance3 .ensures, ← c .before .before .before .sub3 .ensures, ← c .before .before .normalize3 .ensures, ← c .before .splat .ensures, ← c .walk .ensures (able .tri) (able .tree) (able .reads)) in (
-      λ tri t h. rw (← c .before .before .before .before .distance3 .ensures, ← c .before .before .before .sub3 .ensures, ← c .before .before .normalize3 .ensures, ← c .before .splat .ensures, ← c .walk .ensures tri t h),
+    rw (distance-turned (a .from) (a .to), ← c .before .before .before .before .sub3 .ensures, ← c .before .before .before .length3 .ensures, ← c .before .before .direction .ensures (c .before .before .before .length3 .ensures), ← c .before .splat .ensures, ← c .walk .ensures (able .tri) (able .tree) (able .reads)) in (
+      λ tri t h. rw (distance-turned (a .from) (a .to), ← c .before .before .before .before .sub3 .ensures, ← c .before .before .before .length3 .ensures, ← c .before .before .direction .ensures (c .before .before .before .length3 .ensures), ← c .before .splat .ensures, ← c .walk .ensures tri t h),
       rw made (segment-bound (traceIn (able .tri) (able .tree)) (transmissionOf (a .materials .now)) maxCrossings (a .from) (a .to)),
     )
 

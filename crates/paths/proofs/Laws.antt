@@ -1,0 +1,87 @@
+-- Laws on the definitions: one step of each loop, and the path of a sequence whose images stand in a list.
+use mathlib.Core.Path.{_≡_, refl, sym, ap, _∙_}
+use mathlib.Core.Bool.{true, false}
+use mathlib.Core.List.{List, [], _∷_, foldl}
+use Prim.Native.Nat.{ℕ, suc, _+_, _-_, _<_, _≤_}
+use native.Mathlib.Numerals.{add-one}
+use native.Mathlib.Omega.{arith}
+use lib.Ieee.{Float, le}
+use lib.ListN.{length, getD, take}
+use lib.Seq.{slice, slice-cons, slice-empty, getD-take, length-take-le, take-take}
+use Rattle.float.specs.Literals.{one32}
+use Rattle.vector.specs.declared.Vec3.{Vec3}
+use Rattle.vector.specs.Vector.{distance3Of}
+use Rattle.geometry.specs.declared.Triangle.{Triangle}
+use Rattle.build.specs.Tree.{Tree}
+use Rattle.scene.specs.declared.Settings.{Settings}
+use Rattle.mirror.specs.Plane.{Plane, noPoint, planeAt}
+use Rattle.segments.specs.declared.Transmission.{Transmission}
+use Rattle.bounces.specs.Image.{imageOf, imageAt}
+use Rattle.bounces.specs.Bounces.{backOf, planeOn, bouncesOf}
+use Rattle.bounces.proofs.Laws.{back-ext}
+use Rattle.paths.specs.declared.Way.{Way}
+use Rattle.paths.specs.declared.Fate.the-variants.{TooFar}
+use Rattle.paths.specs.Visibility.{goOf, goAllOf}
+use Rattle.paths.specs.Path.{verdict, bouncedOf, pathWith, pathOf}
+use Rattle.paths.specs.Areas.{softIn}
+
+-- ---- the loops
+
+module _ {A : Type 0} (l : List A) (d : A) (k n : ℕ) where
+  slice-up : k < n → n ≤ length l → slice k n l ≡ getD l k d ∷ slice (k + 1) n l
+  slice-up h fits = rw add-one (slice-cons k n l d h fits)
+
+  slice-down : 0 < k → k ≤ n → n ≤ length l → slice (k - 1) n l ≡ getD l (k - 1) d ∷ slice k n l
+  slice-down low high fits =
+      let next : suc (k - 1) ≡ k = omega arith in
+      let below : k - 1 < n = omega arith in
+      rw next at (slice-cons (k - 1) n l d below fits)
+
+-- one segment more
+pub go-step :
+    (soft : Vec3 → Vec3 → Transmission) (w : Way) (points : List Vec3) (k n : ℕ) → 0 < k → k ≤ n → n ≤ length points →
+    goAllOf soft w (slice (k - 1) n points) ≡ goOf soft (getD points (k - 1) noPoint) (goAllOf soft w (slice k n points))
+unfolding goAllOf
+go-step soft w points k n low high fits = rw (slice-down points noPoint k n low high fits)
+
+pub go-none : (soft : Vec3 → Vec3 → Transmission) (w : Way) (points : List Vec3) (n : ℕ) → goAllOf soft w (slice n n points) ≡ w
+unfolding goAllOf
+go-none soft w points n = rw (slice-empty n points)
+
+-- a fold over a part of an array
+module _ {B : Type 0} (f : B → ℕ → B) (g : B) (l : List ℕ) (k n : ℕ) where
+  pub fold-step : k < n → n ≤ length l → foldl f g (slice k n l) ≡ foldl f (f g (getD l k 0)) (slice (k + 1) n l)
+  fold-step h fits = rw (slice-up l 0 k n h fits)
+
+  pub fold-done : k ≡ n → foldl f g (slice k n l) ≡ g
+  fold-done e = rw (e, slice-empty n l)
+
+-- the last of the points taken
+pub last-taken : (points : List Vec3) (n : ℕ) → 0 < n → getD (take n points) (n - 1) noPoint ≡ getD points (n - 1) noPoint
+last-taken points n h = getD-take n points (n - 1) noPoint (omega arith)
+
+-- ---- the path, once the images stand in a list
+
+module _ (s : Settings) (planes : List Plane) (tri : ℕ → Triangle) (t : Tree) (materials : List Float) (source listener : Vec3) (seq : List ℕ)
+    (images : List Vec3) (n : ℕ) (fits : n ≤ length seq) (are : (j : ℕ) → j ≤ n → getD images j noPoint ≡ imageOf planes source (take j seq)) where
+  pub path-far :
+      le (distance3Of listener (getD images n noPoint)) (s .«max_reflection_distance») ≡ false →
+      verdict TooFar 0 ≡ pathOf s planes tri t materials source listener (take n seq)
+  unfolding pathOf pathWith
+  path-far h = rw (← are n (omega arith), h)
+
+  pub path-near :
+      le (distance3Of listener (getD images n noPoint)) (s .«max_reflection_distance») ≡ true →
+      bouncedOf (softIn tri t materials) s materials tri n source listener
+      (backOf tri (s .«reflection_edge_fade») (planeOn planes seq) (λ j. getD images j noPoint) n listener one32 [] [])
+      ≡ pathOf s planes tri t materials source listener (take n seq)
+  unfolding pathOf pathWith bouncesOf
+  path-near h =
+      let long : length (take n seq) ≡ n = length-take-le n seq fits in
+      let same :
+      backOf tri (s .«reflection_edge_fade») (planeOn planes seq) (λ j. getD images j noPoint) n listener one32 [] []
+      ≡ backOf tri (s .«reflection_edge_fade») (planeOn planes (take n seq)) (imageAt planes source (take n seq)) n listener one32 [] [] =
+      back-ext tri (s .«reflection_edge_fade») (planeOn planes seq) (planeOn planes (take n seq)) (λ j. getD images j noPoint) (imageAt planes source (take n seq)) n listener one32 [] []
+      (λ j b. ap (planeAt planes) (sym (getD-take n seq j 0 b)))
+      (λ j b. are j b ∙ ap (imageOf planes source) (sym (take-take j n seq b))) in
+      rw (long, ← are n (omega arith), h, same)

@@ -1,0 +1,74 @@
+-- `paths::judge` meets its contract, by the trail's fate and the tests of the way.
+use mathlib.Core.Path.{_≡_, refl}
+use Prim.Native.Nat.{_-_}
+use native.Mathlib.Omega.{arith}
+use borrow.Author.Needs.{needs}
+use borrow.Author.Tests.{eq-eqb, ne-eqb}
+use Rattle.bounces.specs.Areas.{trailOf}
+use Rattle.paths.specs.Path.{bouncedOf}
+use Rattle.paths.proofs.Laws.{last-taken}
+use Rattle.paths.proofs.judge.Statement.{statement}
+use Rattle.paths.proofs.judge.Tie as tie
+
+go-all-requires : tie.Need-go-all-requires
+go-all-requires c κs = (c .before .before .before .before .before .before .before .before .before .pre .0, (c .before .before .before .before .before .before .before .before .before .pre .1 .0 .1, c .before .before .before .before .before .before .before .before .before .pre .1 .1 (c .before .before .if1 .taken) .points-room))
+
+sub-last : tie.Need-sub-last
+sub-last c = omega (arith, c .before .before .before .before .before .before .before .before .before .before .before .before .pre .1 .0)
+
+mul-last : tie.Need-mul-last
+mul-last c = omega (arith, c .before .before .before .before .before .before .before .before .before .before .before .before .pre .1 .0)
+
+array-copy-out-last : tie.Need-array-copy-out-last
+array-copy-out-last c = omega (arith, c .before .before .before .before .before .before .before .before .before .before .before .before .pre .1 .0)
+
+reflected-requires : tie.Need-reflected-requires
+reflected-requires c κs = ((c .before .before .before .before .before .before .before .before .before .before .before .before .before .pre .1 .0 .1, c .before .before .before .before .before .before .before .before .before .before .before .before .before .pre .1 .1 (c .before .before .before .before .before .before .if1 .taken) .tris-room), c .before .before .before .before .before .before .before .before .before .before .before .before .before .pre .0 .materials-room)
+
+returns : tie.Need-returns
+unfolding bouncedOf trailOf
+returns c =
+    let a = c .before .before .before .before .before .before .before .before .before .before .before .before .before .before .before .before .args in (
+      λ tri t h.
+          rw (
+            eq-eqb _ _ (c .before .before .before .before .before .before .before .before .before .if1 .taken),
+            ← c .before .before .before .before .before .before .go-all .ensures .0 tri t h,
+            ← c .before .before .before .before .before .usable .ensures,
+            c .before .before .before .before .if2 .taken,
+            ← c .before .before .reflected .ensures tri (h .handles-of),
+            ← c .before .gains .ensures,
+            last-taken (a .trail .points) (a .order) (c .before .before .before .before .before .before .before .before .before .before .before .before .before .before .before .before .pre .1 .0 .0),
+            ← c .arrived .ensures,
+          ),
+      c .before .before .before .before .before .before .go-all .ensures .1,
+    )
+
+returns-2 : tie.Need-returns-2
+unfolding bouncedOf trailOf
+returns-2 c =
+    (λ tri t h. rw (eq-eqb _ _ (c .before .before .before .before .before .if1 .taken), ← c .before .before .go-all .ensures .0 tri t h, ← c .before .usable .ensures, c .if2 .left), c .before .before .go-all .ensures .1)
+
+returns-3 : tie.Need-returns-3
+unfolding bouncedOf trailOf
+returns-3 c = (λ tri t h. rw (ne-eqb _ _ (c .before .if1 .left), eq-eqb _ _ (c .if3 .taken)), omega arith)
+
+returns-4 : tie.Need-returns-4
+unfolding bouncedOf trailOf
+returns-4 c = (λ tri t h. rw (ne-eqb _ _ (c .before .if1 .left), ne-eqb _ _ (c .if3 .left)), omega arith)
+
+pub judge-spec : {M : Type 1} → statement M
+judge-spec =
+    tie.close
+    (tie.spec
+    go-all-requires
+    (λ c κs. tt)
+    sub-last
+    mul-last
+    array-copy-out-last
+    reflected-requires
+    (λ c κs. tt)
+    (λ c κs. tt)
+    returns
+    returns-2
+    returns-3
+    returns-4)
