@@ -226,3 +226,7 @@ pub start-row : (t : Triangle) (k : PlaneKey) (r : PatchRow) → k ≡ planeKeyO
 unfolding planeKeyOf newRowOf
 start-row t k r e a b c d =
     let f : record { normal = r .normal; offset = r .offset; area = r .area; aabb = r .aabb } ≡ newRowOf t = rw (a, b, c, d, e) in f
+
+-- patches with equal rows and triangles
+pub patch-rows : (rows rows′ : List Float) (of of′ : List ℕ) (m p q : ℕ) → rowIn rows p ≡ rowIn rows′ q → trisIn of m p ≡ trisIn of′ m q → patchIn rows of m p ≡ patchIn rows′ of′ m q
+patch-rows rows rows′ of of′ m p q e f = patch-row rows of m p ∙ rw (e, f) (sym (patch-row rows′ of′ m q))

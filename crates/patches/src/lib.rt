@@ -286,7 +286,9 @@ fn first_along_z(
     requires { ⌜ z < 4294967296 ⌝ }
     ensures { λ r. ⌜ r ≡ firstAmong (now (rows .entry)) np (k .normal) (k .offset) (map (key x y) (besideOf z)) ⌝ }
 {
-    let a = first_in_cell(rows, cells, heads, next, np, x, y, below(z), k);
+    let low = below(z);
+    let high = z + 1;
+    let a = first_in_cell(rows, cells, heads, next, np, x, y, low, k);
     if a < np {
         return a;
     }
@@ -294,7 +296,7 @@ fn first_along_z(
     if b < np {
         return b;
     }
-    first_in_cell(rows, cells, heads, next, np, x, y, z + 1, k)
+    first_in_cell(rows, cells, heads, next, np, x, y, high, k)
 }
 
 fn first_along_y(

@@ -37,10 +37,10 @@ first-along-z-spec =
     tie.close
     (tie.spec
     (λ c κs. tt)
+    (λ c. search needs)
     first-in-cell-requires
     returns
     first-in-cell-requires-2
     returns-2
-    (λ c. search needs)
     first-in-cell-requires-3
     returns-3)

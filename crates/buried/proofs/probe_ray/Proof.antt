@@ -1,0 +1,17 @@
+-- `buried::probe_ray` meets its contract: its calls are those of the definition.
+use Rattle.buried.specs.Buried.{probeRayOf}
+use Rattle.buried.proofs.probe_ray.Statement.{statement}
+use Rattle.buried.proofs.probe_ray.Tie as tie
+
+returns : tie.Need-returns
+unfolding probeRayOf
+returns c = rw (← c .before .before .signed .ensures, ← c .before .centroid .ensures, ← c .beside .ensures)
+
+pub probe-ray-spec : {M : Type 1} → statement M
+probe-ray-spec =
+    tie.close
+    (tie.spec
+    (λ c κs. tt)
+    (λ c κs. tt)
+    (λ c κs. tt)
+    returns)
