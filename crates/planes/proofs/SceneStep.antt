@@ -15,9 +15,9 @@ use Rattle.patches.specs.Patches.{keptOf, cellOf, aroundOf, inCell, isCoplanar,
 use Rattle.buried.specs.Buried.{largerOf, largestOf, signedOf, probeRayOf, isBuried, openOf}
 use Rattle.links.specs.Links.{follow, isLinked}
 use Rattle.groups.specs.Groups.{rankOf, descendingKey, seedsOf, verticesOf, runAt, isAdjacent, runsOf, inCone, isWithin, takes, grownOf, groupsFrom, groupsOf}
-use Rattle.planes.specs.Fit.{aloneOf, weightedOf, meanNormalOf, totalAreaOf, groupBoxOf, groupTrisOf, heightsOf, meanOffsetOf, spreadOf, fittedOf, planeOf}
+use Rattle.fit.specs.Fit.{aloneOf, weightedOf, meanNormalOf, totalAreaOf, groupBoxOf, groupTrisOf, heightsOf, meanOffsetOf, spreadOf, fittedOf, planeOf}
 use Rattle.importance.specs.Importance.{grownByOf, sceneBoxOf, centreOf, halfDiagOf, momentOf, meanOf, areaCentreOf, weighedOf, importanceOf, keyOfPlane, rankingOf, rankedOf}
-use Rattle.planes.specs.Border.{edgeKey, keyedOf, sidesOf, isSameEdge, usedOnce, borderOf, borderedOf}
+use Rattle.borders.specs.Border.{edgeKey, keyedOf, sidesOf, isSameEdge, usedOnce, borderOf, borderedOf}
 use Rattle.planes.specs.Build.{openPatchesOf, groupPlanesOf, planesOf}
 use Rattle.faces.specs.Whole.{wholeOf}
 use Rattle.faces.specs.Key.{stepOf, keyBy, sameKey, vertexKey}

@@ -9,9 +9,9 @@ use Rattle.mirror.specs.Plane.{Plane}
 use Rattle.patches.specs.Patches.{patchesOf}
 use Rattle.buried.specs.Buried.{openOf}
 use Rattle.groups.specs.Groups.{groupsOf}
-use Rattle.planes.specs.Fit.{planeOf}
+use Rattle.fit.specs.Fit.{planeOf}
 use Rattle.importance.specs.Importance.{rankedOf}
-use Rattle.planes.specs.Border.{borderedOf}
+use Rattle.borders.specs.Border.{borderedOf}
 
 -- steps 1 to 3
 unfoldable pub openPatchesOf : Settings → (Ray → Bool) → List Triangle → List Patch

@@ -1,0 +1,2 @@
+-- The borders of planes.
+pub mod Border

@@ -1,0 +1,2 @@
+-- A plane for each group of patches.
+pub mod Fit
