@@ -96,13 +96,13 @@ pub fn first_indexes(
 
 // ---- three numbers, sorted
 
-fn lower(a: u32, b: u32) -> u32
+pub fn lower(a: u32, b: u32) -> u32
     ensures { λ r. ⌜ r ≡ lesser a b ⌝ }
 {
     if a <= b { a } else { b }
 }
 
-fn higher(a: u32, b: u32) -> u32
+pub fn higher(a: u32, b: u32) -> u32
     ensures { λ r. ⌜ r ≡ greater a b ⌝ }
 {
     if a <= b { b } else { a }
