@@ -21,8 +21,8 @@ loop-holds c = let a = c .before .before .before .before .before .before .before
 
 turn-requires : tie.Need-turn-requires Inv-loop μ-loop
 turn-requires c κs = let f = c .before .before .before .before .before .before .loop .inv in let p = c .before .before .before .before .before .before .before .before .before .before .before .before .before .before .before .before .before .before .before .pre .0 in let q = c .before .before .before .before .before .before .before .before .before .before .before .before .before .before .before .before .before .before .before .pre .1 .0 in let h = c .before .before .before .before .before .loop-test .taken in
-  let lr = f .len-rows in let lo = f .len-of in let lc = f .len-cells in let ln = f .len-next in
-  ((p .0, p .1, omega arith, omega arith, omega arith), ((omega arith, omega arith, omega arith, omega arith), f .standing))
+    let lr = f .len-rows in let lo = f .len-of in let lc = f .len-cells in let ln = f .len-next in
+    ((p .0, p .1, omega arith, omega arith, omega arith), ((omega arith, omega arith, omega arith, omega arith), f .standing))
 
 add-t : tie.Need-add-t Inv-loop μ-loop
 add-t c = let h = c .before .before .before .before .before .before .before .before .before .before .before .before .before .before .before .before .loop-test .taken in let p = c .before .before .before .before .before .before .before .before .before .before .before .before .before .before .before .before .before .before .before .before .before .before .before .before .before .before .before .before .before .before .pre .0 in omega arith
@@ -32,10 +32,10 @@ loop-less c = let h = c .before .before .before .before .before .before .before 
 
 loop-again : tie.Need-loop-again Inv-loop μ-loop
 loop-again c = let a = c .before .before .before .before .before .before .before .before .before .before .before .before .before .before .before .before .before .before .before .before .before .before .before .before .before .before .before .before .before .before .args in let l = c .before .before .before .before .before .before .before .before .before .before .before .before .before .before .before .before .before .loop in let ts = trianglesIn (a .area .now) (a .handles .now) (a .n) (a .m) in
-  rw (add-one (l .t)) (filling-more ts (a .first .now) (a .m) (a .rows .now) (a .of .now) (a .cells .now) (a .next .now) (l .rows) (l .of) (l .cells) (l .heads) (l .next) (l .t) (l .np)
-  (c .before .before .before .before .before .before .before .before .before .before .turn .last .1 .1 .1 .1 .1 .1 .0) (c .before .before .before .before .before .before .before .before .before .before .turn .last .1 .1 .1 .1 .1 .1 .1 .1 .1 .1 .0) (c .before .before .before .before .before .before .before .before .before .before .turn .last .1 .1 .1 .1 .1 .1 .1 .0) (c .before .before .before .before .before .before .before .before .before .before .turn .last .1 .1 .1 .1 .1 .1 .1 .1 .0) (c .before .before .before .before .before .before .before .before .before .before .turn .last .1 .1 .1 .1 .1 .1 .1 .1 .1 .0) (c .before .before .before .before .before .before .before .before .before .before .turn .result)
-  (l .inv) (c .before .before .before .before .before .before .before .before .before .before .before .before .before .before .before .before .loop-test .taken) (c .before .before .before .before .before .before .before .before .before .before .turn .kept .1 .1 .1 .1 .1 .1 .0) (c .before .before .before .before .before .before .before .before .before .before .turn .kept .1 .1 .1 .1 .1 .1 .1 .1 .1 .1 .0) (c .before .before .before .before .before .before .before .before .before .before .turn .kept .1 .1 .1 .1 .1 .1 .1 .0) (c .before .before .before .before .before .before .before .before .before .before .turn .kept .1 .1 .1 .1 .1 .1 .1 .1 .1 .0)
-  (c .before .before .before .before .before .before .before .before .before .before .turn .ensures .0) (c .before .before .before .before .before .before .before .before .before .before .turn .ensures .1 .0 ts (triangle-in (a .area .now) (a .handles .now) (a .n) (a .m) (l .t) (c .before .before .before .before .before .before .before .before .before .before .before .before .before .before .before .before .loop-test .taken))) (c .before .before .before .before .before .before .before .before .before .before .turn .ensures .1 .1 .0) (c .before .before .before .before .before .before .before .before .before .before .turn .ensures .1 .1 .1))
+    rw (add-one (l .t)) (filling-more ts (a .first .now) (a .m) (a .rows .now) (a .of .now) (a .cells .now) (a .next .now) (l .rows) (l .of) (l .cells) (l .heads) (l .next) (l .t) (l .np)
+    (c .before .before .before .before .before .before .before .before .before .before .turn .last .1 .1 .1 .1 .1 .1 .0) (c .before .before .before .before .before .before .before .before .before .before .turn .last .1 .1 .1 .1 .1 .1 .1 .1 .1 .1 .0) (c .before .before .before .before .before .before .before .before .before .before .turn .last .1 .1 .1 .1 .1 .1 .1 .0) (c .before .before .before .before .before .before .before .before .before .before .turn .last .1 .1 .1 .1 .1 .1 .1 .1 .0) (c .before .before .before .before .before .before .before .before .before .before .turn .last .1 .1 .1 .1 .1 .1 .1 .1 .1 .0) (c .before .before .before .before .before .before .before .before .before .before .turn .result)
+    (l .inv) (c .before .before .before .before .before .before .before .before .before .before .before .before .before .before .before .before .loop-test .taken) (c .before .before .before .before .before .before .before .before .before .before .turn .kept .1 .1 .1 .1 .1 .1 .0) (c .before .before .before .before .before .before .before .before .before .before .turn .kept .1 .1 .1 .1 .1 .1 .1 .1 .1 .1 .0) (c .before .before .before .before .before .before .before .before .before .before .turn .kept .1 .1 .1 .1 .1 .1 .1 .0) (c .before .before .before .before .before .before .before .before .before .before .turn .kept .1 .1 .1 .1 .1 .1 .1 .1 .1 .0)
+    (c .before .before .before .before .before .before .before .before .before .before .turn .ensures .0) (c .before .before .before .before .before .before .before .before .before .before .turn .ensures .1 .0 ts (triangle-in (a .area .now) (a .handles .now) (a .n) (a .m) (l .t) (c .before .before .before .before .before .before .before .before .before .before .before .before .before .before .before .before .loop-test .taken))) (c .before .before .before .before .before .before .before .before .before .before .turn .ensures .1 .1 .0) (c .before .before .before .before .before .before .before .before .before .before .turn .ensures .1 .1 .1))
 
 same-length : tie.Need-same-length Inv-loop μ-loop
 same-length c = c .before .loop .inv .len-cells
@@ -54,7 +54,7 @@ same-length-5 c = c .before .loop .inv .len-of
 
 returns : tie.Need-returns Inv-loop μ-loop
 returns c = let a = c .before .before .before .before .before .before .before .before .before .before .before .before .before .before .args in let l = c .before .loop in
-  filling-all (a .area .now) (a .handles .now) (a .n) (a .first .now) (a .m) (a .rows .now) (a .of .now) (a .cells .now) (a .next .now) (l .rows) (l .of) (l .cells) (l .heads) (l .next) (l .t) (l .np) (l .inv) (c .loop-test .left) (c .before .before .before .before .before .before .before .before .before .before .before .before .before .before .pre .0 .2) (c .before .before .before .before .before .before .before .before .before .before .before .before .before .before .pre .1 .1)
+    filling-all (a .area .now) (a .handles .now) (a .n) (a .first .now) (a .m) (a .rows .now) (a .of .now) (a .cells .now) (a .next .now) (l .rows) (l .of) (l .cells) (l .heads) (l .next) (l .t) (l .np) (l .inv) (c .loop-test .left) (c .before .before .before .before .before .before .before .before .before .before .before .before .before .before .pre .0 .2) (c .before .before .before .before .before .before .before .before .before .before .before .before .before .before .pre .1 .1)
 
 pub coplanar-patches-spec : {M : Type 1} → statement M
 coplanar-patches-spec =

@@ -30,9 +30,10 @@ slice-write-of : tie.Need-slice-write-of
 slice-write-of c = c .before .before .before .before .before .before .before .before .before .before .before .before .before .before .before .before .before .before .before .pre .1 .0 .3
 
 returns : tie.Need-returns
-returns c = let a = c .before .before .before .before .before .before .before .before .before .before .before .before .before .before .before .before .before .before .before .args in let s = c .before .before .before .before .before .before .before .before .before .before .before .before .before .before .before .before .before .before .before .pre .1 .1 in
-  (joined-standing (a .rows .now) (a .of .now) (a .cells .now) (a .heads .now) (a .next .now) (a .t) (a .np) (c .before .before .before .before .before .found .result) (c .before .before .before .before .before .before .before .before .before .before .before .triangle-at .result) (c .before .before .before .before .before .before .before .before .before .before .plane-key .result) s (c .before .before .before .before .before .before .before .before .before .before .before .before .before .before .before .before .before .before .before .pre .1 .0 .3) (c .before .before .before .before .before .before .before .before .before .before .plane-key .ensures .0) (c .before .before .before .before .before .found .ensures) (c .before .before .join-patch .last .0) (c .before .before .before .before .if1 .taken) (c .before .before .join-patch .kept .0) (c .before .before .join-patch .ensures .0) (c .before .before .join-patch .ensures .1),
-  (λ ts w. joined-patches (a .rows .now) (a .of .now) (a .cells .now) (a .heads .now) (a .next .now) (a .t) (a .np) (c .before .before .before .before .before .found .result) (c .before .before .before .before .before .before .before .before .before .before .before .triangle-at .result) (c .before .before .before .before .before .before .before .before .before .before .plane-key .result) s (c .before .before .before .before .before .before .before .before .before .before .before .before .before .before .before .before .before .before .before .pre .1 .0 .3) (c .before .before .before .before .before .before .before .before .before .before .plane-key .ensures .0) (c .before .before .before .before .before .found .ensures) (c .before .before .join-patch .last .0) (c .before .before .before .before .if1 .taken) (c .before .before .join-patch .kept .0) (c .before .before .join-patch .ensures .0) (c .before .before .join-patch .ensures .1) ts (w ∙ sym (c .before .before .before .before .before .before .before .before .before .before .before .triangle-at .ensures)), λ i d. getD-set-other (a .of .now) (a .t) i (c .before .before .before .before .before .found .result) noneOf d))
+returns c = let a = c .before .before .before .before .before .before .before .before .before .before .before .before .before .before .before .before .before .before .before .args in let s = c .before .before .before .before .before .before .before .before .before .before .before .before .before .before .before .before .before .before .before .pre .1 .1 in (
+  joined-standing (a .rows .now) (a .of .now) (a .cells .now) (a .heads .now) (a .next .now) (a .t) (a .np) (c .before .before .before .before .before .found .result) (c .before .before .before .before .before .before .before .before .before .before .before .triangle-at .result) (c .before .before .before .before .before .before .before .before .before .before .plane-key .result) s (c .before .before .before .before .before .before .before .before .before .before .before .before .before .before .before .before .before .before .before .pre .1 .0 .3) (c .before .before .before .before .before .before .before .before .before .before .plane-key .ensures .0) (c .before .before .before .before .before .found .ensures) (c .before .before .join-patch .last .0) (c .before .before .before .before .if1 .taken) (c .before .before .join-patch .kept .0) (c .before .before .join-patch .ensures .0) (c .before .before .join-patch .ensures .1),
+  (λ ts w. joined-patches (a .rows .now) (a .of .now) (a .cells .now) (a .heads .now) (a .next .now) (a .t) (a .np) (c .before .before .before .before .before .found .result) (c .before .before .before .before .before .before .before .before .before .before .before .triangle-at .result) (c .before .before .before .before .before .before .before .before .before .before .plane-key .result) s (c .before .before .before .before .before .before .before .before .before .before .before .before .before .before .before .before .before .before .before .pre .1 .0 .3) (c .before .before .before .before .before .before .before .before .before .before .plane-key .ensures .0) (c .before .before .before .before .before .found .ensures) (c .before .before .join-patch .last .0) (c .before .before .before .before .if1 .taken) (c .before .before .join-patch .kept .0) (c .before .before .join-patch .ensures .0) (c .before .before .join-patch .ensures .1) ts (w ∙ sym (c .before .before .before .before .before .before .before .before .before .before .before .triangle-at .ensures)), λ i d. getD-set-other (a .of .now) (a .t) i (c .before .before .before .before .before .found .result) noneOf d),
+)
 
 new-patch-requires : tie.Need-new-patch-requires
 new-patch-requires c κs = let p = c .before .before .before .before .before .before .before .before .before .before .before .before .before .before .before .before .pre .1 .0 in let f = c .before .before .before .before .before .before .before .before .before .before .before .before .before .before .before .before .pre .1 .1 .few in (omega arith, c .before .before .before .before .before .before .before .plane-key .ensures .0)
@@ -54,12 +55,14 @@ add-result c = let p = c .before .before .before .before .before .before .before
 
 returns-2 : tie.Need-returns-2
 returns-2 c = let a = c .before .before .before .before .before .before .before .before .before .before .before .before .before .before .before .before .before .before .before .before .before .before .before .before .before .before .before .before .before .args in let s = c .before .before .before .before .before .before .before .before .before .before .before .before .before .before .before .before .before .before .before .before .before .before .before .before .before .before .before .before .before .pre .1 .1 in let f = s .few in let p = c .before .before .before .before .before .before .before .before .before .before .before .before .before .before .before .before .before .before .before .before .before .before .before .before .before .before .before .before .before .pre .1 .0 in let q = c .before .before .before .before .before .before .before .before .before .before .before .before .before .before .before .before .before .before .before .before .before .before .before .before .before .before .before .before .before .pre .0 .3 in
-  let lr = c .before .before .before .before .before .before .before .before .before .before .before .before .new-patch .kept .0 in let lc = c .before .before .before .before .before .before .put-in-grid .kept .0 in
-  let rr : patchFloats * a .np + patchFloats ≤ length (c .before .before .before .before .before .before .before .before .before .before .before .before .new-patch .last .0) = omega arith in
-  let rc : 3 * a .np + 3 ≤ length (c .before .before .before .before .before .before .put-in-grid .last .0) = omega arith in
-  let rn : a .np < length (a .next .now) = omega arith in
-  rw (add-one (a .np)) (new-standing (a .rows .now) (a .of .now) (a .cells .now) (a .heads .now) (a .next .now) (a .t) (a .np) (c .before .before .before .before .before .before .before .before .before .before .before .before .before .before .before .found .result) (c .before .before .before .before .before .before .before .before .before .before .before .before .before .before .before .before .before .before .before .before .before .triangle-at .result) (c .before .before .before .before .before .before .before .before .before .before .before .before .before .before .before .before .before .before .before .before .plane-key .result) s (p .3) (c .before .before .before .before .before .before .before .before .before .before .before .before .before .before .before .before .before .before .before .before .plane-key .ensures .0) (c .before .before .before .before .before .before .before .before .before .before .before .before .before .before .before .found .ensures) (c .before .before .before .before .before .before .before .before .before .before .before .before .new-patch .last .0) (c .before .before .before .before .before .before .put-in-grid .last .0) (c .before .before .before .before .before .before .before .before .before .before .before .before .before .before .if1 .left) q rr rc rn (c .before .before .before .before .before .before .before .before .before .before .before .before .new-patch .ensures .0) (c .before .before .before .before .before .before .before .before .before .before .before .before .new-patch .ensures .1) (c .before .before .before .before .before .before .put-in-grid .ensures .0) (c .before .before .before .before .before .before .put-in-grid .ensures .1 .0) (c .before .before .before .before .before .before .put-in-grid .last .1 .0) (c .before .before .before .before .before .before .put-in-grid .last .1 .1 .0) (c .before .before .before .before .before .before .put-in-grid .ensures .1 .1 .0) (c .before .before .before .before .before .before .put-in-grid .ensures .1 .1 .1),
-  (λ ts w. new-patches (a .rows .now) (a .of .now) (a .cells .now) (a .heads .now) (a .next .now) (a .t) (a .np) (c .before .before .before .before .before .before .before .before .before .before .before .before .before .before .before .found .result) (c .before .before .before .before .before .before .before .before .before .before .before .before .before .before .before .before .before .before .before .before .before .triangle-at .result) (c .before .before .before .before .before .before .before .before .before .before .before .before .before .before .before .before .before .before .before .before .plane-key .result) s (p .3) (c .before .before .before .before .before .before .before .before .before .before .before .before .before .before .before .before .before .before .before .before .plane-key .ensures .0) (c .before .before .before .before .before .before .before .before .before .before .before .before .before .before .before .found .ensures) (c .before .before .before .before .before .before .before .before .before .before .before .before .new-patch .last .0) (c .before .before .before .before .before .before .put-in-grid .last .0) (c .before .before .before .before .before .before .before .before .before .before .before .before .before .before .if1 .left) q rr rc rn (c .before .before .before .before .before .before .before .before .before .before .before .before .new-patch .ensures .0) (c .before .before .before .before .before .before .before .before .before .before .before .before .new-patch .ensures .1) (c .before .before .before .before .before .before .put-in-grid .ensures .0) (c .before .before .before .before .before .before .put-in-grid .ensures .1 .0) ts (w ∙ sym (c .before .before .before .before .before .before .before .before .before .before .before .before .before .before .before .before .before .before .before .before .before .triangle-at .ensures)), λ i d. getD-set-other (a .of .now) (a .t) i (a .np) noneOf d))
+    let lr = c .before .before .before .before .before .before .before .before .before .before .before .before .new-patch .kept .0 in let lc = c .before .before .before .before .before .before .put-in-grid .kept .0 in
+    let rr : patchFloats * a .np + patchFloats ≤ length (c .before .before .before .before .before .before .before .before .before .before .before .before .new-patch .last .0) = omega arith in
+    let rc : 3 * a .np + 3 ≤ length (c .before .before .before .before .before .before .put-in-grid .last .0) = omega arith in
+    let rn : a .np < length (a .next .now) = omega arith in
+    rw (add-one (a .np)) (
+      new-standing (a .rows .now) (a .of .now) (a .cells .now) (a .heads .now) (a .next .now) (a .t) (a .np) (c .before .before .before .before .before .before .before .before .before .before .before .before .before .before .before .found .result) (c .before .before .before .before .before .before .before .before .before .before .before .before .before .before .before .before .before .before .before .before .before .triangle-at .result) (c .before .before .before .before .before .before .before .before .before .before .before .before .before .before .before .before .before .before .before .before .plane-key .result) s (p .3) (c .before .before .before .before .before .before .before .before .before .before .before .before .before .before .before .before .before .before .before .before .plane-key .ensures .0) (c .before .before .before .before .before .before .before .before .before .before .before .before .before .before .before .found .ensures) (c .before .before .before .before .before .before .before .before .before .before .before .before .new-patch .last .0) (c .before .before .before .before .before .before .put-in-grid .last .0) (c .before .before .before .before .before .before .before .before .before .before .before .before .before .before .if1 .left) q rr rc rn (c .before .before .before .before .before .before .before .before .before .before .before .before .new-patch .ensures .0) (c .before .before .before .before .before .before .before .before .before .before .before .before .new-patch .ensures .1) (c .before .before .before .before .before .before .put-in-grid .ensures .0) (c .before .before .before .before .before .before .put-in-grid .ensures .1 .0) (c .before .before .before .before .before .before .put-in-grid .last .1 .0) (c .before .before .before .before .before .before .put-in-grid .last .1 .1 .0) (c .before .before .before .before .before .before .put-in-grid .ensures .1 .1 .0) (c .before .before .before .before .before .before .put-in-grid .ensures .1 .1 .1),
+      (λ ts w. new-patches (a .rows .now) (a .of .now) (a .cells .now) (a .heads .now) (a .next .now) (a .t) (a .np) (c .before .before .before .before .before .before .before .before .before .before .before .before .before .before .before .found .result) (c .before .before .before .before .before .before .before .before .before .before .before .before .before .before .before .before .before .before .before .before .before .triangle-at .result) (c .before .before .before .before .before .before .before .before .before .before .before .before .before .before .before .before .before .before .before .before .plane-key .result) s (p .3) (c .before .before .before .before .before .before .before .before .before .before .before .before .before .before .before .before .before .before .before .before .plane-key .ensures .0) (c .before .before .before .before .before .before .before .before .before .before .before .before .before .before .before .found .ensures) (c .before .before .before .before .before .before .before .before .before .before .before .before .new-patch .last .0) (c .before .before .before .before .before .before .put-in-grid .last .0) (c .before .before .before .before .before .before .before .before .before .before .before .before .before .before .if1 .left) q rr rc rn (c .before .before .before .before .before .before .before .before .before .before .before .before .new-patch .ensures .0) (c .before .before .before .before .before .before .before .before .before .before .before .before .new-patch .ensures .1) (c .before .before .before .before .before .before .put-in-grid .ensures .0) (c .before .before .before .before .before .before .put-in-grid .ensures .1 .0) ts (w ∙ sym (c .before .before .before .before .before .before .before .before .before .before .before .before .before .before .before .before .before .before .before .before .before .triangle-at .ensures)), λ i d. getD-set-other (a .of .now) (a .t) i (a .np) noneOf d),
+    )
 
 pub place-spec : {M : Type 1} → statement M
 place-spec =
