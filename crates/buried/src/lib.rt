@@ -311,37 +311,37 @@ pub fn open_patches(
     areas: &mut [f32],
     largest: &mut [u32],
     flags: &mut [u32],
-    numbers: &mut [u32],
     rows: &mut [f32],
     of: &mut [u32],
 ) -> usize
     requires { ⌜ (columnCount * n ≤ length (now area)) × (n ≤ length (now handles)) × (m ≤ n) × (m ≤ 4294967295) × (m ≤ length (now of)) ⌝ }
-    requires { ⌜ (np ≤ m) × (np ≤ length (now areas)) × (np ≤ length (now largest)) × (np ≤ length (now flags)) × (np ≤ length (now numbers)) × (patchFloats * np ≤ length (now rows)) ⌝ }
+    requires { ⌜ (np ≤ m) × (np ≤ length (now areas)) × (np ≤ length (now largest)) × (np ≤ length (now flags)) × (patchFloats * np ≤ length (now rows)) ⌝ }
     requires { ⌜ Held (now padded) (now nodes) (now perm) (now leaves) count ⌝ }
     requires { ⌜ 0 < count ⌝ }
     requires { ⌜ Numbered (now of) m np ⌝ }
     ensures { λ r. ⌜ ((tri : ℕ → Triangle) (k : Tree) → Traced tri k (now (padded .entry)) (now (nodes .entry)) (now (perm .entry)) (now (leaves .entry)) (now (handles .entry)) → patchesIn (now (rows .exit)) (now (of .exit)) m r ≡ openOf (probeOf tri k) (trianglesIn (now (area .entry)) (now (handles .entry)) n m) reach (patchesIn (now (rows .entry)) (now (of .entry)) m np)) ⌝ }
     ensures { λ r. ⌜ (r ≤ np) × Numbered (now (of .exit)) m r ⌝ }
 {
-    if reach > 0.0 {
-        largest_triangles(area, handles, n, m, of, np, areas, largest);
-        mark_open(
-            area,
-            handles,
-            n,
-            reach,
-            padded,
-            nodes,
-            perm,
-            leaves,
-            count,
-            largest,
-            np,
-            flags,
-        );
-        let r = close_rows(flags, np, rows, numbers);
-        renumber(of, m, numbers);
-        return r;
+    if reach > 0.0 {} else {
+        return np;
     }
-    np
+    largest_triangles(area, handles, n, m, of, np, areas, largest);
+    mark_open(
+        area,
+        handles,
+        n,
+        reach,
+        padded,
+        nodes,
+        perm,
+        leaves,
+        count,
+        largest,
+        np,
+        flags,
+    );
+    // The largest triangles are done with: their area takes the new numbers.
+    let r = close_rows(flags, np, rows, largest);
+    renumber(of, m, largest);
+    r
 }

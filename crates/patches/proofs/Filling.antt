@@ -12,6 +12,8 @@ use lib.ListN.{length, getD, replicate, length-replicate, getD-replicate}
 use Rattle.geometry.specs.declared.Triangle.{Triangle}
 use Rattle.columns.specs.Columns.{triangleAtOf}
 use Rattle.order.specs.Runs.{anyBy, upTo}
+use Rattle.float.proofs.Numbers.{by-order}
+use Rattle.order.proofs.Stable.{by-eq}
 use Rattle.order.proofs.Runs.{any-under}
 use Rattle.faces.specs.Faces.{Face, noFace, faceOf, faceAt, sameFace, isFirst, faceIn, facesIn, keysOf}
 use Rattle.faces.proofs.Corners.{getD-map-upTo}
@@ -19,7 +21,7 @@ use Rattle.patches.specs.Lists.{keepIf, filterBy}
 use Rattle.patches.specs.Triangles.{noTriangle, triangleAt, trianglesIn}
 use Rattle.patches.specs.Patch.{Patch}
 use Rattle.patches.specs.Patches.{keptOf, placedOf, patchesOf}
-use Rattle.patches.specs.Rows.{patchFloats, patchesIn, Numbered}
+use Rattle.patches.specs.Rows.{patchFloats, noneOf, patchesIn, Numbered}
 use Rattle.patches.specs.Grid.{bucketCount, newest, Grid, Standing}
 use Rattle.patches.proofs.Lists.{filter-more, filter-under, length-upTo}
 
@@ -86,6 +88,7 @@ pub record Filling (ts : List Triangle) (first : List ℕ) (m : ℕ) (rows₀ : 
   pub len-next : length next ≡ length next₀
   pub standing : Standing rows of cells heads next t np
   pub so-far : patchesIn rows of t np ≡ patchesTo ts first t
+  pub left-out : (i : ℕ) → i < t → keptBy first i ≡ false → getD of i noneOf ≡ noneOf
 
 pub filling-none : (ts : List Triangle) (first : List ℕ) (m : ℕ) (rows : List Float) (of cells heads next : List ℕ) (k : ℕ) → k ≡ bucketCount → heads ≡ replicate k 0
     → Filling ts first m rows of cells next rows of cells heads next 0 0
@@ -111,6 +114,7 @@ filling-none ts first m rows of cells heads next k e z =
         numbered = λ i l. absurd (not-suc-le-zero l);
       };
       so-far = refl;
+      left-out = λ i l. absurd (not-suc-le-zero l);
     }
 
 pub filling-more : (ts : List Triangle) (first : List ℕ) (m : ℕ) (rows₀ : List Float) (of₀ cells₀ next₀ : List ℕ) (rows : List Float) (of cells heads next : List ℕ) (t np : ℕ)
@@ -119,8 +123,9 @@ pub filling-more : (ts : List Triangle) (first : List ℕ) (m : ℕ) (rows₀ : 
     → length rows′ ≡ length rows → length of′ ≡ length of → length cells′ ≡ length cells → length next′ ≡ length next
     → Standing rows′ of′ cells′ heads′ next′ (suc t) np′
     → patchesIn rows′ of′ (suc t) np′ ≡ cond (keptBy first t) (placedOf ts (patchesIn rows of t np) t) (patchesIn rows of t np)
+    → ((i : ℕ) → (i ≡ t → ⊥) → getD of′ i noneOf ≡ getD of i noneOf) → (keptBy first t ≡ false → getD of′ t noneOf ≡ noneOf)
     → Filling ts first m rows₀ of₀ cells₀ next₀ rows′ of′ cells′ heads′ next′ (suc t) np′
-filling-more ts first m rows₀ of₀ cells₀ next₀ rows of cells heads next t np rows′ of′ cells′ heads′ next′ np′ f h lr lo lc ln s e =
+filling-more ts first m rows₀ of₀ cells₀ next₀ rows of cells heads next t np rows′ of′ cells′ heads′ next′ np′ f h lr lo lc ln s e o z =
     record {
       within = h;
       len-rows = lr ∙ f .len-rows;
@@ -129,17 +134,19 @@ filling-more ts first m rows₀ of₀ cells₀ next₀ rows of cells heads next 
       len-next = ln ∙ f .len-next;
       standing = s;
       so-far = e ∙ ap (λ (ps : List Patch). cond (keptBy first t) (placedOf ts ps t) ps) (f .so-far) ∙ sym (to-more ts first t);
+      left-out = λ i l k.
+          by-eq i t (λ w. ap (λ (j : ℕ). getD of′ j noneOf) w ∙ z (ap (keptBy first) (sym w) ∙ k)) (λ d. o i d ∙ f .left-out i (by-order t i (λ g. absurd (d (omega arith))) (λ g. g)) k);
     }
 
 pub filling-all : (area : List Float) (handles : List ℕ) (n : ℕ) (first : List ℕ) (m : ℕ) (rows₀ : List Float) (of₀ cells₀ next₀ : List ℕ) (rows : List Float) (of cells heads next : List ℕ) (t np : ℕ)
     → Filling (trianglesIn area handles n m) first m rows₀ of₀ cells₀ next₀ rows of cells heads next t np → m ≤ t → m ≤ n
     → ((i : ℕ) → i < m → keptBy first i ≡ isFirst (facesIn area n) i)
-    → (patchesIn rows of m np ≡ patchesOf (trianglesIn area handles n m)) × ((np ≤ m) × Numbered of m np)
+    → (patchesIn rows of m np ≡ patchesOf (trianglesIn area handles n m)) × (((np ≤ m) × Numbered of m np) × ((i : ℕ) → i < m → keptBy first i ≡ false → getD of i noneOf ≡ noneOf))
 unfolding patchesOf
 filling-all area handles n first m rows₀ of₀ cells₀ next₀ rows of cells heads next t np f h l e =
     let w = f .within in
     let same : t ≡ m = omega arith in
     let ts = trianglesIn area handles n m in (
       ap (λ (k : ℕ). patchesIn rows of k np) (sym same) ∙ f .so-far ∙ ap (patchesTo ts first) same ∙ ap (foldl (placedOf ts) []) (kept-is area handles n m first l e),
-      (let g = f .standing .few in omega arith, rw same at (f .standing .numbered)),
+      ((let g = f .standing .few in omega arith, rw same at (f .standing .numbered)), λ i g k. f .left-out i (omega arith) k),
     )

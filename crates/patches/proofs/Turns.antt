@@ -34,10 +34,10 @@ use Rattle.patches.proofs.Chains.{grid-joined, grid-more}
 -- ---- one patch
 
 -- a patch is a row and its triangles
-abbrev fromRow : PatchRow → List ℕ → Patch
+abbrev pub fromRow : PatchRow → List ℕ → Patch
 fromRow r is = record { normal = r .normal; offset = r .offset; area = r .area; box = r .aabb; tris = is; cell = cellOf (r .normal) }
 
-patch-row : (rows : List Float) (of : List ℕ) (m p : ℕ) → patchIn rows of m p ≡ fromRow (rowIn rows p) (trisIn of m p)
+pub patch-row : (rows : List Float) (of : List ℕ) (m p : ℕ) → patchIn rows of m p ≡ fromRow (rowIn rows p) (trisIn of m p)
 unfolding patchIn rowIn
 patch-row rows of m p = refl
 
@@ -54,7 +54,7 @@ unfolding cellIn rowIn newRowOf
 cell-new rows p t e = ap (λ (r : PatchRow). cellOf (r .normal)) e
 
 -- triangle t gets a number
-tris-more : (of : List ℕ) (t v p : ℕ) → t < length of → trisIn (set of t v) (suc t) p ≡ trisIn of t p ++ keepIf (eqb v p) t []
+pub tris-more : (of : List ℕ) (t v p : ℕ) → t < length of → trisIn (set of t v) (suc t) p ≡ trisIn of t p ++ keepIf (eqb v p) t []
 unfolding trisIn
 tris-more of t v p h =
     filter-more (λ i. eqb (getD (set of t v) i noneOf) p) t
@@ -62,10 +62,10 @@ tris-more of t v p h =
     (ap (λ (l : List ℕ). l ++ keepIf (eqb v p) t [])
     (filter-under (λ i. eqb (getD (set of t v) i noneOf) p) (λ i. eqb (getD of i noneOf) p) t (λ i l. ap (λ (w : ℕ). eqb w p) (getD-set-other of t i v noneOf (λ s. omega arith)))))
 
-tris-other : (of : List ℕ) (t v p : ℕ) → t < length of → (v ≡ p → ⊥) → trisIn (set of t v) (suc t) p ≡ trisIn of t p
+pub tris-other : (of : List ℕ) (t v p : ℕ) → t < length of → (v ≡ p → ⊥) → trisIn (set of t v) (suc t) p ≡ trisIn of t p
 tris-other of t v p h d = tris-more of t v p h ∙ rw (ne-eqb v p d) (append-nil (trisIn of t p))
 
-tris-same : (of : List ℕ) (t p : ℕ) → t < length of → trisIn (set of t p) (suc t) p ≡ trisIn of t p ++ (t ∷ [])
+pub tris-same : (of : List ℕ) (t p : ℕ) → t < length of → trisIn (set of t p) (suc t) p ≡ trisIn of t p ++ (t ∷ [])
 tris-same of t p h = tris-more of t p p h ∙ rw (eq-eqb p p refl)
 
 -- no triangle has the number of a patch that is not made
@@ -136,7 +136,7 @@ module _ (rows : List Float) (of : List ℕ) (t np : ℕ) where
   unfolding patchesIn
   patches-length = length-upTo (patchIn rows of t) np
 
-  patch-at : (i : ℕ) → i < np → patchAt ps i ≡ patchIn rows of t i
+  pub patch-at : (i : ℕ) → i < np → patchAt ps i ≡ patchIn rows of t i
   unfolding patchesIn patchAt
   patch-at i l = getD-map-upTo (patchIn rows of t) np i noPatch l
 

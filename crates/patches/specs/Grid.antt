@@ -17,6 +17,7 @@ use Rattle.patches.specs.Patches.{cellOf, isCoplanar}
 use Rattle.patches.specs.Rows.{patchFloats, vecIn, patchIn, Numbered}
 use Rattle.patches.specs.declared.PlaneKey.{PlaneKey}
 
+-- a cell by its parts
 abbrev pub key : ℕ → ℕ → ℕ → Key
 key a b c = record { x = a; y = b; z = c }
 
@@ -30,6 +31,7 @@ planeKeyOf t =
 abbrev pub bucketCount : ℕ
 bucketCount = 4096
 
+-- the bucket of a cell
 unfoldable pub bucketOf : Key → ℕ
 bucketOf c = c .x % 16 * 256 + c .y % 16 * 16 + c .z % 16
 

@@ -45,10 +45,11 @@ rowIn rows p =
       aabb = record { min = vecIn rows (patchFloats * p + 5); max = vecIn rows (patchFloats * p + 8) };
     }
 
--- the row of a new patch, and of one that a triangle joins
+-- the row of a patch of one triangle
 unfoldable pub newRowOf : Triangle → PatchRow
 newRowOf t = record { normal = canonicalOf (t .normal); offset = offsetOf t; area = triangleAreaOf t; aabb = boxOf t }
 
+-- the row of a patch with a triangle more
 unfoldable pub joinedRowOf : PatchRow → Triangle → PatchRow
 joinedRowOf r t = record { normal = r .normal; offset = r .offset; area = add binary32 (r .area) (triangleAreaOf t); aabb = unionOf (r .aabb) (boxOf t) }
 
@@ -56,6 +57,7 @@ joinedRowOf r t = record { normal = r .normal; offset = r .offset; area = add bi
 unfoldable pub trisIn : List ℕ → ℕ → ℕ → List ℕ
 trisIn of m p = filterBy (λ i. eqb (getD of i noneOf) p) (upTo m)
 
+-- patch p of m triangles
 unfoldable pub patchIn : List Float → List ℕ → ℕ → ℕ → Patch
 patchIn rows of m p =
     record {

@@ -5,7 +5,7 @@ use geometry::Aabb;
 use geometry::Triangle;
 use vector::Vec3;
 ghost use mathlib.Core.Path.{_≡_};
-ghost use mathlib.Core.Bool.{cond};
+ghost use mathlib.Core.Bool.{false, cond};
 ghost use mathlib.Core.List.{List, [], _∷_, map, flatMap};
 ghost use Prim.Native.Nat.{ℕ, suc, _+_, _-_, _*_, _<_, _≤_};
 ghost use lib.Dec.{eqb};
@@ -16,7 +16,7 @@ ghost use Rattle.faces.specs.Key.{stepOf, sameKey};
 ghost use Rattle.faces.specs.Faces.{isFirst, facesIn};
 ghost use Rattle.patches.specs.Normal.{largerPartOf, largestPartOf, isTurned, canonicalOf, offsetOf};
 ghost use Rattle.patches.specs.Patches.{cellsPerUnit, besideOf, aroundOf, placedOf, patchesOf};
-ghost use Rattle.patches.specs.Rows.{patchFloats, vecIn, rowIn, newRowOf, joinedRowOf, patchesIn, Numbered, Beside};
+ghost use Rattle.patches.specs.Rows.{patchFloats, noneOf, vecIn, rowIn, newRowOf, joinedRowOf, patchesIn, Numbered, Beside};
 ghost use Rattle.patches.specs.Triangles.{triangleAt, trianglesIn};
 ghost use Rattle.patches.specs.Grid.{key, planeKeyOf, bucketCount, bucketOf, cellAt, chainOf, lastBy, coplanarAt, matchAt, firstAmong, Grid, Standing};
 
@@ -434,6 +434,7 @@ fn place(
     requires { ⌜ Standing (now rows) (now of) (now cells) (now heads) (now next) t np ⌝ }
     ensures { λ r. ⌜ Standing (now (rows .exit)) (now (of .exit)) (now (cells .exit)) (now (heads .exit)) (now (next .exit)) (suc t) r ⌝ }
     ensures { λ r. ⌜ ((ts : List Triangle) → triangleAt ts t ≡ triangleAtOf (now (area .entry)) (now (handles .entry)) n t → patchesIn (now (rows .exit)) (now (of .exit)) (suc t) r ≡ placedOf ts (patchesIn (now (rows .entry)) (now (of .entry)) t np) t) ⌝ }
+    ensures { λ r. ⌜ ((i : ℕ) → (i ≡ t → ⊥) → getD (now (of .exit)) i noneOf ≡ getD (now (of .entry)) i noneOf) ⌝ }
 {
     let tri = columns::triangle_at(area, handles, n, t);
     let k = plane_key(tri);
@@ -468,6 +469,8 @@ fn turn(
     requires { ⌜ Standing (now rows) (now of) (now cells) (now heads) (now next) t np ⌝ }
     ensures { λ r. ⌜ Standing (now (rows .exit)) (now (of .exit)) (now (cells .exit)) (now (heads .exit)) (now (next .exit)) (suc t) r ⌝ }
     ensures { λ r. ⌜ ((ts : List Triangle) → triangleAt ts t ≡ triangleAtOf (now (area .entry)) (now (handles .entry)) n t → patchesIn (now (rows .exit)) (now (of .exit)) (suc t) r ≡ cond (eqb (getD (now (first .entry)) t 0) t) (placedOf ts (patchesIn (now (rows .entry)) (now (of .entry)) t np) t) (patchesIn (now (rows .entry)) (now (of .entry)) t np)) ⌝ }
+    ensures { λ r. ⌜ ((i : ℕ) → (i ≡ t → ⊥) → getD (now (of .exit)) i noneOf ≡ getD (now (of .entry)) i noneOf) ⌝ }
+    ensures { λ r. ⌜ (eqb (getD (now (first .entry)) t 0) t ≡ false → getD (now (of .exit)) t noneOf ≡ noneOf) ⌝ }
 {
     if first[t] == t as u32 {
         return place(area, handles, n, t, np, rows, cells, heads, next, of);
@@ -495,6 +498,7 @@ pub fn coplanar_patches(
     requires { ⌜ ((i : ℕ) → i < m → eqb (getD (now first) i 0) i ≡ isFirst (facesIn (now area) n) i) ⌝ }
     ensures { λ r. ⌜ patchesIn (now (rows .exit)) (now (of .exit)) m r ≡ patchesOf (trianglesIn (now (area .entry)) (now (handles .entry)) n m) ⌝ }
     ensures { λ r. ⌜ (r ≤ m) × Numbered (now (of .exit)) m r ⌝ }
+    ensures { λ r. ⌜ ((i : ℕ) → i < m → eqb (getD (now (first .entry)) i 0) i ≡ false → getD (now (of .exit)) i noneOf ≡ noneOf) ⌝ }
 {
     columns::clear_u32(heads);
     let mut np = 0;

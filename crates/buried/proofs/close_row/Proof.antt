@@ -40,7 +40,7 @@ add-result : tie.Need-add-result
 add-result c = let p = c .before .before .before .before .before .before .before .before .before .before .before .pre in omega arith
 
 same-length-3 : tie.Need-same-length-3
-same-length-3 c = length-set (c .before .before .before .before .before .before .before .before .before .before .before .args .numbers .now) (c .before .before .before .before .before .before .before .before .before .before .before .args .p) (c .before .before .before .before .before .before .before .before .before .before .before .args .w)
+same-length-3 c = simp length-set
 
 returns-2 : tie.Need-returns-2
 unfolding isOpen

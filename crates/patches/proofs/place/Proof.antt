@@ -3,9 +3,10 @@ use mathlib.Core.Path.{_∙_, sym}
 use Prim.Native.Nat.{_*_, _+_, _<_, _≤_}
 use native.Mathlib.Omega.{arith}
 use native.Mathlib.Numerals.{add-one}
+use lib.Seq.{getD-set-other}
 use lib.ListN.{length}
 use borrow.Author.Needs.{needs}
-use Rattle.patches.specs.Rows.{patchFloats}
+use Rattle.patches.specs.Rows.{noneOf, patchFloats}
 use Rattle.patches.proofs.Turns.{joined-patches, joined-standing, new-patches, new-standing}
 use Rattle.patches.proofs.place.Statement.{statement}
 use Rattle.patches.proofs.place.Tie as tie
@@ -31,7 +32,7 @@ slice-write-of c = c .before .before .before .before .before .before .before .be
 returns : tie.Need-returns
 returns c = let a = c .before .before .before .before .before .before .before .before .before .before .before .before .before .before .before .before .before .before .before .args in let s = c .before .before .before .before .before .before .before .before .before .before .before .before .before .before .before .before .before .before .before .pre .1 .1 in (
   joined-standing (a .rows .now) (a .of .now) (a .cells .now) (a .heads .now) (a .next .now) (a .t) (a .np) (c .before .before .before .before .before .found .result) (c .before .before .before .before .before .before .before .before .before .before .before .triangle-at .result) (c .before .before .before .before .before .before .before .before .before .before .plane-key .result) s (c .before .before .before .before .before .before .before .before .before .before .before .before .before .before .before .before .before .before .before .pre .1 .0 .3) (c .before .before .before .before .before .before .before .before .before .before .plane-key .ensures .0) (c .before .before .before .before .before .found .ensures) (c .before .before .join-patch .last .0) (c .before .before .before .before .if1 .taken) (c .before .before .join-patch .kept .0) (c .before .before .join-patch .ensures .0) (c .before .before .join-patch .ensures .1),
-  λ ts w. joined-patches (a .rows .now) (a .of .now) (a .cells .now) (a .heads .now) (a .next .now) (a .t) (a .np) (c .before .before .before .before .before .found .result) (c .before .before .before .before .before .before .before .before .before .before .before .triangle-at .result) (c .before .before .before .before .before .before .before .before .before .before .plane-key .result) s (c .before .before .before .before .before .before .before .before .before .before .before .before .before .before .before .before .before .before .before .pre .1 .0 .3) (c .before .before .before .before .before .before .before .before .before .before .plane-key .ensures .0) (c .before .before .before .before .before .found .ensures) (c .before .before .join-patch .last .0) (c .before .before .before .before .if1 .taken) (c .before .before .join-patch .kept .0) (c .before .before .join-patch .ensures .0) (c .before .before .join-patch .ensures .1) ts (w ∙ sym (c .before .before .before .before .before .before .before .before .before .before .before .triangle-at .ensures)),
+  (λ ts w. joined-patches (a .rows .now) (a .of .now) (a .cells .now) (a .heads .now) (a .next .now) (a .t) (a .np) (c .before .before .before .before .before .found .result) (c .before .before .before .before .before .before .before .before .before .before .before .triangle-at .result) (c .before .before .before .before .before .before .before .before .before .before .plane-key .result) s (c .before .before .before .before .before .before .before .before .before .before .before .before .before .before .before .before .before .before .before .pre .1 .0 .3) (c .before .before .before .before .before .before .before .before .before .before .plane-key .ensures .0) (c .before .before .before .before .before .found .ensures) (c .before .before .join-patch .last .0) (c .before .before .before .before .if1 .taken) (c .before .before .join-patch .kept .0) (c .before .before .join-patch .ensures .0) (c .before .before .join-patch .ensures .1) ts (w ∙ sym (c .before .before .before .before .before .before .before .before .before .before .before .triangle-at .ensures)), λ i d. getD-set-other (a .of .now) (a .t) i (c .before .before .before .before .before .found .result) noneOf d),
 )
 
 new-patch-requires : tie.Need-new-patch-requires
@@ -60,7 +61,7 @@ returns-2 c = let a = c .before .before .before .before .before .before .before 
     let rn : a .np < length (a .next .now) = omega arith in
     rw (add-one (a .np)) (
       new-standing (a .rows .now) (a .of .now) (a .cells .now) (a .heads .now) (a .next .now) (a .t) (a .np) (c .before .before .before .before .before .before .before .before .before .before .before .before .before .before .before .found .result) (c .before .before .before .before .before .before .before .before .before .before .before .before .before .before .before .before .before .before .before .before .before .triangle-at .result) (c .before .before .before .before .before .before .before .before .before .before .before .before .before .before .before .before .before .before .before .before .plane-key .result) s (p .3) (c .before .before .before .before .before .before .before .before .before .before .before .before .before .before .before .before .before .before .before .before .plane-key .ensures .0) (c .before .before .before .before .before .before .before .before .before .before .before .before .before .before .before .found .ensures) (c .before .before .before .before .before .before .before .before .before .before .before .before .new-patch .last .0) (c .before .before .before .before .before .before .put-in-grid .last .0) (c .before .before .before .before .before .before .before .before .before .before .before .before .before .before .if1 .left) q rr rc rn (c .before .before .before .before .before .before .before .before .before .before .before .before .new-patch .ensures .0) (c .before .before .before .before .before .before .before .before .before .before .before .before .new-patch .ensures .1) (c .before .before .before .before .before .before .put-in-grid .ensures .0) (c .before .before .before .before .before .before .put-in-grid .ensures .1 .0) (c .before .before .before .before .before .before .put-in-grid .last .1 .0) (c .before .before .before .before .before .before .put-in-grid .last .1 .1 .0) (c .before .before .before .before .before .before .put-in-grid .ensures .1 .1 .0) (c .before .before .before .before .before .before .put-in-grid .ensures .1 .1 .1),
-      λ ts w. new-patches (a .rows .now) (a .of .now) (a .cells .now) (a .heads .now) (a .next .now) (a .t) (a .np) (c .before .before .before .before .before .before .before .before .before .before .before .before .before .before .before .found .result) (c .before .before .before .before .before .before .before .before .before .before .before .before .before .before .before .before .before .before .before .before .before .triangle-at .result) (c .before .before .before .before .before .before .before .before .before .before .before .before .before .before .before .before .before .before .before .before .plane-key .result) s (p .3) (c .before .before .before .before .before .before .before .before .before .before .before .before .before .before .before .before .before .before .before .before .plane-key .ensures .0) (c .before .before .before .before .before .before .before .before .before .before .before .before .before .before .before .found .ensures) (c .before .before .before .before .before .before .before .before .before .before .before .before .new-patch .last .0) (c .before .before .before .before .before .before .put-in-grid .last .0) (c .before .before .before .before .before .before .before .before .before .before .before .before .before .before .if1 .left) q rr rc rn (c .before .before .before .before .before .before .before .before .before .before .before .before .new-patch .ensures .0) (c .before .before .before .before .before .before .before .before .before .before .before .before .new-patch .ensures .1) (c .before .before .before .before .before .before .put-in-grid .ensures .0) (c .before .before .before .before .before .before .put-in-grid .ensures .1 .0) ts (w ∙ sym (c .before .before .before .before .before .before .before .before .before .before .before .before .before .before .before .before .before .before .before .before .before .triangle-at .ensures)),
+      (λ ts w. new-patches (a .rows .now) (a .of .now) (a .cells .now) (a .heads .now) (a .next .now) (a .t) (a .np) (c .before .before .before .before .before .before .before .before .before .before .before .before .before .before .before .found .result) (c .before .before .before .before .before .before .before .before .before .before .before .before .before .before .before .before .before .before .before .before .before .triangle-at .result) (c .before .before .before .before .before .before .before .before .before .before .before .before .before .before .before .before .before .before .before .before .plane-key .result) s (p .3) (c .before .before .before .before .before .before .before .before .before .before .before .before .before .before .before .before .before .before .before .before .plane-key .ensures .0) (c .before .before .before .before .before .before .before .before .before .before .before .before .before .before .before .found .ensures) (c .before .before .before .before .before .before .before .before .before .before .before .before .new-patch .last .0) (c .before .before .before .before .before .before .put-in-grid .last .0) (c .before .before .before .before .before .before .before .before .before .before .before .before .before .before .if1 .left) q rr rc rn (c .before .before .before .before .before .before .before .before .before .before .before .before .new-patch .ensures .0) (c .before .before .before .before .before .before .before .before .before .before .before .before .new-patch .ensures .1) (c .before .before .before .before .before .before .put-in-grid .ensures .0) (c .before .before .before .before .before .before .put-in-grid .ensures .1 .0) ts (w ∙ sym (c .before .before .before .before .before .before .before .before .before .before .before .before .before .before .before .before .before .before .before .before .before .triangle-at .ensures)), λ i d. getD-set-other (a .of .now) (a .t) i (a .np) noneOf d),
     )
 
 pub place-spec : {M : Type 1} → statement M
