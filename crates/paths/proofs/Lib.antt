@@ -3,3 +3,4 @@ pub mod Laws
 pub mod Bound
 pub mod Numbers
 mod Floats
+pub mod CaseA
