@@ -3,7 +3,7 @@
 use mathlib.Core.Path.{_≡_, refl, sym, ap, _∙_, subst}
 use mathlib.Core.Bool.{Bool, true, false, not, cond, _&&_}
 use Prim.Native.Nat.{ℕ, zero, suc, _+_, _-_, _*_, _/_, _%_, _^_, _<_, _≤_, compare}
-use native.Mathlib.Nat.{mul-pos, zero-lt-suc, mul-comm, mul-mul-mul-comm, mul-le-mul, le-trans, le-of-eq, le-of-lt}
+use native.Mathlib.Nat.{mul-pos, zero-lt-suc, mul-comm, mul-one, mul-mul-mul-comm, mul-le-mul, le-trans, le-of-eq, le-of-lt}
 use native.Mathlib.Omega.{arith}
 use borrow.Author.Tests.{le-ltb, ne-eqb}
 use lib.Dec.{T, ltb, leb, eqb, leb→le, nltb→le, ltb→lt, lt→ltb}
@@ -13,6 +13,10 @@ use lib.Ieee.Fits.{up-pos, down-pos, and-l, and-r}
 use lib.Ieee.Order.{round-mono}
 use lib.Ieee.Positive.{num, den, positive, den-pos, le→cross, cross→le, le-trans-positive, between, mul-mono}
 use Rattle.float.specs.Literals.{zero32}
+use Rattle.float.proofs.Numbers.{by-order}
+use Rattle.float.proofs.Squares.{square-lt-back}
+use Rattle.vector.specs.Vector.{tiny}
+use Rattle.paths.proofs.Floats.{above-not-zero, finite-square}
 use Rattle.float.specs.Compare.{isFinite}
 use Rattle.scene.specs.Limits.{mostDistance, leastSpeed, mostSpeed, leastRate, mostRate}
 
@@ -124,3 +128,77 @@ module _ (total rate speed : Float) (p : T (positive total)) (f : T (fits binary
       between (div binary32 (mul binary32 smallest leastRate) mostSpeed) (div binary32 (mul binary32 total rate) speed) (div binary32 (mul binary32 mostDistance mostRate) leastSpeed) tt tt
       (div-mono binary32 (mul binary32 smallest leastRate) (mul binary32 total rate) mostSpeed speed tt samples-positive tt speed-positive samples-above v′)
       (div-mono binary32 (mul binary32 total rate) (mul binary32 mostDistance mostRate) speed leastSpeed samples-positive tt speed-positive tt samples-below v)
+
+-- ---- a quotient that is finite
+
+odd-finite : (d : ℕ) (s : Bool) (q k l : ℕ) → T (isFinite (odd d s q k l))
+unfolding odd isFinite
+odd-finite d s zero k l = tt
+odd-finite d s (suc q) k l = tt
+
+-- what is not above a finite value
+below-finite : (s : Bool) (q k : ℕ) (t : Bool) (n : ℕ) (e : ℤ) → T (le (units binary32 false q k) (fin t n e)) → T (isFinite (units binary32 s q k))
+unfolding units le isFinite
+below-finite s q k t n e h = picked (ltb (q * 2 ^ k) (2 ^ 277)) h where
+  picked : (b : Bool) → T (le (cond b (odd 25 false q k 149) (inf false)) (fin t n e)) → T (isFinite (cond b (odd 25 s q k 149) (inf s)))
+  picked true h = odd-finite 25 s q k 149
+  picked false h = absurd h
+
+-- what is not below the infinity
+above-infinite : (s : Bool) (q k : ℕ) → T (le (inf false) (units binary32 false q k)) → T (isFinite (units binary32 s q k)) → ⊥
+unfolding units le isFinite odd
+above-infinite s q k h g = picked (ltb (q * 2 ^ k) (2 ^ 277)) q h g where
+  picked : (b : Bool) (q : ℕ) → T (le (inf false) (cond b (odd 25 false q k 149) (inf false))) → T (isFinite (cond b (odd 25 s q k 149) (inf s))) → ⊥
+  picked true zero h g = h
+  picked true (suc q) h g = h
+  picked false q h g = g
+
+small-finite : (s : Bool) (a c : ℕ) → 0 < c → a ≤ 2 ^ 125 * c → T (isFinite (round binary32 s a c))
+unfolding round
+small-finite s a c some h =
+    let n = a * 2 ^ 149 in
+    let k = size (n / c) - 24 in
+    let u = c * 2 ^ k in
+    below-finite s (nearest (n / u) (compare (n % u * 2) u)) k false 1 (pos 125) (round-mono binary32 a c (2 ^ 125) 1 some (lt→one tt) (rw (mul-one a) h)) where
+      lt→one : Unit {0} → 0 < 1
+      lt→one x = omega arith
+
+finite-small : (s : Bool) (a c : ℕ) → 0 < c → T (isFinite (round binary32 s a c)) → a < 2 ^ 128 * c
+unfolding round
+finite-small s a c some h =
+    let n = a * 2 ^ 149 in
+    let k = size (n / c) - 24 in
+    let u = c * 2 ^ k in
+    by-order (2 ^ 128 * c) a
+    (λ large. absurd (above-infinite s (nearest (n / u) (compare (n % u * 2) u)) k (round-mono binary32 (2 ^ 128) 1 a c (lt→one tt) some (rw (mul-one a) large)) h))
+    (λ less. less)
+  where
+    lt→one : Unit {0} → 0 < 1
+    lt→one x = omega arith
+
+-- a value whose square is finite is below 2 ^ 64
+square-bound : (s : Bool) (m : ℕ) (e : ℤ) → T (isFinite (mul binary32 (fin s m e) (fin s m e))) → m * up e < 2 ^ 64 * down e
+unfolding mul
+square-bound s m e h =
+    square-lt-back (m * up e) (2 ^ 64 * down e)
+    (subst (λ (z : ℕ). m * up e * (m * up e) < z) (sym (mul-mul-mul-comm (2 ^ 64) (down e) (2 ^ 64) (down e)))
+    (finite-small (unlike s s) (m * up e * (m * up e)) (down e * down e) (mul-pos (down-pos e) (down-pos e)) h))
+
+not-tiny : (n d : ℕ) → 2305843 * 1 * d < n * 2 ^ 61 → d ≤ n * 2 ^ 61
+not-tiny n d h = omega arith
+
+pub quotient-finite : (x y : Float) → T (isFinite (mul binary32 x x)) → T (isFinite y) → T (lt tiny y) → T (isFinite (div binary32 x y))
+unfolding div isFinite lt ofBits
+quotient-finite x y h g l = go x y h (finite-square binary32 x h) g l where
+  go : (x y : Float) → T (isFinite (mul binary32 x x)) → T (isFinite x) → T (isFinite y) → T (lt tiny y) → T (isFinite (div binary32 x y))
+  go nan y h f g l = absurd f
+  go (inf s) y h f g l = absurd f
+  go (fin s m e) nan h f g l = absurd g
+  go (fin s m e) (inf t) h f g l = absurd g
+  go (fin s m e) (fin true n d) h f g l = absurd l
+  go (fin s m e) (fin false zero d) h f g l = absurd (above-not-zero 2305843 (negsuc 60) (fin false zero d) l)
+  go (fin s m e) (fin false (suc n) d) h f g l =
+      rw (ne-eqb (suc n) 0 (λ z. omega arith))
+      (small-finite (unlike s false) (m * up e * down d) (suc n * up d * down e) (mul-pos (mul-pos (zero-lt-suc n) (up-pos d)) (down-pos e))
+      (le-trans (mul-le-mul (le-of-lt (square-bound s m e h)) (not-tiny (suc n * up d) (down d) (ltb→lt (2305843 * 1 * down d) (suc n * up d * 2 ^ 61) l)))
+      (le-of-eq (regroup (2 ^ 64) (down e) (suc n * up d) (2 ^ 61)))))
