@@ -3,3 +3,5 @@ pub mod Laws
 pub mod Bound
 pub mod Numbers
 mod Floats
+mod Ranges
+pub mod CaseA

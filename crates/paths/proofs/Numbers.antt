@@ -1,6 +1,5 @@
--- The candidate of a path is a number in all its parts, where speed and rate lie within document 01's limits: its energy was tested; its delay is a
--- finite length times a finite rate by a finite speed that is not zero; and its direction is that of the first segment, whose length is a part of
--- the finite whole.
+-- The candidate of a path is a number in all its parts, where distance, speed and rate lie within document 01's limits: its energy was tested; its
+-- delay is a length up to 1,000 times the rate by the speed; and its direction is that of the first segment, whose length is a part of the whole.
 use mathlib.Core.Path.{_≡_, refl, sym, ap, _∙_}
 use mathlib.Core.Bool.{Bool, true, false, not, cond, _&&_}
 use mathlib.Core.List.{List, [], _∷_}
@@ -9,7 +8,8 @@ use native.Mathlib.Omega.{arith}
 use lib.Dec.{T}
 use lib.IntN.{pos}
 use lib.ListN.{length, getD}
-use lib.Ieee.{Float, nan, inf, fin, binary32, add, mul, div, lt, le, fits, isNan, ofBits}
+use lib.Ieee.{Float, nan, inf, fin, binary32, add, mul, div, lt, le, eq, fits, isNan, ofBits}
+use lib.Ieee.Positive.{positive, le-trans-positive}
 use lib.Ieee.Fits.{and-l, and-r, add-fits, div-fits}
 use Rattle.float.specs.Literals.{zero32, one32}
 use Rattle.float.specs.Compare.{isFinite}
@@ -36,27 +36,51 @@ use Rattle.paths.specs.declared.Fate.the-variants.{TooFar, NotCrossed, O
 use Rattle.paths.specs.Visibility.{startOf, goOf, goAllOf, wayOf}
 use Rattle.paths.specs.Gains.{leastEnergy, leastWeight, leastBlocker, usableOf, reflectedOf, gainsOf, rejectedOf, candidateOf, arrivedOf}
 use Rattle.paths.specs.Path.{verdict, lastOf, bouncedOf, pathWith}
-use Rattle.paths.specs.Numbers.{isNumber, Numbers3, Numbers8, Numbers}
+use Rattle.paths.specs.Numbers.{isNumber, Finite3, Numbers8, Numbers}
 use Rattle.paths.proofs.Bound.{Long, back-long}
-use Rattle.paths.proofs.Floats.{holds, above-number, NotZero, above-not-zero, least-not-zero, between-finite, number-left, number-right, finite-left, finite-right, number-square, finite-square, mul-number, div-number, finite-root}
+use Rattle.paths.proofs.Floats.{above-number, number-left, number-right, finite-left, finite-right, number-square, finite-root}
+use Rattle.paths.proofs.Ranges.{positive-of, le-of-not-lt, delay-positive, quotient-finite}
 
 -- ---- the settings
 
 pub record Rates (s : Settings) : Type 0 where
-  pub rate : T (isFinite (s .«sample_rate»))
-  pub speed : T (isFinite (s .«speed_of_sound»))
-  pub moving : NotZero (s .«speed_of_sound»)
+  pub far : T (positive (s .«max_reflection_distance»))
+  pub near : T (le (s .«max_reflection_distance») mostDistance)
+  pub slow : T (le leastSpeed (s .«speed_of_sound»))
+  pub fast : T (le (s .«speed_of_sound») mostSpeed)
+  pub seldom : T (le leastRate (s .«sample_rate»))
+  pub often : T (le (s .«sample_rate») mostRate)
+
+-- a value above 0 and not above a finite one
+held-finite : (x high : Float) → T (isFinite high) → T (lt zero32 x) → T (le x high) → T (isFinite x)
+unfolding isFinite le lt eq ofBits
+held-finite x nan g l h = absurd g
+held-finite x (inf t) g l h = absurd g
+held-finite nan (fin t n d) g l h = absurd l
+held-finite (inf true) (fin t n d) g l h = absurd l
+held-finite (inf false) (fin t n d) g l h = absurd h
+held-finite (fin s m e) (fin t n d) g l h = tt
+
+held-positive : (x high : Float) → T (isFinite high) → T (lt zero32 x) → T (le x high) → T (positive x)
+held-positive x high g l h = positive-of x (held-finite x high g l h) l
 
 pub rates-within : (s : Settings) → T (ratesOf (s .«max_reflection_distance») (s .«speed_of_sound») (s .«sample_rate»)) → Rates s
-unfolding ratesOf betweenOf ofBits isFinite
+unfolding ratesOf betweenOf aboveZeroOf ofBits isFinite
 rates-within s h =
-    let two = and-r (aboveZeroOf (s .«max_reflection_distance») mostDistance) (betweenOf (s .«speed_of_sound») leastSpeed mostSpeed && betweenOf (s .«sample_rate») leastRate mostRate) h in
-    let speed = and-l (betweenOf (s .«speed_of_sound») leastSpeed mostSpeed) (betweenOf (s .«sample_rate») leastRate mostRate) two in
-    let rate = and-r (betweenOf (s .«speed_of_sound») leastSpeed mostSpeed) (betweenOf (s .«sample_rate») leastRate mostRate) two in
+    let distance = s .«max_reflection_distance» in
+    let speed = s .«speed_of_sound» in
+    let rate = s .«sample_rate» in
+    let held = and-l (lt zero32 distance && le distance mostDistance) ((le leastSpeed speed && le speed mostSpeed) && (le leastRate rate && le rate mostRate)) h in
+    let two = and-r (lt zero32 distance && le distance mostDistance) ((le leastSpeed speed && le speed mostSpeed) && (le leastRate rate && le rate mostRate)) h in
+    let moving = and-l (le leastSpeed speed && le speed mostSpeed) (le leastRate rate && le rate mostRate) two in
+    let sampled = and-r (le leastSpeed speed && le speed mostSpeed) (le leastRate rate && le rate mostRate) two in
     record {
-      rate = between-finite (s .«sample_rate») leastRate mostRate tt tt rate;
-      speed = between-finite (s .«speed_of_sound») leastSpeed mostSpeed tt tt speed;
-      moving = least-not-zero 24 (pos 2) (s .«speed_of_sound») (and-l (le leastSpeed (s .«speed_of_sound»)) (le (s .«speed_of_sound») mostSpeed) speed);
+      far = held-positive distance mostDistance tt (and-l (lt zero32 distance) (le distance mostDistance) held) (and-r (lt zero32 distance) (le distance mostDistance) held);
+      near = and-r (lt zero32 distance) (le distance mostDistance) held;
+      slow = and-l (le leastSpeed speed) (le speed mostSpeed) moving;
+      fast = and-r (le leastSpeed speed) (le speed mostSpeed) moving;
+      seldom = and-l (le leastRate rate) (le rate mostRate) sampled;
+      often = and-r (le leastRate rate) (le rate mostRate) sampled;
     }
 
 -- ---- gains, direction, delay
@@ -97,35 +121,31 @@ module _ (v : Vec3) (h : T (isFinite (length3Of v))) where
   unfolding dot3Of
   xy-finite = finite-left binary32 _ (mul binary32 (v .z) (v .z)) square-finite
 
-  x-finite : T (isFinite (v .x))
-  x-finite = finite-square binary32 (v .x) (finite-left binary32 _ (mul binary32 (v .y) (v .y)) xy-finite)
+  x-finite : T (isFinite (mul binary32 (v .x) (v .x)))
+  x-finite = finite-left binary32 _ (mul binary32 (v .y) (v .y)) xy-finite
 
-  y-finite : T (isFinite (v .y))
-  y-finite = finite-square binary32 (v .y) (finite-right binary32 (mul binary32 (v .x) (v .x)) _ xy-finite)
+  y-finite : T (isFinite (mul binary32 (v .y) (v .y)))
+  y-finite = finite-right binary32 (mul binary32 (v .x) (v .x)) _ xy-finite
 
-  z-finite : T (isFinite (v .z))
+  z-finite : T (isFinite (mul binary32 (v .z) (v .z)))
   unfolding dot3Of
-  z-finite = finite-square binary32 (v .z) (finite-right binary32 (add binary32 (mul binary32 (v .x) (v .x)) (mul binary32 (v .y) (v .y))) _ square-finite)
+  z-finite = finite-right binary32 (add binary32 (mul binary32 (v .x) (v .x)) (mul binary32 (v .y) (v .y))) _ square-finite
 
-  long-not-zero : T (lt tiny (length3Of v)) → NotZero (length3Of v)
-  unfolding ofBits
-  long-not-zero b = above-not-zero _ _ (length3Of v) b
+  upward : Finite3 (vec zero32 zero32 one32)
+  unfolding ofBits isFinite
+  upward = record { fx = tt; fy = tt; fz = tt }
 
-  upward : Numbers3 (vec zero32 zero32 one32)
-  unfolding ofBits isNan
-  upward = record { nx = tt; ny = tt; nz = tt }
-
-  direction-numbers : Numbers3 (normalize3Of v)
+  direction-finite : Finite3 (normalize3Of v)
   unfolding normalize3Of
-  direction-numbers = picked (lt tiny (length3Of v)) (λ b. b) where
+  direction-finite = picked (lt tiny (length3Of v)) (λ b. b) where
     picked :
         (b : Bool) → (T b → T (lt tiny (length3Of v))) →
-        Numbers3 (cond b (vec (div binary32 (v .x) (length3Of v)) (div binary32 (v .y) (length3Of v)) (div binary32 (v .z) (length3Of v))) (vec zero32 zero32 one32))
+        Finite3 (cond b (vec (div binary32 (v .x) (length3Of v)) (div binary32 (v .y) (length3Of v)) (div binary32 (v .z) (length3Of v))) (vec zero32 zero32 one32))
     picked true f =
         record {
-          nx = div-number binary32 (v .x) (length3Of v) (finite-number (v .x) x-finite) h (long-not-zero (f tt));
-          ny = div-number binary32 (v .y) (length3Of v) (finite-number (v .y) y-finite) h (long-not-zero (f tt));
-          nz = div-number binary32 (v .z) (length3Of v) (finite-number (v .z) z-finite) h (long-not-zero (f tt));
+          fx = quotient-finite (v .x) (length3Of v) x-finite h (f tt);
+          fy = quotient-finite (v .y) (length3Of v) y-finite h (f tt);
+          fz = quotient-finite (v .z) (length3Of v) z-finite h (f tt);
         }
     picked false f = upward
 
@@ -133,20 +153,47 @@ energy-fits : (g : Band8) → T (fits binary32 (sumOfSquaresOf g))
 unfolding sumOfSquaresOf
 energy-fits g = add-fits binary32 _ _
 
+most-positive : T (positive mostDistance)
+unfolding ofBits
+most-positive = tt
+
+-- a length that is used
+pub record Used (s : Settings) (total : Float) : Type 0 where
+  pub fitting : T (fits binary32 total)
+  pub finite : T (isFinite total)
+  pub above : T (lt zero32 total)
+  pub within : T (not (lt (s .«max_reflection_distance») total))
+
+candidate-delay : (s : Settings) (total : Float) → Rates s → Used s total → T (positive (div binary32 (mul binary32 total (s .«sample_rate»)) (s .«speed_of_sound»)))
+candidate-delay s total r u =
+    let p = positive-of total (u .finite) (u .above) in
+    let far = s .«max_reflection_distance» in
+    delay-positive total (s .«sample_rate») (s .«speed_of_sound») p (u .fitting)
+    (le-trans-positive total far mostDistance p (r .far) most-positive (le-of-not-lt total far p (r .far) (u .within)) (r .near))
+    (r .seldom) (r .often) (r .slow) (r .fast)
+
+positive-number : (x : Float) → T (positive x) → T (isNumber x)
+unfolding isNan
+positive-number nan h = absurd h
+positive-number (inf s) h = absurd h
+positive-number (fin s m e) h = tt
+
 candidate-numbers :
-    (s : Settings) (last listener : Vec3) (total : Float) (g : Band8) → Rates s → T (isFinite total) → T (isFinite (distance3Of listener last)) →
+    (s : Settings) (last listener : Vec3) (total : Float) (g : Band8) → Rates s → Used s total → T (isFinite (distance3Of listener last)) →
     T (lt leastEnergy (sumOfSquaresOf g)) → Numbers (candidateOf s last listener total g)
 unfolding candidateOf
-candidate-numbers s last listener total g r finite near above =
+candidate-numbers s last listener total g r u near above =
     let number = above-number leastEnergy (sumOfSquaresOf g) above in
     record {
+      energy-is = refl;
       energy-above = above;
       energy-fits = energy-fits g;
       energy-number = number;
       delay-fits = div-fits binary32 (mul binary32 total (s .«sample_rate»)) (s .«speed_of_sound»);
-      delay-number = div-number binary32 (mul binary32 total (s .«sample_rate»)) (s .«speed_of_sound») (mul-number binary32 total (s .«sample_rate») finite (r .rate)) (r .speed) (r .moving);
+      delay-number = positive-number _ (candidate-delay s total r u);
+      delay-positive = candidate-delay s total r u;
       gains-numbers = gains-numbers g number;
-      direction-numbers = direction-numbers (sub3Of last listener) (rw (distance-turned listener last) at near);
+      direction-finite = direction-finite (sub3Of last listener) (rw (distance-turned listener last) at near);
     }
 
 -- ---- the way's first segment
@@ -189,37 +236,46 @@ rejected-sound weight blocker = picked (lt weight leastWeight) (lt (sumOfSquares
   picked false false = tt
 
 arrived-sound :
-    (s : Settings) (last listener : Vec3) (total weight : Float) (g blocker : Band8) → Rates s → T (isFinite total) → T (isFinite (distance3Of listener last)) →
+    (s : Settings) (last listener : Vec3) (total weight : Float) (g blocker : Band8) → Rates s → Used s total → T (isFinite (distance3Of listener last)) →
     Sound (arrivedOf s last listener total weight g blocker)
 unfolding arrivedOf
-arrived-sound s last listener total weight g blocker r finite near = picked (lt leastEnergy (sumOfSquaresOf g)) (lt leastEnergy (sumOfSquaresOf (mulOf g blocker))) (λ b. b) where
+arrived-sound s last listener total weight g blocker r u near = picked (lt leastEnergy (sumOfSquaresOf g)) (lt leastEnergy (sumOfSquaresOf (mulOf g blocker))) (λ b. b) where
   picked :
       (a b : Bool) → (T b → T (lt leastEnergy (sumOfSquaresOf (mulOf g blocker)))) →
       Sound (cond a (cond b (Passed (candidateOf s last listener total (mulOf g blocker))) (rejectedOf weight blocker)) Faint)
-  picked true true f = candidate-numbers s last listener total (mulOf g blocker) r finite near (f tt)
+  picked true true f = candidate-numbers s last listener total (mulOf g blocker) r u near (f tt)
   picked true false f = rejected-sound weight blocker
   picked false b f = tt
 
 module _ (soft : Vec3 → Vec3 → Transmission) (s : Settings) (materials : List Float) (tri : ℕ → Triangle) (n : ℕ) (source listener : Vec3) (r : Rates s) (some : 0 < n) where
   gone-sound :
-      (points : List Vec3) (tris : List ℕ) (weight : Float) (w : Way) → (T (isFinite (w .total)) → T (isFinite (distance3Of listener (lastOf points n)))) →
+      (points : List Vec3) (tris : List ℕ) (weight : Float) (w : Way) → T (fits binary32 (w .total)) →
+      (T (isFinite (w .total)) → T (isFinite (distance3Of listener (lastOf points n)))) →
       Sound (cond (usableOf (w .total) (s .«max_reflection_distance»))
       (arrivedOf s (lastOf points n) listener (w .total) weight (gainsOf (s .«distance_model») (reflectedOf materials tri tris) (w .total) weight) (w .gain)) TooLong)
   unfolding usableOf
-  gone-sound points tris weight w near = picked (isFinite (w .total)) (lt zero32 (w .total) && not (lt (s .«max_reflection_distance») (w .total))) (λ b. b) where
-    picked :
-        (a b : Bool) → (T a → T (isFinite (w .total))) →
-        Sound (cond (a && b)
-        (arrivedOf s (lastOf points n) listener (w .total) weight (gainsOf (s .«distance_model») (reflectedOf materials tri tris) (w .total) weight) (w .gain)) TooLong)
-    picked true true f = arrived-sound s (lastOf points n) listener (w .total) weight _ (w .gain) r (f tt) (near (f tt))
-    picked true false f = tt
-    picked false b f = tt
+  gone-sound points tris weight w fitting near =
+      picked (isFinite (w .total)) (lt zero32 (w .total)) (not (lt (s .«max_reflection_distance») (w .total))) (λ b. b) (λ b. b) (λ b. b)
+    where
+      picked :
+          (a b c : Bool) → (T a → T (isFinite (w .total))) → (T b → T (lt zero32 (w .total))) → (T c → T (not (lt (s .«max_reflection_distance») (w .total)))) →
+          Sound (cond (a && (b && c))
+          (arrivedOf s (lastOf points n) listener (w .total) weight (gainsOf (s .«distance_model») (reflectedOf materials tri tris) (w .total) weight) (w .gain)) TooLong)
+      picked true true true f g h =
+          arrived-sound s (lastOf points n) listener (w .total) weight _ (w .gain) r (record { fitting = fitting; finite = f tt; above = g tt; within = h tt }) (near (f tt))
+      picked true true false f g h = tt
+      picked true false c f g h = tt
+      picked false b c f g h = tt
+
+  way-fits : (points : List Vec3) → T (fits binary32 (wayOf soft listener source points .total))
+  unfolding wayOf goOf
+  way-fits points = add-fits binary32 _ _
 
   bounced-sound : (b : Bounces) → Long n b → Sound (bouncedOf soft s materials tri n source listener b .fate)
   unfolding bouncedOf
   bounced-sound notCrossed long = tt
   bounced-sound offSurface long = tt
-  bounced-sound (made points tris weight) long = gone-sound points tris weight (wayOf soft listener source points) (last-finite soft listener source n points long some)
+  bounced-sound (made points tris weight) long = gone-sound points tris weight (wayOf soft listener source points) (way-fits points) (last-finite soft listener source n points long some)
 
 -- ---- a path
 

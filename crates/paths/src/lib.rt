@@ -19,7 +19,7 @@ ghost use Rattle.bounces.specs.Image.{imageOf};
 ghost use Rattle.bounces.specs.Areas.{maxOrder, trailOf, Going};
 ghost use Rattle.paths.specs.Visibility.{startOf, goOf, wayOf};
 ghost use Rattle.paths.specs.Gains.{usableOf, reflectedOf, airGainOf, gainsOf, rejectedOf, candidateOf, arrivedOf};
-ghost use Rattle.paths.specs.Path.{bouncedOf, pathOf};
+ghost use Rattle.paths.specs.Path.{verdict, bouncedOf, pathOf};
 ghost use Rattle.paths.specs.Areas.{softIn, Lent, ReadAs};
 
 // What is left of a sound on the way gone so far, its length, where it has come to, and the traces made.
@@ -255,6 +255,12 @@ fn arrived(
 
 // ---- the path
 
+fn counted(fate: Fate, rays: u32) -> Verdict
+    ensures { λ r. ⌜ r ≡ verdict fate rays ⌝ }
+{
+    Verdict { fate, rays }
+}
+
 // A trail of `order` bounces: what is in the way, and what arrives.
 fn judge(
     padded: &[f32],
@@ -301,26 +307,17 @@ fn judge(
                 way.total,
                 trail.weight,
             );
-            return Verdict {
-                fate: arrived(s, last, listener, way.total, trail.weight, g, way.gain),
-                rays: way.rays,
-            };
+            return counted(
+                arrived(s, last, listener, way.total, trail.weight, g, way.gain),
+                way.rays,
+            );
         }
-        return Verdict {
-            fate: Fate::TooLong,
-            rays: way.rays,
-        };
+        return counted(Fate::TooLong, way.rays);
     }
     if fate == 2 {
-        return Verdict {
-            fate: Fate::NotCrossed,
-            rays: 0,
-        };
+        return counted(Fate::NotCrossed, 0);
     }
-    Verdict {
-        fate: Fate::OffSurface,
-        rays: 0,
-    }
+    counted(Fate::OffSurface, 0)
 }
 
 // The path by way of the first `order` planes of `seq`, whose images stand in `images`.
@@ -386,8 +383,5 @@ pub fn validate_image_path(
             listener,
         );
     }
-    Verdict {
-        fate: Fate::TooFar,
-        rays: 0,
-    }
+    counted(Fate::TooFar, 0)
 }

@@ -13,7 +13,7 @@ ghost use Rattle.vector.specs.Vector.{length3Of, normalize3Of};
 ghost use Rattle.geometry.specs.declared.Triangle.{Triangle};
 ghost use Rattle.build.specs.Tree.{Tree};
 ghost use Rattle.segments.specs.Materials.{materialFloats, bandsIn, clampedOf, transmissionOf, coefficientOf, coefficientsOf, reflectionOf};
-ghost use Rattle.segments.specs.Segment.{maxCrossings, visibilityRadius, segmentRayOf, walkOf, segmentTransmissionOf, offsetOf, midOf, addPartOf, probeOf, segmentSoftTransmissionOf};
+ghost use Rattle.segments.specs.Segment.{maxCrossings, visibilityRadius, transmission, segmentRayOf, walkOf, segmentTransmissionOf, offsetOf, midOf, addPartOf, probeOf, segmentSoftTransmissionOf};
 ghost use Rattle.segments.specs.Areas.{traceIn, TreeReads, Traceable};
 
 const OCCLUSION_EPS: f32 = 1e-3;
@@ -30,6 +30,12 @@ const MATERIAL_FLOATS: usize = 16;
 pub struct Transmission {
     pub gain: Band8,
     pub rays: u32,
+}
+
+fn counted(gain: Band8, rays: u32) -> Transmission
+    ensures { λ r. ⌜ r ≡ transmission gain rays ⌝ }
+{
+    Transmission { gain, rays }
 }
 
 // ---- materials
@@ -150,16 +156,10 @@ fn walk(
             count,
             segment_ray(origin, dir, remaining),
         ) else {
-            return Transmission {
-                gain: product,
-                rays: rays + 1,
-            };
+            return counted(product, rays + 1);
         };
         if left == 0 {
-            return Transmission {
-                gain: bands::zeros(),
-                rays: rays + 1,
-            };
+            return counted(bands::zeros(), rays + 1);
         }
         let share = transmission_of(materials, hit.material_handle);
         return walk(
@@ -178,10 +178,7 @@ fn walk(
             rays + 1,
         );
     }
-    Transmission {
-        gain: product,
-        rays,
-    }
+    counted(product, rays)
 }
 
 // The direction of v, with its length at hand: `normalize3` without its root.
@@ -344,10 +341,8 @@ pub fn segment_soft_transmission(
         y: 0.0,
         z: 0.0,
     };
-    let nothing = Transmission {
-        gain: bands::zeros(),
-        rays: 0,
-    };
+    let none = counted(bands::zeros(), 0);
+    let at = mid(from, to, still);
     let mut sum = probe(
         padded,
         nodes,
@@ -357,9 +352,9 @@ pub fn segment_soft_transmission(
         count,
         materials,
         from,
-        mid(from, to, still),
+        at,
         to,
-        nothing,
+        none,
     );
     for k in 0..PROBES {
         let via = mid(from, to, offset(b, vector::probe_angle(k)));

@@ -28,33 +28,34 @@ reflected-requires c κs = ((c .before .before .before .before .before .before .
 returns : tie.Need-returns
 unfolding bouncedOf trailOf
 returns c =
-    let a = c .before .before .before .before .before .before .before .before .before .before .before .before .before .before .before .before .args in (
+    let a = c .before .before .before .before .before .before .before .before .before .before .before .before .before .before .before .before .before .args in (
       λ tri t h.
           rw (
-            eq-eqb _ _ (c .before .before .before .before .before .before .before .before .before .if1 .taken),
-            ← c .before .before .before .before .before .before .go-all .ensures .0 tri t h,
-            ← c .before .before .before .before .before .usable .ensures,
-            c .before .before .before .before .if2 .taken,
-            ← c .before .before .reflected .ensures tri (h .handles-of),
-            ← c .before .gains .ensures,
-            last-taken (a .trail .points) (a .order) (c .before .before .before .before .before .before .before .before .before .before .before .before .before .before .before .before .pre .1 .0 .0),
-            ← c .arrived .ensures,
+            eq-eqb _ _ (c .before .before .before .before .before .before .before .before .before .before .if1 .taken),
+            ← c .before .before .before .before .before .before .before .go-all .ensures .0 tri t h,
+            ← c .before .before .before .before .before .before .usable .ensures,
+            c .before .before .before .before .before .if2 .taken,
+            ← c .before .before .before .reflected .ensures tri (h .handles-of),
+            ← c .before .before .gains .ensures,
+            last-taken (a .trail .points) (a .order) (c .before .before .before .before .before .before .before .before .before .before .before .before .before .before .before .before .before .pre .1 .0 .0),
+            ← c .before .arrived .ensures,
+            ← c .counted .ensures,
           ),
-      c .before .before .before .before .before .before .go-all .ensures .1,
+      rw (c .counted .ensures) (c .before .before .before .before .before .before .before .go-all .ensures .1),
     )
 
 returns-2 : tie.Need-returns-2
 unfolding bouncedOf trailOf
 returns-2 c =
-    (λ tri t h. rw (eq-eqb _ _ (c .before .before .before .before .before .if1 .taken), ← c .before .before .go-all .ensures .0 tri t h, ← c .before .usable .ensures, c .if2 .left), c .before .before .go-all .ensures .1)
+    (λ tri t h. rw (eq-eqb _ _ (c .before .before .before .before .before .before .if1 .taken), ← c .before .before .before .go-all .ensures .0 tri t h, ← c .before .before .usable .ensures, c .before .if2 .left, ← c .counted2 .ensures), rw (c .counted2 .ensures) (c .before .before .before .go-all .ensures .1))
 
 returns-3 : tie.Need-returns-3
 unfolding bouncedOf trailOf
-returns-3 c = (λ tri t h. rw (ne-eqb _ _ (c .before .if1 .left), eq-eqb _ _ (c .if3 .taken)), omega arith)
+returns-3 c = (λ tri t h. rw (ne-eqb _ _ (c .before .before .if1 .left), eq-eqb _ _ (c .before .if3 .taken), ← c .counted3 .ensures), rw (c .counted3 .ensures) (omega arith))
 
 returns-4 : tie.Need-returns-4
 unfolding bouncedOf trailOf
-returns-4 c = (λ tri t h. rw (ne-eqb _ _ (c .before .if1 .left), ne-eqb _ _ (c .if3 .left)), omega arith)
+returns-4 c = (λ tri t h. rw (ne-eqb _ _ (c .before .before .if1 .left), ne-eqb _ _ (c .before .if3 .left), ← c .counted4 .ensures), rw (c .counted4 .ensures) (omega arith))
 
 pub judge-spec : {M : Type 1} → statement M
 judge-spec =
@@ -68,7 +69,11 @@ judge-spec =
     reflected-requires
     (λ c κs. tt)
     (λ c κs. tt)
+    (λ c κs. tt)
     returns
+    (λ c κs. tt)
     returns-2
+    (λ c κs. tt)
     returns-3
+    (λ c κs. tt)
     returns-4)

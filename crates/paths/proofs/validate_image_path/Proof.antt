@@ -28,9 +28,9 @@ returns c =
 
 returns-2 : tie.Need-returns-2
 returns-2 c =
-    let a = c .before .before .before .before .before .before .before .before .before .before .before .before .before .before .before .args in (
-      λ tri t h. path-far (a .s) _ tri t _ _ _ (a .seq) (a .t17) (a .order) (omega (arith, c .before .before .before .before .before .before .before .before .before .before .before .before .before .before .before .pre .1 .0)) (c .before .before .before .before .before .before .before .before .before .before .before .before .before .before .before .pre .1 .1 .1) (rw (c .before .before .distance3 .ensures) at (c .if1 .left)),
-      omega arith,
+    let a = c .before .before .before .before .before .before .before .before .before .before .before .before .before .before .before .before .args in (
+      λ tri t h. rw (c .counted .ensures) (path-far (a .s) _ tri t _ _ _ (a .seq) (a .t17) (a .order) (omega (arith, c .before .before .before .before .before .before .before .before .before .before .before .before .before .before .before .before .pre .1 .0)) (c .before .before .before .before .before .before .before .before .before .before .before .before .before .before .before .before .pre .1 .1 .1) (rw (c .before .before .before .distance3 .ensures) at (c .before .if1 .left))),
+      rw (c .counted .ensures) (omega arith),
     )
 
 pub validate-image-path-spec : {M : Type 1} → statement M
@@ -44,4 +44,5 @@ validate-image-path-spec =
     back-requires
     judge-requires
     returns
+    (λ c κs. tt)
     returns-2)

@@ -14,6 +14,7 @@ use Rattle.segments.proofs.walk.Kinds as walk-kinds
 use Rattle.segments.proofs.+walk.Lts-walk as walk-lts
 use Rattle.bands.proofs.mul.Reads as mul-reads
 use Rattle.bands.proofs.zeros.Reads as zeros-reads
+use Rattle.segments.proofs.counted.Reads as counted-reads
 use Rattle.segments.proofs.segment_ray.Reads as segment-ray-reads
 use Rattle.segments.proofs.transmission_of.Reads as transmission-of-reads
 use Rattle.trace.proofs.intersect.Reads as intersect-reads
@@ -33,7 +34,7 @@ walk-below t = and 6 walk-kinds.ps (falls 6 walk-kinds.ps _<_ μ-walk t) walk.Pr
 pub +walk-spec : {M : Type 1} → statement M
 +walk-spec =
     close μ-walk λ t. walk-lts.spec
-    (segment-ray-reads.Asked, segment-ray-reads.Learnt, intersect-reads.Asked, intersect-reads.Learnt, zeros-reads.Asked, zeros-reads.Learnt, transmission-of-reads.Asked, transmission-of-reads.Learnt, mul-reads.Asked, mul-reads.Learnt, walk-below t, walk.Post)
+    (segment-ray-reads.Asked, segment-ray-reads.Learnt, intersect-reads.Asked, intersect-reads.Learnt, counted-reads.Asked, counted-reads.Learnt, zeros-reads.Asked, zeros-reads.Learnt, transmission-of-reads.Asked, transmission-of-reads.Learnt, mul-reads.Asked, mul-reads.Learnt, walk-below t, walk.Post)
     (walk-at t)
     walk.Post
     (λ c κs. tt)
@@ -41,15 +42,18 @@ pub +walk-spec : {M : Type 1} → statement M
     (λ c. search needs)
     (λ c. search needs)
     (λ c. omega (arith, c .before .before .before .before .before .before .before .before .before .before .before .pre .1 .1))
+    (λ c κs. tt)
     (λ c. λ tri tr h.
-    walk-clear (traceIn tri tr) (transmissionOf _) _ _ _ _ _ _ (c .before .before .before .before .if1 .taken)
-    (ap (traceIn tri tr) (sym (c .before .before .before .segment-ray .ensures)) ∙ sym (c .before .before .intersect .ensures tri tr (h .rows-of) (h .handles-of) (h .tree-of)) ∙ c .enum-told .given .1))
+    rw (c .counted .ensures)
+    (walk-clear (traceIn tri tr) (transmissionOf _) _ _ _ _ _ _ (c .before .before .before .before .before .if1 .taken)
+    (ap (traceIn tri tr) (sym (c .before .before .before .before .segment-ray .ensures)) ∙ sym (c .before .before .before .intersect .ensures tri tr (h .rows-of) (h .handles-of) (h .tree-of)) ∙ c .before .enum-told .given .1)))
     (λ c κs. tt)
     (λ c. omega (arith, c .before .before .before .before .before .before .before .before .before .before .before .before .before .before .pre .1 .1))
+    (λ c κs. tt)
     (λ c. λ tri tr h.
-    rw (c .zeros .ensures)
-    (walk-over (traceIn tri tr) (transmissionOf _) _ _ _ _ _ _ _ (c .before .if2 .taken) (c .before .before .before .before .before .before .before .if1 .taken)
-    (ap (traceIn tri tr) (sym (c .before .before .before .before .before .before .segment-ray .ensures)) ∙ sym (c .before .before .before .before .before .intersect .ensures tri tr (h .rows-of) (h .handles-of) (h .tree-of)) ∙ c .before .before .before .hit .given .1)))
+    rw (c .counted2 .ensures, c .before .zeros .ensures)
+    (walk-over (traceIn tri tr) (transmissionOf _) _ _ _ _ _ _ _ (c .before .before .if2 .taken) (c .before .before .before .before .before .before .before .before .if1 .taken)
+    (ap (traceIn tri tr) (sym (c .before .before .before .before .before .before .before .segment-ray .ensures)) ∙ sym (c .before .before .before .before .before .before .intersect .ensures tri tr (h .rows-of) (h .handles-of) (h .tree-of)) ∙ c .before .before .before .before .hit .given .1)))
     (λ c κs.
     let able = c .before .before .before .before .before .before .before .before .before .before .before .before .before .pre .1 .0 in
     hit-handle (able .tri) (able .tree) _ _ (λ m. materialFloats * m + materialFloats ≤ length (c .before .before .before .before .before .before .before .before .before .before .before .before .before .args .materials .now))
@@ -64,4 +68,5 @@ pub +walk-spec : {M : Type 1} → statement M
     rw (c .walk .ensures tri tr h, c .before .mul .ensures, c .before .before .before .transmission-of .ensures)
     (walk-on (traceIn tri tr) (transmissionOf _) _ _ _ _ _ _ _ (c .before .before .before .before .if2 .left) (c .before .before .before .before .before .before .before .before .before .before .if1 .taken)
     (ap (traceIn tri tr) (sym (c .before .before .before .before .before .before .before .before .before .segment-ray .ensures)) ∙ sym (c .before .before .before .before .before .before .before .before .intersect .ensures tri tr (h .rows-of) (h .handles-of) (h .tree-of)) ∙ c .before .before .before .before .before .before .hit .given .1)))
-    (λ c. λ tri tr h. walk-end (traceIn tri tr) (transmissionOf _) _ _ _ _ _ _ (c .if1 .left))
+    (λ c κs. tt)
+    (λ c. λ tri tr h. rw (c .counted3 .ensures) (walk-end (traceIn tri tr) (transmissionOf _) _ _ _ _ _ _ (c .before .if1 .left)))

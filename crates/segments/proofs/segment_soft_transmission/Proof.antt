@@ -1,11 +1,12 @@
 -- `segments::segment_soft_transmission` meets its contract: after k turns the sum is that of the middle and k probes around it.
-use mathlib.Core.Path.{_≡_, refl}
+use mathlib.Core.Path.{_≡_, refl, ap}
 use Prim.Native.Nat.{ℕ, _+_, _-_, _*_, _≤_}
 use native.Mathlib.Numerals.{add-one}
 use native.Mathlib.Omega.{arith}
 use borrow.Author.Needs.{needs}
 use Rattle.geometry.specs.declared.Triangle.{Triangle}
 use Rattle.build.specs.Tree.{Tree}
+use Rattle.segments.specs.declared.Transmission.{Transmission}
 use Rattle.segments.specs.Materials.{transmissionOf}
 use Rattle.segments.specs.Segment.{maxCrossings, visibilityRadius, probeCount, probesOf, segmentSoftTransmissionOf}
 use Rattle.segments.specs.Areas.{traceIn, TreeReads}
@@ -23,15 +24,16 @@ abbrev μ-loop : tie.MeasureT-loop
 μ-loop padded nodes perm rows handles count materials from to b sum₀ k₀ sum k = probeCount - k
 
 probe-requires : tie.Need-probe-requires Inv-loop μ-loop
-probe-requires c κs = (c .before .before .before .before .before .before .before .before .before .before .before .pre, omega arith)
+probe-requires c κs = let z : c .before .counted .result .rays ≡ 0 = ap (λ (x : Transmission). x .rays) (c .before .counted .ensures) in (c .before .before .before .before .before .before .before .before .before .before .before .before .pre, omega arith)
 
 loop-holds : tie.Need-loop-holds Inv-loop μ-loop
 unfolding probesOf
 loop-holds c =
-    (omega arith, λ tri t h. rw (← c .before .before .zeros .ensures, ← c .before .mid .ensures, ← c .probe .ensures .0 tri t h), omega (arith, c .probe .ensures .1))
+    let z : c .before .before .counted .result .rays ≡ 0 = ap (λ (x : Transmission). x .rays) (c .before .before .counted .ensures) in
+    (omega arith, λ tri t h. rw (← c .before .before .before .zeros .ensures, ← c .before .before .counted .ensures, ← c .before .mid .ensures, ← c .probe .ensures .0 tri t h), omega (arith, z, c .probe .ensures .1))
 
 probe-requires-2 : tie.Need-probe-requires-2 Inv-loop μ-loop
-probe-requires-2 c κs = (c .before .before .before .before .before .before .before .before .before .before .before .before .before .before .before .before .before .pre, omega (arith, c .before .before .before .before .loop .inv .2, c .before .before .before .loop-test .taken))
+probe-requires-2 c κs = (c .before .before .before .before .before .before .before .before .before .before .before .before .before .before .before .before .before .before .pre, omega (arith, c .before .before .before .before .loop .inv .2, c .before .before .before .loop-test .taken))
 
 loop-again : tie.Need-loop-again Inv-loop μ-loop
 unfolding probesOf
@@ -45,7 +47,7 @@ returns : tie.Need-returns Inv-loop μ-loop
 unfolding segmentSoftTransmissionOf
 returns c =
     let end : c .before .loop .k ≡ probeCount = omega (arith, c .before .loop .inv .0, c .loop-test .left) in (
-      λ tri t h. rw (← c .before .before .before .before .before .before .before .sub3 .ensures, ← c .before .before .before .before .before .before .normalize3 .ensures, ← c .before .before .before .before .before .probe-basis .ensures) (rw end at (c .before .loop .inv .1 tri t h)),
+      λ tri t h. rw (← c .before .before .before .before .before .before .before .before .sub3 .ensures, ← c .before .before .before .before .before .before .before .normalize3 .ensures, ← c .before .before .before .before .before .before .probe-basis .ensures) (rw end at (c .before .loop .inv .1 tri t h)),
       omega (arith, c .before .loop .inv .2, end),
     )
 
@@ -55,6 +57,7 @@ segment-soft-transmission-spec =
     (tie.spec
     Inv-loop
     μ-loop
+    (λ c κs. tt)
     (λ c κs. tt)
     (λ c κs. tt)
     (λ c κs. tt)
