@@ -9,8 +9,8 @@ use Rattle.links.specs.Words.{lows}
 use Rattle.links.proofs.Linking.{Adding, next-more, next-done}
 use Rattle.links.proofs.link_neighbours.Statement.{statement}
 use Rattle.links.proofs.link_neighbours.Tie as tie
--- `links::link_neighbours` meets its contract: the loop keeps that what is there, and what the rest will add, is the whole.
 
+-- `links::link_neighbours` meets its contract: the loop keeps that what is there, and what the rest will add, is the whole.
 
 abbrev Inv-loop : tie.InvT-loop
 Inv-loop row words₀ from n k₀ i₀ words k i = (i ≤ length row) × (k ≤ from + 2 * i) × (length words ≡ length words₀) × Adding row words₀ from words k i
@@ -28,8 +28,12 @@ push-requires-2 : tie.Need-push-requires-2 Inv-loop μ-loop
 push-requires-2 c κs = (omega (arith, c .before .before .before .before .before .before .before .before .loop .inv .2, c .before .before .before .push .kept .0, c .before .before .before .push .ensures .0), (omega arith, omega arith))
 
 loop-again : tie.Need-loop-again Inv-loop μ-loop
-loop-again c = (omega arith, omega (arith, c .before .before .before .before .before .before .push .ensures .0, c .before .before .push2 .ensures .0), c .before .before .push2 .kept .0 ∙ c .before .before .before .before .before .before .push .kept .0 ∙ c .before .before .before .before .before .before .before .before .before .before .before .loop .inv .2,
-    next-more (c .before .before .before .before .before .before .before .before .before .before .before .before .before .before .args .row .now) (c .before .before .before .before .before .before .before .before .before .before .before .before .before .before .args .words .now) (c .before .before .before .before .before .before .before .before .before .before .before .before .before .before .args .from) (c .before .before .before .before .before .before .before .before .before .before .before .loop .words) (c .before .before .before .before .before .before .push .last .0) (c .before .before .push2 .last .0) (c .before .before .before .before .before .before .before .before .before .before .before .loop .k) (c .before .before .before .before .before .before .push .result) (c .before .before .push2 .result) (c .before .before .before .before .before .before .before .before .before .before .before .loop .i) (c .before .before .before .before .before .before .before .before .before .before .loop-test .taken) (c .before .before .before .before .before .before .push .ensures .1) (c .before .before .push2 .ensures .1) (c .before .before .before .before .before .before .before .before .before .before .before .loop .inv .3))
+loop-again c = (
+  omega arith,
+  omega (arith, c .before .before .before .before .before .before .push .ensures .0, c .before .before .push2 .ensures .0),
+  c .before .before .push2 .kept .0 ∙ c .before .before .before .before .before .before .push .kept .0 ∙ c .before .before .before .before .before .before .before .before .before .before .before .loop .inv .2,
+  next-more (c .before .before .before .before .before .before .before .before .before .before .before .before .before .before .args .row .now) (c .before .before .before .before .before .before .before .before .before .before .before .before .before .before .args .words .now) (c .before .before .before .before .before .before .before .before .before .before .before .before .before .before .args .from) (c .before .before .before .before .before .before .before .before .before .before .before .loop .words) (c .before .before .before .before .before .before .push .last .0) (c .before .before .push2 .last .0) (c .before .before .before .before .before .before .before .before .before .before .before .loop .k) (c .before .before .before .before .before .before .push .result) (c .before .before .push2 .result) (c .before .before .before .before .before .before .before .before .before .before .before .loop .i) (c .before .before .before .before .before .before .before .before .before .before .loop-test .taken) (c .before .before .before .before .before .before .push .ensures .1) (c .before .before .push2 .ensures .1) (c .before .before .before .before .before .before .before .before .before .before .before .loop .inv .3),
+)
 
 same-length : tie.Need-same-length Inv-loop μ-loop
 same-length c = c .before .loop .inv .2

@@ -6,6 +6,7 @@ use Rattle.links.specs.Words.{wordOf}
 use Rattle.links.proofs.Compacting.{pushed}
 use Rattle.links.proofs.push.Statement.{statement}
 use Rattle.links.proofs.push.Tie as tie
+
 -- `links::push` meets its contract: the word's upper half is the word of p and q (`pushed`).
 
 returns : tie.Need-returns

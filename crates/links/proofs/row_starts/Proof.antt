@@ -6,6 +6,7 @@ use lib.ListN.{length, length-set}
 use Rattle.links.proofs.Cutting.{Starting, start-none, start-pass, start-row}
 use Rattle.links.proofs.row_starts.Statement.{statement}
 use Rattle.links.proofs.row_starts.Tie as tie
+
 -- `links::row_starts` meets its contract: the loop keeps `Starting`, and either passes a word or ends a row.
 
 abbrev Inv-loop : tie.InvT-loop
@@ -24,7 +25,7 @@ loop-less : tie.Need-loop-less Inv-loop μ-loop
 loop-less c = let b = c .before .is-before .ensures .0 (c .if1 .taken) in omega (arith, b .0)
 
 loop-again : tie.Need-loop-again Inv-loop μ-loop
-loop-again c = 
+loop-again c =
     let b = c .before .is-before .ensures .0 (c .if1 .taken) in
     (omega arith, omega (arith, b .0), c .before .before .before .loop .inv .2, start-pass (c .before .before .before .before .before .before .args .sorted .now) (c .before .before .before .loop .starts) (c .before .before .before .loop .r) (c .before .before .before .loop .i) (c .before .before .before .loop .inv .3) (b .0) (b .1))
 
@@ -35,9 +36,12 @@ slice-write-starts : tie.Need-slice-write-starts Inv-loop μ-loop
 slice-write-starts c = omega (arith, c .before .before .before .loop .inv .2, c .before .before .before .before .before .before .pre .1 .0)
 
 loop-again-2 : tie.Need-loop-again-2 Inv-loop μ-loop
-loop-again-2 c = 
-    (omega arith, omega arith, length-set (c .before .before .before .loop .starts) (c .before .before .before .loop .r) (c .before .before .before .loop .i) ∙ c .before .before .before .loop .inv .2,
-    start-row (c .before .before .before .before .before .before .args .sorted .now) (c .before .before .before .loop .starts) (c .before .before .before .loop .r) (c .before .before .before .loop .i) (c .before .before .before .loop .inv .3) (c .before .before .before .before .before .before .pre .1 .1 .1) (omega (arith, c .before .before .before .loop .inv .2, c .before .before .before .before .before .before .pre .1 .0)) (c .before .is-before .ensures .1 (c .if1 .left)))
+loop-again-2 c = (
+  omega arith,
+  omega arith,
+  length-set (c .before .before .before .loop .starts) (c .before .before .before .loop .r) (c .before .before .before .loop .i) ∙ c .before .before .before .loop .inv .2,
+  start-row (c .before .before .before .before .before .before .args .sorted .now) (c .before .before .before .loop .starts) (c .before .before .before .loop .r) (c .before .before .before .loop .i) (c .before .before .before .loop .inv .3) (c .before .before .before .before .before .before .pre .1 .1 .1) (omega (arith, c .before .before .before .loop .inv .2, c .before .before .before .before .before .before .pre .1 .0)) (c .before .is-before .ensures .1 (c .if1 .left)),
+)
 
 same-length : tie.Need-same-length Inv-loop μ-loop
 same-length c = c .before .loop .inv .2

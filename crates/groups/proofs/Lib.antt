@@ -1,0 +1,8 @@
+-- What the code of `groups` rests on.
+mod Seeding
+mod Taking
+mod Growing
+mod Queueing
+mod Letting
+mod Breadth
+mod Grouping
