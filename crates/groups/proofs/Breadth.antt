@@ -42,7 +42,7 @@ breadth-none np fit asorted astarts col queue from to h q =
           (ap (λ (k : ℕ). take from queue ++ grownOf k adj fit (partOf queue from to) (freeOf np col) .0) s, ap (λ (k : ℕ). grownOf k adj fit (partOf queue from to) (freeOf np col) .1) s);
     }
 
-grown-open : (n : ℕ) (adj : ℕ → ℕ → Bool) (fit : ℕ → Bool) (p : ℕ) (queue free : List ℕ)
+pub grown-open : (n : ℕ) (adj : ℕ → ℕ → Bool) (fit : ℕ → Bool) (p : ℕ) (queue free : List ℕ)
     → grownOf (suc n) adj fit (p ∷ queue) free ≡ (p ∷ grownOf n adj fit (queue ++ filterBy (λ q. adj p q && fit q) free) (filterBy (λ q. not (adj p q && fit q)) free) .0, grownOf n adj fit (queue ++ filterBy (λ q. adj p q && fit q) free) (filterBy (λ q. not (adj p q && fit q)) free) .1)
 unfolding grownOf
 grown-open n adj fit p queue free = refl

@@ -8,7 +8,7 @@ use native.Mathlib.Numerals.{add-one}
 use native.Mathlib.Omega.{arith}
 use lib.Dec.{eqb, ltb}
 use lib.ListN.{length, getD, take, drop, set, length-set, drop-of-length-le}
-use lib.Seq.{append-snoc, drop-cons, getD-take, getD-set-same, getD-set-other, length-take-le}
+use lib.Seq.{append-snoc, drop-cons, getD-take, getD-set-same, getD-set-other, length-take-le, take-suc, take-suc-set}
 use borrow.Author.Tests.{eq-eqb, ne-eqb, lt-ltb}
 use Rattle.float.proofs.Numbers.{by-order}
 use Rattle.order.specs.Sort.{Below}
@@ -73,11 +73,11 @@ module _ (np : ℕ) (adj fit : ℕ → ℕ → Bool) (s : ℕ) (seeds free : Lis
     | false ↦ groupsFrom np adj fit seeds free
   ]
 
-  from-skip : anyBy (eqb s) free ≡ false → groupsFrom np adj fit (s ∷ seeds) free ≡ groupsFrom np adj fit seeds free
+  pub from-skip : anyBy (eqb s) free ≡ false → groupsFrom np adj fit (s ∷ seeds) free ≡ groupsFrom np adj fit seeds free
   unfolding groupsFrom
   from-skip e = ap by-free e
 
-  from-start : anyBy (eqb s) free ≡ true → groupsFrom np adj fit (s ∷ seeds) free
+  pub from-start : anyBy (eqb s) free ≡ true → groupsFrom np adj fit (s ∷ seeds) free
       ≡ grownOf np adj (fit s) (s ∷ []) (filterBy (λ q. not (eqb s q)) free) .0 ∷ groupsFrom np adj fit seeds (grownOf np adj (fit s) (s ∷ []) (filterBy (λ q. not (eqb s q)) free) .1)
   unfolding groupsFrom
   from-start e = ap by-free e
@@ -161,3 +161,29 @@ seed-below np order i b h l = let n = length-take-le np order h in let v = b i (
 
 pub seed-at : (np : ℕ) (order : List ℕ) (i : ℕ) → i < np → getD (take np order) i 0 ≡ getD order i 0
 seed-at np order i l = getD-take np order i 0 l
+
+-- ---- each patch alone
+
+pub record Alone (order queue starts : List ℕ) (i : ℕ) : Type 0 where
+  pub at : (g : ℕ) → g ≤ i → getD starts g 0 ≡ g
+  pub is : groupsIn queue starts i ≡ map (λ p. p ∷ []) (take i order)
+
+pub alone-none : (order queue starts : List ℕ) → getD starts 0 0 ≡ 0 → Alone order queue starts 0
+unfolding groupsIn upTo
+alone-none order queue starts z = record { at = λ g h. let e : g ≡ 0 = omega arith in rw e z; is = refl }
+
+pub alone-more : (order queue starts : List ℕ) (i : ℕ) → i < length order → i < length queue → i + 1 < length starts → Alone order queue starts i
+    → Alone order (set queue i (getD order i 0)) (set starts (i + 1) (i + 1)) (i + 1)
+alone-more order queue starts i ho hq hs m =
+    let x = getD order i 0 in
+    record {
+      at = λ g h. by-eq g (i + 1)
+          (λ e. ap (λ (k : ℕ). getD (set starts (i + 1) (i + 1)) k 0) e ∙ getD-set-same starts (i + 1) (i + 1) 0 hs ∙ sym e)
+          (λ d. getD-set-other starts (i + 1) g (i + 1) 0 d ∙ m .at g (by-order g i (λ y. y) (λ y. absurd (d (omega arith)))));
+      is =
+          groups-more queue (set queue i x) starts (x ∷ []) i i (i + 1)
+          (ap (λ (k : ℕ). take k (set queue i x)) (add-one i) ∙ take-suc-set queue i x hq) (omega arith) (omega arith) hs (m .at i (le-refl i)) (λ g h. let e = m .at g h in omega arith)
+          ∙ ap (λ (l : List (List ℕ)). l ++ ((x ∷ []) ∷ [])) (m .is)
+          ∙ sym (map-snoc (λ p. p ∷ []) (take i order) x)
+          ∙ ap (map (λ (p : ℕ). p ∷ [])) (sym (ap (λ (k : ℕ). take k order) (add-one i) ∙ take-suc order i 0 ho));
+    }

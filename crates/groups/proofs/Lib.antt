@@ -6,3 +6,6 @@ mod Queueing
 mod Letting
 mod Breadth
 mod Grouping
+mod Reading
+mod Joining
+mod Merging

@@ -7,7 +7,7 @@ use lib.Dec.{eqb}
 use lib.ListN.{length, getD, take}
 use lib.Ieee.{Float, nan}
 use Rattle.order.specs.Sort.{Below}
-use Rattle.order.specs.Runs.{upTo}
+use Rattle.order.specs.Runs.{headOr, upTo}
 use Rattle.vector.specs.declared.Vec3.{Vec3}
 use Rattle.columns.specs.Columns.{vecAtOf, triangleAtOf}
 use Rattle.faces.specs.Key.{sameKey, vertexKey}
@@ -15,7 +15,7 @@ use Rattle.patches.specs.Lists.{filterBy, allBy}
 use Rattle.patches.specs.Triangles.{cornersOf}
 use Rattle.patches.specs.Rows.{patchFloats, vecIn}
 use Rattle.links.specs.Words.{partOf, rowIn, Fenced}
-use Rattle.groups.specs.Groups.{isTilted, isNear, grownOf}
+use Rattle.groups.specs.Groups.{descendingKey, isTilted, isNear, grownOf}
 
 -- group g stands in the queue from starts[g] to starts[g + 1]
 unfoldable pub groupsIn : List ℕ → List ℕ → ℕ → List (List ℕ)
@@ -45,6 +45,10 @@ numberIn id n (suc (suc c)) i = getD id (2 * n + i) 0
 pub record Numbered (area : List Float) (n m : ℕ) (id : List ℕ) : Type 0 where
   pub same : (c d i j : ℕ) → c < 3 → d < 3 → i < m → j < m
       → eqb (numberIn id n c i) (numberIn id n d j) ≡ sameKey (vertexKey (cornerIn area n c i)) (vertexKey (cornerIn area n d j))
+
+-- the key of patch p as a seed
+abbrev pub seedKeyIn : List Float → List ℕ → List ℕ → ℕ → ℕ
+seedKeyIn rows sorted starts p = descendingKey (getD rows (patchFloats * p + 4) nan) (headOr 0 (rowIn sorted starts p))
 
 -- ---- growing
 

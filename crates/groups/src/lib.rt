@@ -5,18 +5,21 @@ ghost use mathlib.Core.Path.{_≡_};
 ghost use mathlib.Core.Bool.{Bool, true, not, _&&_};
 ghost use mathlib.Core.List.{List, [], _∷_, _++_, map};
 ghost use Prim.Native.Nat.{ℕ, _+_, _*_, _<_, _≤_};
-ghost use lib.Ieee.{nan};
-ghost use lib.Dec.{eqb};
+ghost use lib.Ieee.{lt};
+ghost use Rattle.float.specs.Literals.{zero32};
+ghost use lib.Dec.{eqb, ltb};
 ghost use lib.ListN.{length, getD, take};
-ghost use Rattle.order.specs.Sort.{Below};
+ghost use Rattle.order.specs.Sort.{sortBy, Below};
 ghost use Rattle.order.specs.Runs.{headOr, upTo};
 ghost use Rattle.columns.specs.Columns.{columnCount, triangleAtOf};
 ghost use Rattle.patches.specs.Lists.{filterBy, allBy};
-ghost use Rattle.patches.specs.Triangles.{cornersOf};
-ghost use Rattle.patches.specs.Rows.{patchFloats, vecIn};
-ghost use Rattle.links.specs.Words.{mostTriangles, lows, rowIn, partOf};
-ghost use Rattle.groups.specs.Groups.{rankOf, descendingKey, isTilted, isNear, grownOf, groupsFrom};
-ghost use Rattle.groups.specs.Rows.{groupsIn, Table, takesIn, isFree, freeOf, Queue, LetIn, Grown, RowsOf};
+ghost use Rattle.patches.specs.Triangles.{cornersOf, trianglesIn};
+ghost use Rattle.patches.specs.Rows.{patchFloats, vecIn, patchesIn};
+ghost use Rattle.links.specs.Words.{mostTriangles, mostRows, lows, rowIn, partOf};
+ghost use Rattle.links.specs.Links.{isJoined, Numbers};
+ghost use Rattle.groups.specs.Settings.{Settings};
+ghost use Rattle.groups.specs.Groups.{rankOf, descendingKey, isTilted, isNear, grownOf, groupsFrom, groupsOf};
+ghost use Rattle.groups.specs.Rows.{groupsIn, Table, seedKeyIn, Numbered, takesIn, isFree, freeOf, Queue, LetIn, Grown, RowsOf};
 
 // How many triangles, and so patches, a scene with planes has at most: `mostTriangles`.
 const MOST_TRIANGLES: u32 = 4096;
@@ -70,7 +73,7 @@ fn seed_keys(
     requires { ⌜ np ≤ length (now keys) ⌝ }
     requires { ⌜ np ≤ length (now order) ⌝ }
     ensures { λ _. ⌜ take np (now (order .exit)) ≡ upTo np ⌝ }
-    ensures { λ _. ⌜ ((p : ℕ) → p < np → getD (now (keys .exit)) p 0 ≡ descendingKey (getD (now (rows .entry)) (patchFloats * p + 4) nan) (headOr 0 (rowIn (now (tsorted .entry)) (now (tstarts .entry)) p))) ⌝ }
+    ensures { λ _. ⌜ ((p : ℕ) → p < np → getD (now (keys .exit)) p 0 ≡ seedKeyIn (now (rows .entry)) (now (tsorted .entry)) (now (tstarts .entry)) p) ⌝ }
 {
     let mut p = 0;
     while p < np {
@@ -79,6 +82,60 @@ fn seed_keys(
         order[p] = p as u32;
         p += 1;
     }
+}
+
+// `order`: the patches as seeds, the largest first. What keys, words and scratch hold afterwards is not said.
+fn seeds(
+    rows: &[f32],
+    np: usize,
+    tsorted: &[u32],
+    tstarts: &[u32],
+    keys: &mut [u64],
+    words: &mut [u64],
+    scratch: &mut [u64],
+    order: &mut [u32],
+)
+    requires { ⌜ np ≤ mostTriangles ⌝ }
+    requires { ⌜ patchFloats * np ≤ length (now rows) ⌝ }
+    requires { ⌜ Table np mostTriangles (now tsorted) (now tstarts) ⌝ }
+    requires { ⌜ np ≤ length (now keys) ⌝ }
+    requires { ⌜ np ≤ length (now words) ⌝ }
+    requires { ⌜ np ≤ length (now scratch) ⌝ }
+    requires { ⌜ np ≤ length (now order) ⌝ }
+    ensures { λ _. ⌜ take np (now (order .exit)) ≡ sortBy (seedKeyIn (now (rows .entry)) (now (tsorted .entry)) (now (tstarts .entry))) (upTo np) ⌝ }
+{
+    seed_keys(rows, np, tsorted, tstarts, keys, order);
+    order::sort_by_key(keys, &mut order[..np], words, scratch);
+}
+
+// `order.iter().map(|&p| vec![p])`: each patch alone.
+fn each_alone(order: &[u32], np: usize, queue: &mut [u32], starts: &mut [u32])
+    requires { ⌜ np ≤ mostTriangles ⌝ }
+    requires { ⌜ np ≤ length (now order) ⌝ }
+    requires { ⌜ np ≤ length (now queue) ⌝ }
+    requires { ⌜ np < length (now starts) ⌝ }
+    ensures { λ _. ⌜ groupsIn (now (queue .exit)) (now (starts .exit)) np ≡ map (λ p. p ∷ []) (take np (now (order .entry))) ⌝ }
+{
+    starts[0] = 0;
+    let mut i = 0;
+    while i < np {
+        queue[i] = order[i];
+        i += 1;
+        starts[i] = i as u32;
+    }
+}
+
+// Whether patches are merged at all.
+fn is_merging(on: bool, most: f32, np: usize) -> bool
+    ensures { λ r. ⌜ r ≡ on && lt zero32 most && ltb 1 np ⌝ }
+{
+    if on {
+        if most > 0.0 {
+            return np > 1;
+        }
+        return false;
+    }
+    false
 }
 
 // ---- whether the group of a seed takes a patch
@@ -418,4 +475,153 @@ fn grow_groups(
         starts[ng] = tail as u32;
     }
     ng
+}
+
+// The groups where patches are merged: adjacency, and the growth from each seed in order.
+fn merge(
+    area: &[f32],
+    handles: &[u32],
+    n: usize,
+    m: usize,
+    rows: &[f32],
+    of: &[u32],
+    np: usize,
+    id: &[u32],
+    vertices: usize,
+    least: f32,
+    most: f32,
+    tsorted: &[u32],
+    tstarts: &[u32],
+    order: &[u32],
+    words: &mut [u64],
+    scratch: &mut [u64],
+    vsorted: &mut [u32],
+    vstarts: &mut [u32],
+    asorted: &mut [u32],
+    astarts: &mut [u32],
+    assigned: &mut [u32],
+    queue: &mut [u32],
+    starts: &mut [u32],
+) -> usize
+    requires { ⌜ (columnCount * n ≤ length (now area)) × (n ≤ length (now handles)) ⌝ }
+    requires { ⌜ patchFloats * np ≤ length (now rows) ⌝ }
+    requires { ⌜ Table np n (now tsorted) (now tstarts) ⌝ }
+    requires { ⌜ (m ≤ mostTriangles) × (m ≤ n) × (np ≤ mostTriangles) × (m ≤ length (now of)) ⌝ }
+    requires { ⌜ (3 * n ≤ length (now id)) × Numbers (now id) n m vertices × (vertices ≤ mostRows) ⌝ }
+    requires { ⌜ (np ≤ length (now order)) × Below np (take np (now order)) ⌝ }
+    requires { ⌜ (24 * m ≤ length (now words)) × (24 * m ≤ length (now scratch)) ⌝ }
+    requires { ⌜ (length (now vsorted) ≡ 3 * m) × (vertices < length (now vstarts)) ⌝ }
+    requires { ⌜ (24 * m ≤ length (now asorted)) × (np < length (now astarts)) ⌝ }
+    requires { ⌜ (np ≤ length (now assigned)) × (np ≤ length (now queue)) × (np < length (now starts)) ⌝ }
+    ensures { λ r. ⌜ r ≤ np ⌝ }
+    ensures { λ r. ⌜ ((adj : ℕ → ℕ → Bool) → ((p q : ℕ) → p < np → q < np → isJoined (now (id .entry)) n vertices (now (of .entry)) m np p q ≡ adj p q) → groupsIn (now (queue .exit)) (now (starts .exit)) r ≡ groupsFrom np adj (takesIn (now (area .entry)) (now (handles .entry)) n (now (rows .entry)) (now (tsorted .entry)) (now (tstarts .entry)) least most) (take np (now (order .entry))) (upTo np)) ⌝ }
+{
+    links::adjacency(
+        id,
+        n,
+        vertices,
+        of,
+        m,
+        np as u32,
+        words,
+        scratch,
+        vsorted,
+        vstarts,
+        asorted,
+        astarts,
+    );
+    columns::clear_u32(assigned);
+    grow_groups(
+        area,
+        handles,
+        n,
+        rows,
+        np,
+        tsorted,
+        tstarts,
+        least,
+        most,
+        asorted,
+        astarts,
+        order,
+        assigned,
+        queue,
+        starts,
+    )
+}
+
+// STEP 4 of the planes: group g of the patches becomes the queue from starts[g] to starts[g + 1], and the number of groups is given.
+// `on` is whether the angle of merging is above 0, least its cosine, most the offset. id has the number of each corner, below vertices.
+pub fn merge_patches(
+    area: &[f32],
+    handles: &[u32],
+    n: usize,
+    m: usize,
+    rows: &[f32],
+    of: &[u32],
+    np: usize,
+    id: &[u32],
+    vertices: usize,
+    on: bool,
+    least: f32,
+    most: f32,
+    keys: &mut [u64],
+    words: &mut [u64],
+    scratch: &mut [u64],
+    tsorted: &mut [u32],
+    tstarts: &mut [u32],
+    vsorted: &mut [u32],
+    vstarts: &mut [u32],
+    asorted: &mut [u32],
+    astarts: &mut [u32],
+    order: &mut [u32],
+    assigned: &mut [u32],
+    queue: &mut [u32],
+    starts: &mut [u32],
+) -> usize
+    requires { ⌜ (columnCount * n ≤ length (now area)) × (n ≤ length (now handles)) ⌝ }
+    requires { ⌜ (m ≤ mostTriangles) × (m ≤ n) × (m ≤ length (now of)) × (np ≤ m) ⌝ }
+    requires { ⌜ patchFloats * np ≤ length (now rows) ⌝ }
+    requires { ⌜ (3 * n ≤ length (now id)) × Numbers (now id) n m vertices × (vertices ≤ mostRows) ⌝ }
+    requires { ⌜ Numbered (now area) n m (now id) ⌝ }
+    requires { ⌜ (m ≤ length (now keys)) × (24 * m ≤ length (now words)) × (24 * m ≤ length (now scratch)) ⌝ }
+    requires { ⌜ (m ≤ length (now tsorted)) × (m < length (now tstarts)) ⌝ }
+    requires { ⌜ (length (now vsorted) ≡ 3 * m) × (vertices < length (now vstarts)) ⌝ }
+    requires { ⌜ (24 * m ≤ length (now asorted)) × (m < length (now astarts)) ⌝ }
+    requires { ⌜ (m ≤ length (now order)) × (m ≤ length (now assigned)) ⌝ }
+    requires { ⌜ (m ≤ length (now queue)) × (m < length (now starts)) ⌝ }
+    ensures { λ r. ⌜ r ≤ np ⌝ }
+    ensures { λ r. ⌜ ((s : Settings) → s .mergeOn ≡ on → s .mergeCos ≡ least → s .mergeOffset ≡ most → groupsIn (now (queue .exit)) (now (starts .exit)) r ≡ groupsOf s (trianglesIn (now (area .entry)) (now (handles .entry)) n m) (patchesIn (now (rows .entry)) (now (of .entry)) m np)) ⌝ }
+{
+    links::patch_rows(of, m, np as u32, words, scratch, tsorted, tstarts);
+    seeds(rows, np, tsorted, tstarts, keys, words, scratch, order);
+    if is_merging(on, most, np) {
+        return merge(
+            area,
+            handles,
+            n,
+            m,
+            rows,
+            of,
+            np,
+            id,
+            vertices,
+            least,
+            most,
+            tsorted,
+            tstarts,
+            order,
+            words,
+            scratch,
+            vsorted,
+            vstarts,
+            asorted,
+            astarts,
+            assigned,
+            queue,
+            starts,
+        );
+    }
+    each_alone(order, np, queue, starts);
+    np
 }

@@ -3,5 +3,5 @@ pub mod Rising
 pub mod Filters
 pub mod Compacting
 mod Cutting
-mod Pushing
+pub mod Pushing
 pub mod Linking

@@ -202,10 +202,26 @@ linked-none run p q e = go (leb (length run) 8)
     go true = rw e (none (not (eqb p q)) (has p run))
     go false = rw (follow-right run p q e, follow-left run p q e)
 
+-- a patch below np is asked for as it is
+pub is-of : (of : List ℕ) (np q i : ℕ) → q < np → isOf of np q i ≡ eqb (getD of i 0) q
+is-of of np q i h =
+    by-order (suc (getD of i 0)) np (λ g. is-some of np q i g ∙ eqb-turn q (getD of i 0)) (λ g. is-none of np q i (omega arith) ∙ sym (ne-eqb (getD of i 0) q (λ e. omega arith)))
+
 module _ (id : List ℕ) (n : ℕ) (of : List ℕ) (m np : ℕ) where
+  corner-past : (v q : ℕ) → np ≤ q → anyBy (hasCorner id n of np v q) (upTo m) ≡ false
+  unfolding hasCorner
+  corner-past v q h = any-false (hasCorner id n of np v q) (upTo m) (λ i. rw (is-past of np q i h))
+
+  pub run-cut : (v : ℕ) → np ≤ 4096 → runOf id n of m np v ≡ filterBy (λ q. anyBy (hasCorner id n of np v q) (upTo m)) (upTo np)
+  unfolding runOf
+  run-cut v h =
+      filter-below (λ q. anyBy (hasCorner id n of np v q) (upTo m)) (λ q. ltb q np && anyBy (hasCorner id n of np v q) (upTo m)) 4096
+      (λ q l. by-order (suc q) np (λ g. rw (lt-ltb q np g)) (λ g. rw (le-ltb q np (omega arith)) (corner-past v q (omega arith))))
+      ∙ filter-cut (λ q. anyBy (hasCorner id n of np v q) (upTo m)) np 4096 h
+
   run-past : (v q : ℕ) → np ≤ q → has q (runOf id n of m np v) ≡ false
-  unfolding runOf hasCorner
-  run-past v q h = has-filter (λ x. anyBy (hasCorner id n of np v x) (upTo m)) q (upTo 4096) ∙ rw (any-false (hasCorner id n of np v q) (upTo m) (λ i. rw (is-past of np q i h)))
+  unfolding runOf
+  run-past v q h = has-filter (λ x. anyBy (hasCorner id n of np v x) (upTo m)) q (upTo 4096) ∙ rw (corner-past v q h)
 
   pub joined-cut : (vertices p : ℕ) → np ≤ 4096 → filterBy (isJoined id n vertices of m np p) (upTo 4096) ≡ filterBy (isJoined id n vertices of m np p) (upTo np)
   unfolding isJoined

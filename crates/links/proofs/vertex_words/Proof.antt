@@ -9,8 +9,8 @@ use Rattle.links.specs.Links.{hasCorner}
 use Rattle.links.proofs.Pushing.{Told, told-none, corner-skip, corner-more}
 use Rattle.links.proofs.vertex_words.Statement.{statement}
 use Rattle.links.proofs.vertex_words.Tie as tie
--- `links::vertex_words` meets its contract: the loop keeps `Told`, three words a triangle.
 
+-- `links::vertex_words` meets its contract: the loop keeps `Told`, three words a triangle.
 
 abbrev Inv-loop : tie.InvT-loop
 Inv-loop id n of m np words₀ k₀ i₀ words k i = (i ≤ m) × (k ≤ 3 * i) × (length words ≡ length words₀) × Told (hasCorner id n of np) words k i
@@ -34,8 +34,12 @@ push-requires-3 : tie.Need-push-requires-3 Inv-loop μ-loop
 push-requires-3 c κs = (omega (arith, c .before .before .before .before .before .before .before .before .before .before .before .before .before .before .before .loop .inv .2, c .before .before .before .before .before .before .before .push .kept .0, c .before .before .before .before .before .before .before .push .ensures .0, c .before .before .before .push2 .kept .0, c .before .before .before .push2 .ensures .0), (c .before .before .before .before .before .before .before .before .before .before .before .before .before .before .before .before .before .before .before .pre .1 .1 .1 .1 .0 .third (c .before .before .before .before .before .before .before .before .before .before .before .before .before .before .before .loop .i) (c .before .before .before .before .before .before .before .before .before .before .before .before .before .before .loop-test .taken), omega (arith, c .before .before .before .before .before .before .before .before .before .if1 .left)))
 
 loop-again-2 : tie.Need-loop-again-2 Inv-loop μ-loop
-loop-again-2 c = (omega arith, omega (arith, c .before .before .before .before .before .before .before .before .before .before .push .ensures .0, c .before .before .before .before .before .before .push2 .ensures .0, c .before .before .push3 .ensures .0), c .before .before .push3 .kept .0 ∙ c .before .before .before .before .before .before .push2 .kept .0 ∙ c .before .before .before .before .before .before .before .before .before .before .push .kept .0 ∙ c .before .before .before .before .before .before .before .before .before .before .before .before .before .before .before .before .before .before .loop .inv .2,
-    corner-more (c .before .before .before .before .before .before .before .before .before .before .before .before .before .before .before .before .before .before .before .before .before .before .args .id .now) (c .before .before .before .before .before .before .before .before .before .before .before .before .before .before .before .before .before .before .before .before .before .before .args .n) (c .before .before .before .before .before .before .before .before .before .before .before .before .before .before .before .before .before .before .before .before .before .before .args .of .now) (c .before .before .before .before .before .before .before .before .before .before .before .before .before .before .before .before .before .before .before .before .before .before .args .np) (c .before .before .before .before .before .before .before .before .before .before .before .before .before .before .before .before .before .before .loop .words) (c .before .before .before .before .before .before .before .before .before .before .before .before .before .before .before .before .before .before .loop .k) (c .before .before .before .before .before .before .before .before .before .before .before .before .before .before .before .before .before .before .loop .i) (c .before .before .before .before .before .before .before .before .before .before .before .before .before .before .before .before .before .before .loop .inv .3) (c .before .before .before .before .before .before .before .before .before .before .push .last .0) (c .before .before .before .before .before .before .push2 .last .0) (c .before .before .push3 .last .0) (c .before .before .before .before .before .before .before .before .before .before .push .result) (c .before .before .before .before .before .before .push2 .result) (c .before .before .push3 .result) (c .before .before .before .before .before .before .before .before .before .before .before .before .if1 .left) (c .before .before .before .before .before .before .before .before .before .before .before .before .before .before .before .before .before .before .before .before .before .before .pre .0) (c .before .before .before .before .before .before .before .before .before .before .push .ensures .1) (c .before .before .before .before .before .before .push2 .ensures .1) (c .before .before .push3 .ensures .1))
+loop-again-2 c = (
+  omega arith,
+  omega (arith, c .before .before .before .before .before .before .before .before .before .before .push .ensures .0, c .before .before .before .before .before .before .push2 .ensures .0, c .before .before .push3 .ensures .0),
+  c .before .before .push3 .kept .0 ∙ c .before .before .before .before .before .before .push2 .kept .0 ∙ c .before .before .before .before .before .before .before .before .before .before .push .kept .0 ∙ c .before .before .before .before .before .before .before .before .before .before .before .before .before .before .before .before .before .before .loop .inv .2,
+  corner-more (c .before .before .before .before .before .before .before .before .before .before .before .before .before .before .before .before .before .before .before .before .before .before .args .id .now) (c .before .before .before .before .before .before .before .before .before .before .before .before .before .before .before .before .before .before .before .before .before .before .args .n) (c .before .before .before .before .before .before .before .before .before .before .before .before .before .before .before .before .before .before .before .before .before .before .args .of .now) (c .before .before .before .before .before .before .before .before .before .before .before .before .before .before .before .before .before .before .before .before .before .before .args .np) (c .before .before .before .before .before .before .before .before .before .before .before .before .before .before .before .before .before .before .loop .words) (c .before .before .before .before .before .before .before .before .before .before .before .before .before .before .before .before .before .before .loop .k) (c .before .before .before .before .before .before .before .before .before .before .before .before .before .before .before .before .before .before .loop .i) (c .before .before .before .before .before .before .before .before .before .before .before .before .before .before .before .before .before .before .loop .inv .3) (c .before .before .before .before .before .before .before .before .before .before .push .last .0) (c .before .before .before .before .before .before .push2 .last .0) (c .before .before .push3 .last .0) (c .before .before .before .before .before .before .before .before .before .before .push .result) (c .before .before .before .before .before .before .push2 .result) (c .before .before .push3 .result) (c .before .before .before .before .before .before .before .before .before .before .before .before .if1 .left) (c .before .before .before .before .before .before .before .before .before .before .before .before .before .before .before .before .before .before .before .before .before .before .pre .0) (c .before .before .before .before .before .before .before .before .before .before .push .ensures .1) (c .before .before .before .before .before .before .push2 .ensures .1) (c .before .before .push3 .ensures .1),
+)
 
 same-length : tie.Need-same-length Inv-loop μ-loop
 same-length c = c .before .loop .inv .2
