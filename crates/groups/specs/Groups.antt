@@ -53,14 +53,20 @@ runsOf ts ps = let vs = map (verticesOf ts) ps in map (runAt vs) (flatMap (λ v.
 
 -- ---- growing
 
--- `c >= merge_cos && c <= PLANE_NORMAL_COS`: inside the cone of the seed's normal, and not in its plane
+-- `c >= merge_cos && c <= PLANE_NORMAL_COS`: a normal inside the cone of another, and not in its plane
+abbrev pub isTilted : Float → Vec3 → Vec3 → Bool
+isTilted least a b = let c = absOf (dot3Of a b) in le least c && le c planeNormalCos
+
 unfoldable pub inCone : Settings → Patch → Patch → Bool
-inCone s seed q = let c = absOf (dot3Of (seed .normal) (q .normal)) in le (s .mergeCos) c && le c planeNormalCos
+inCone s seed q = isTilted (s .mergeCos) (seed .normal) (q .normal)
+
+-- `(dot3(sn, v) - so).abs() <= cfg.plane_merge_offset`: near a plane
+abbrev pub isNear : Vec3 → Float → Float → Vec3 → Bool
+isNear normal offset most v = le (absOf (sub binary32 (dot3Of normal v) offset)) most
 
 -- `within`: all its vertices near the seed's plane
 unfoldable pub isWithin : Settings → List Triangle → Patch → Patch → Bool
-isWithin s ts seed q =
-    allBy (λ i. allBy (λ v. le (absOf (sub binary32 (dot3Of (seed .normal) v) (seed .offset))) (s .mergeOffset)) (cornersOf (triangleAt ts i))) (q .tris)
+isWithin s ts seed q = allBy (λ i. allBy (isNear (seed .normal) (seed .offset) (s .mergeOffset)) (cornersOf (triangleAt ts i))) (q .tris)
 
 -- whether the group of a seed takes q
 unfoldable pub takes : Settings → List Triangle → Patch → Patch → Bool

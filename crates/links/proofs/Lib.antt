@@ -1,7 +1,7 @@
 -- What the loops of `links` rest on, and the laws of rising lists that other crates cite.
 pub mod Rising
 pub mod Filters
-mod Compacting
+pub mod Compacting
 mod Cutting
-mod Pushing
-mod Linking
+pub mod Pushing
+pub mod Linking

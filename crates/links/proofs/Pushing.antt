@@ -1,10 +1,10 @@
 -- Which words a list has, word by word: the loops that append the words of triangles and of corners.
 use mathlib.Core.Path.{_≡_, refl, sym, ap, _∙_}
-use mathlib.Core.Bool.{Bool, true, false, not, _||_, _&&_}
+use mathlib.Core.Bool.{Bool, true, false, cond, not, _||_, _&&_}
 use mathlib.Core.List.{List, [], _∷_, _++_}
 use Prim.Native.Nat.{ℕ, zero, suc, _+_, _*_, _<_, _≤_}
 use native.Mathlib.Omega.{arith}
-use lib.Dec.{eqb, ltb}
+use lib.Dec.{eqb, ltb, leb}
 use lib.ListN.{length, getD}
 use borrow.Author.Tests.{eq-eqb, ne-eqb, lt-ltb, le-ltb}
 use Rattle.float.proofs.Numbers.{by-order}
@@ -14,8 +14,8 @@ use Rattle.order.proofs.Runs.{any-under}
 use Rattle.patches.specs.Lists.{filterBy}
 use Rattle.patches.specs.Rows.{noneOf, trisIn}
 use Rattle.links.specs.Words.{has, wordOf, uppers}
-use Rattle.links.specs.Links.{isOf, hasCorner, isLinked, runOf, isJoined}
-use Rattle.links.proofs.Rising.{has-snoc, has-upTo}
+use Rattle.links.specs.Links.{isOf, hasCorner, follow, isLinked, runOf, isJoined, Numbers}
+use Rattle.links.proofs.Rising.{clash, has-snoc, has-upTo, has-filter}
 use Rattle.links.proofs.Filters.{eqb-turn, any-more, any-at, filter-cut, filter-below, getD-inside}
 
 pub word-eq : (a b x y : ℕ) → b < 4096 → y < 4096 → eqb (wordOf a b) (wordOf x y) ≡ eqb a x && eqb b y
@@ -149,3 +149,88 @@ module _ (id : List ℕ) (n : ℕ) (of : List ℕ) (m np : ℕ) where
   joined-is vertices run words k p told e =
       filter-below (λ q. has (wordOf p q) (uppers words k)) (isJoined id n vertices of m np p) 4096
       (λ q s. told p q s ∙ any-under (λ v. isLinked (run v) p q) (λ v. isLinked (runOf id n of m np v) p q) vertices (λ v l. ap (λ (r : List ℕ). isLinked r p q) (e v l)))
+
+-- ---- patches from np on are in no run
+
+any-false : (f : ℕ → Bool) (xs : List ℕ) → ((x : ℕ) → f x ≡ false) → anyBy f xs ≡ false
+unfolding anyBy
+any-false f [] e = refl
+any-false f (x ∷ xs) e = rw (e x) (any-false f xs e)
+
+is-past : (of : List ℕ) (np q i : ℕ) → np ≤ q → isOf of np q i ≡ false
+is-past of np q i h = by-order (suc (getD of i 0)) np (λ g. is-some of np q i g ∙ ne-eqb q (getD of i 0) (λ e. omega arith)) (λ g. is-none of np q i (omega arith))
+
+or-left : (a b : Bool) → a || b ≡ false → a ≡ false
+or-left true b e = e
+or-left false b e = refl
+
+or-right : (a b : Bool) → a || b ≡ false → b ≡ false
+or-right true b e = absurd (clash refl e)
+or-right false b e = e
+
+follow-right : (run : List ℕ) (p q : ℕ) → has q run ≡ false → follow run p q ≡ false
+unfolding follow anyBy
+follow-right [] p q e = refl
+follow-right (x ∷ []) p q e = refl
+follow-right (x ∷ y ∷ r) p q e =
+    let t = or-right (eqb q x) (eqb q y || has q r) e in
+    rw (follow-right (y ∷ r) p q t, eqb-turn y q, or-left (eqb q y) (has q r) t) (none (eqb x p))
+  where
+    none : (a : Bool) → (a && false) || false ≡ false
+    none true = refl
+    none false = refl
+
+follow-left : (run : List ℕ) (p q : ℕ) → has q run ≡ false → follow run q p ≡ false
+unfolding follow anyBy
+follow-left [] p q e = refl
+follow-left (x ∷ []) p q e = refl
+follow-left (x ∷ y ∷ r) p q e =
+    let t = or-right (eqb q x) (eqb q y || has q r) e in
+    rw (follow-left (y ∷ r) p q t, eqb-turn x q, or-left (eqb q x) (eqb q y || has q r) e)
+
+pub linked-none : (run : List ℕ) (p q : ℕ) → has q run ≡ false → isLinked run p q ≡ false
+unfolding isLinked
+linked-none run p q e = go (leb (length run) 8)
+  where
+    none : (a b : Bool) → a && b && false ≡ false
+    none true true = refl
+    none true false = refl
+    none false true = refl
+    none false false = refl
+
+    go : (c : Bool) → cond c (not (eqb p q) && has p run && has q run) (follow run p q || follow run q p) ≡ false
+    go true = rw e (none (not (eqb p q)) (has p run))
+    go false = rw (follow-right run p q e, follow-left run p q e)
+
+-- a patch below np is asked for as it is
+pub is-of : (of : List ℕ) (np q i : ℕ) → q < np → isOf of np q i ≡ eqb (getD of i 0) q
+is-of of np q i h =
+    by-order (suc (getD of i 0)) np (λ g. is-some of np q i g ∙ eqb-turn q (getD of i 0)) (λ g. is-none of np q i (omega arith) ∙ sym (ne-eqb (getD of i 0) q (λ e. omega arith)))
+
+module _ (id : List ℕ) (n : ℕ) (of : List ℕ) (m np : ℕ) where
+  corner-past : (v q : ℕ) → np ≤ q → anyBy (hasCorner id n of np v q) (upTo m) ≡ false
+  unfolding hasCorner
+  corner-past v q h = any-false (hasCorner id n of np v q) (upTo m) (λ i. rw (is-past of np q i h))
+
+  pub run-cut : (v : ℕ) → np ≤ 4096 → runOf id n of m np v ≡ filterBy (λ q. anyBy (hasCorner id n of np v q) (upTo m)) (upTo np)
+  unfolding runOf
+  run-cut v h =
+      filter-below (λ q. anyBy (hasCorner id n of np v q) (upTo m)) (λ q. ltb q np && anyBy (hasCorner id n of np v q) (upTo m)) 4096
+      (λ q l. by-order (suc q) np (λ g. rw (lt-ltb q np g)) (λ g. rw (le-ltb q np (omega arith)) (corner-past v q (omega arith))))
+      ∙ filter-cut (λ q. anyBy (hasCorner id n of np v q) (upTo m)) np 4096 h
+
+  run-past : (v q : ℕ) → np ≤ q → has q (runOf id n of m np v) ≡ false
+  unfolding runOf
+  run-past v q h = has-filter (λ x. anyBy (hasCorner id n of np v x) (upTo m)) q (upTo 4096) ∙ rw (corner-past v q h)
+
+  pub joined-cut : (vertices p : ℕ) → np ≤ 4096 → filterBy (isJoined id n vertices of m np p) (upTo 4096) ≡ filterBy (isJoined id n vertices of m np p) (upTo np)
+  unfolding isJoined
+  joined-cut vertices p h =
+      filter-below (isJoined id n vertices of m np p) (λ q. ltb q np && isJoined id n vertices of m np p q) 4096
+      (λ q l. by-order (suc q) np (λ g. rw (lt-ltb q np g))
+      (λ g. rw (le-ltb q np (omega arith)) (any-false (λ v. isLinked (runOf id n of m np v) p q) (upTo vertices) (λ v. linked-none (runOf id n of m np v) p q (run-past v q (omega arith))))))
+      ∙ filter-cut (isJoined id n vertices of m np p) np 4096 h
+
+pub numbers-under : (id : List ℕ) (n m a b : ℕ) → Numbers id n m a → a ≤ b → Numbers id n m b
+numbers-under id n m a b t h =
+    record { first = λ i l. let x = t .first i l in omega arith; second = λ i l. let x = t .second i l in omega arith; third = λ i l. let x = t .third i l in omega arith }

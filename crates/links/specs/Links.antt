@@ -1,5 +1,5 @@
 -- Adjacency of patches: which patches the vertices link.
-use Prim.Native.Nat.{ℕ, _+_, _*_}
+use Prim.Native.Nat.{ℕ, _+_, _*_, _<_}
 use mathlib.Core.Bool.{Bool, true, false, cond, not, _&&_, _||_}
 use mathlib.Core.List.{List, [], _∷_}
 use lib.Dec.{ltb, leb, eqb}
@@ -31,7 +31,13 @@ isLinked run p q =
 unfoldable pub isOf : List ℕ → ℕ → ℕ → ℕ → Bool
 isOf of np q i = ltb (getD of i 0) np && eqb (getD of i 0) q
 
--- and has the corner v: its corners have the numbers id[i], id[n + i] and id[2 n + i]
+-- the corners of m triangles have numbers below a bound: id[i], id[n + i] and id[2 n + i]
+pub record Numbers (id : List ℕ) (n m bound : ℕ) : Type 0 where
+  pub first : (i : ℕ) → i < m → getD id i 0 < bound
+  pub second : (i : ℕ) → i < m → getD id (n + i) 0 < bound
+  pub third : (i : ℕ) → i < m → getD id (2 * n + i) 0 < bound
+
+-- triangle i is one of patch q and has the corner v
 unfoldable pub hasCorner : List ℕ → ℕ → List ℕ → ℕ → ℕ → ℕ → ℕ → Bool
 hasCorner id n of np v q i = isOf of np q i && (eqb (getD id i 0) v || (eqb (getD id (n + i) 0) v || eqb (getD id (2 * n + i) 0) v))
 

@@ -11,7 +11,7 @@ ghost use Rattle.order.specs.Radix.{upper};
 ghost use Rattle.order.specs.Sort.{Sorted};
 ghost use Rattle.order.specs.Runs.{anyBy, upTo};
 ghost use Rattle.links.specs.Words.{mostTriangles, mostRows, wordOf, has, uppers, lows, rowIn, itself, dedup, Cut, Fenced, Rows};
-ghost use Rattle.links.specs.Links.{isOf, hasCorner, linksFrom, linksAll, linksNext, isLinked, runOf, isJoined};
+ghost use Rattle.links.specs.Links.{isOf, hasCorner, linksFrom, linksAll, linksNext, isLinked, runOf, isJoined, Numbers};
 ghost use Rattle.patches.specs.Lists.{filterBy};
 ghost use Rattle.patches.specs.Rows.{trisIn};
 
@@ -192,7 +192,7 @@ fn vertex_words(id: &[u32], n: usize, of: &[u32], m: usize, np: u32, words: &mut
     requires { ⌜ m ≤ mostTriangles ⌝ }
     requires { ⌜ m ≤ n ⌝ }
     requires { ⌜ 3 * n ≤ length (now id) ⌝ }
-    requires { ⌜ ((c : ℕ) → c < 3 * n → getD (now id) c 0 < mostRows) ⌝ }
+    requires { ⌜ Numbers (now id) n m mostRows ⌝ }
     requires { ⌜ m ≤ length (now of) ⌝ }
     requires { ⌜ 3 * m ≤ length (now words) ⌝ }
     ensures { λ r. ⌜ r ≤ 3 * m ⌝ }
@@ -324,7 +324,7 @@ pub fn adjacency(
     requires { ⌜ m ≤ mostTriangles ⌝ }
     requires { ⌜ m ≤ n ⌝ }
     requires { ⌜ 3 * n ≤ length (now id) ⌝ }
-    requires { ⌜ ((c : ℕ) → c < 3 * n → getD (now id) c 0 < vertices) ⌝ }
+    requires { ⌜ Numbers (now id) n m vertices ⌝ }
     requires { ⌜ vertices ≤ mostRows ⌝ }
     requires { ⌜ m ≤ length (now of) ⌝ }
     requires { ⌜ length (now vsorted) ≡ 3 * m ⌝ }
@@ -334,7 +334,7 @@ pub fn adjacency(
     requires { ⌜ 24 * m ≤ length (now sorted) ⌝ }
     requires { ⌜ np < length (now starts) ⌝ }
     ensures { λ _. ⌜ Fenced np (now (sorted .exit)) (now (starts .exit)) ⌝ }
-    ensures { λ _. ⌜ ((p : ℕ) → p < np → rowIn (now (sorted .exit)) (now (starts .exit)) p ≡ filterBy (isJoined (now (id .entry)) n vertices (now (of .entry)) m np p) (upTo mostTriangles)) ⌝ }
+    ensures { λ _. ⌜ ((p : ℕ) → p < np → rowIn (now (sorted .exit)) (now (starts .exit)) p ≡ filterBy (isJoined (now (id .entry)) n vertices (now (of .entry)) m np p) (upTo np)) ⌝ }
 {
     let k = vertex_words(id, n, of, m, np, words);
     make_rows(words, k, scratch, vertices, vsorted, vstarts);

@@ -5,7 +5,7 @@ use native.Mathlib.Omega.{arith}
 use lib.ListN.{length, getD, take, drop}
 use lib.Seq.{length-take-le, length-front}
 use Rattle.links.specs.Words.{rowIn}
-use Rattle.links.proofs.Pushing.{run-is, joined-is}
+use Rattle.links.proofs.Pushing.{run-is, joined-is, joined-cut, numbers-under}
 use Rattle.links.proofs.adjacency.Statement.{statement}
 use Rattle.links.proofs.adjacency.Tie as tie
 
@@ -14,7 +14,7 @@ use Rattle.links.proofs.adjacency.Tie as tie
 vertex-words-requires : tie.Need-vertex-words-requires
 vertex-words-requires c κs =
     let p = c .before .before .before .before .before .before .before .before .before .pre in
-    (p .0, (p .1 .0, (p .1 .1 .0, (p .1 .1 .1 .0, ((λ c h. let b = p .1 .1 .1 .1 .0 c h in omega (arith, b, p .1 .1 .1 .1 .1 .0)), (p .1 .1 .1 .1 .1 .1 .0, omega (arith, p .1 .1 .1 .1 .1 .1 .1 .1 .1 .0)))))))
+    (p .0, (p .1 .0, (p .1 .1 .0, (p .1 .1 .1 .0, (numbers-under (c .before .before .before .before .before .before .before .before .before .args .id .now) (c .before .before .before .before .before .before .before .before .before .args .n) (c .before .before .before .before .before .before .before .before .before .args .m) (c .before .before .before .before .before .before .before .before .before .args .vertices) 1048575 (p .1 .1 .1 .1 .0) (p .1 .1 .1 .1 .1 .0), (p .1 .1 .1 .1 .1 .1 .0, omega (arith, p .1 .1 .1 .1 .1 .1 .1 .1 .1 .0)))))))
 
 make-rows-requires : tie.Need-make-rows-requires
 make-rows-requires c κs =
@@ -45,7 +45,8 @@ returns c =
       λ p h.
           c .before .before .before .before .before .before .before .before .make-rows2 .ensures .are p h
           ∙ joined-is (a .id .now) (a .n) (a .of .now) (a .m) (a .np) (a .vertices) (rowIn (c .before .before .before .before .before .before .before .before .before .before .before .before .before .before .before .before .before .before .before .before .before .before .before .before .before .before .before .make-rows .last .1 .1 .1 .1 .0) (c .before .before .before .before .before .before .before .before .before .before .before .before .before .before .before .before .before .before .before .before .before .before .before .before .before .before .before .make-rows .last .1 .1 .1 .1 .1 .0)) (c .before .before .before .before .before .before .before .before .before .before .before .before .before .before .before .link-rows .last .1 .1 .1 .0) (c .before .before .before .before .before .before .before .before .before .before .before .before .before .before .before .link-rows .result) p (c .before .before .before .before .before .before .before .before .before .before .before .before .before .before .before .link-rows .ensures .1)
-          (λ v l. c .before .before .before .before .before .before .before .before .before .before .before .before .before .before .before .before .before .before .before .before .before .before .before .before .before .before .before .make-rows .ensures .are v l ∙ run-is (a .id .now) (a .n) (a .of .now) (a .m) (a .np) (c .before .before .before .before .before .before .before .before .before .before .before .before .before .before .before .before .before .before .before .before .before .before .before .before .before .before .before .before .before .before .before .before .before .before .vertex-words .last .1 .1 .1 .1 .1 .0) (c .before .before .before .before .before .before .before .before .before .before .before .before .before .before .before .before .before .before .before .before .before .before .before .before .before .before .before .before .before .before .before .before .before .before .vertex-words .result) v (c .before .before .before .before .before .before .before .before .before .before .before .before .before .before .before .before .before .before .before .before .before .before .before .before .before .before .before .before .before .before .before .before .before .before .vertex-words .ensures .1)),
+          (λ v l. c .before .before .before .before .before .before .before .before .before .before .before .before .before .before .before .before .before .before .before .before .before .before .before .before .before .before .before .make-rows .ensures .are v l ∙ run-is (a .id .now) (a .n) (a .of .now) (a .m) (a .np) (c .before .before .before .before .before .before .before .before .before .before .before .before .before .before .before .before .before .before .before .before .before .before .before .before .before .before .before .before .before .before .before .before .before .before .vertex-words .last .1 .1 .1 .1 .1 .0) (c .before .before .before .before .before .before .before .before .before .before .before .before .before .before .before .before .before .before .before .before .before .before .before .before .before .before .before .before .before .before .before .before .before .before .vertex-words .result) v (c .before .before .before .before .before .before .before .before .before .before .before .before .before .before .before .before .before .before .before .before .before .before .before .before .before .before .before .before .before .before .before .before .before .before .vertex-words .ensures .1))
+          ∙ joined-cut (a .id .now) (a .n) (a .of .now) (a .m) (a .np) (a .vertices) p (c .before .before .before .before .before .before .before .before .before .before .before .before .before .before .before .before .before .before .before .before .before .before .before .before .before .before .before .before .before .before .before .before .before .before .before .before .before .before .before .before .before .before .before .before .pre .0),
     )
 
 pub adjacency-spec : {M : Type 1} → statement M

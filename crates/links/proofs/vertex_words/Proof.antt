@@ -25,13 +25,13 @@ loop-again : tie.Need-loop-again Inv-loop μ-loop
 loop-again c = (omega arith, omega arith, c .before .before .before .before .before .before .loop .inv .2, corner-skip (c .before .before .before .before .before .before .before .before .before .before .args .id .now) (c .before .before .before .before .before .before .before .before .before .before .args .n) (c .before .before .before .before .before .before .before .before .before .before .args .of .now) (c .before .before .before .before .before .before .before .before .before .before .args .np) (c .before .before .before .before .before .before .loop .words) (c .before .before .before .before .before .before .loop .k) (c .before .before .before .before .before .before .loop .i) (c .before .before .before .before .before .before .loop .inv .3) (c .if1 .taken))
 
 push-requires : tie.Need-push-requires Inv-loop μ-loop
-push-requires c κs = (omega (arith, c .before .before .before .before .before .before .before .loop .inv .2), (c .before .before .before .before .before .before .before .before .before .before .before .pre .1 .1 .1 .1 .0 (c .before .before .before .before .before .before .before .loop .i) (omega arith), omega (arith, c .before .if1 .left)))
+push-requires c κs = (omega (arith, c .before .before .before .before .before .before .before .loop .inv .2), (c .before .before .before .before .before .before .before .before .before .before .before .pre .1 .1 .1 .1 .0 .first (c .before .before .before .before .before .before .before .loop .i) (c .before .before .before .before .before .before .loop-test .taken), omega (arith, c .before .if1 .left)))
 
 push-requires-2 : tie.Need-push-requires-2 Inv-loop μ-loop
-push-requires-2 c κs = (omega (arith, c .before .before .before .before .before .before .before .before .before .before .before .loop .inv .2, c .before .before .before .push .kept .0, c .before .before .before .push .ensures .0), (c .before .before .before .before .before .before .before .before .before .before .before .before .before .before .before .pre .1 .1 .1 .1 .0 (c .before .before .before .before .before .before .before .before .before .before .before .before .before .before .before .args .n + c .before .before .before .before .before .before .before .before .before .before .before .loop .i) (omega arith), omega (arith, c .before .before .before .before .before .if1 .left)))
+push-requires-2 c κs = (omega (arith, c .before .before .before .before .before .before .before .before .before .before .before .loop .inv .2, c .before .before .before .push .kept .0, c .before .before .before .push .ensures .0), (c .before .before .before .before .before .before .before .before .before .before .before .before .before .before .before .pre .1 .1 .1 .1 .0 .second (c .before .before .before .before .before .before .before .before .before .before .before .loop .i) (c .before .before .before .before .before .before .before .before .before .before .loop-test .taken), omega (arith, c .before .before .before .before .before .if1 .left)))
 
 push-requires-3 : tie.Need-push-requires-3 Inv-loop μ-loop
-push-requires-3 c κs = (omega (arith, c .before .before .before .before .before .before .before .before .before .before .before .before .before .before .before .loop .inv .2, c .before .before .before .before .before .before .before .push .kept .0, c .before .before .before .before .before .before .before .push .ensures .0, c .before .before .before .push2 .kept .0, c .before .before .before .push2 .ensures .0), (c .before .before .before .before .before .before .before .before .before .before .before .before .before .before .before .before .before .before .before .pre .1 .1 .1 .1 .0 (2 * c .before .before .before .before .before .before .before .before .before .before .before .before .before .before .before .before .before .before .before .args .n + c .before .before .before .before .before .before .before .before .before .before .before .before .before .before .before .loop .i) (omega arith), omega (arith, c .before .before .before .before .before .before .before .before .before .if1 .left)))
+push-requires-3 c κs = (omega (arith, c .before .before .before .before .before .before .before .before .before .before .before .before .before .before .before .loop .inv .2, c .before .before .before .before .before .before .before .push .kept .0, c .before .before .before .before .before .before .before .push .ensures .0, c .before .before .before .push2 .kept .0, c .before .before .before .push2 .ensures .0), (c .before .before .before .before .before .before .before .before .before .before .before .before .before .before .before .before .before .before .before .pre .1 .1 .1 .1 .0 .third (c .before .before .before .before .before .before .before .before .before .before .before .before .before .before .before .loop .i) (c .before .before .before .before .before .before .before .before .before .before .before .before .before .before .loop-test .taken), omega (arith, c .before .before .before .before .before .before .before .before .before .if1 .left)))
 
 loop-again-2 : tie.Need-loop-again-2 Inv-loop μ-loop
 loop-again-2 c = (

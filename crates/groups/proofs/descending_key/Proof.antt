@@ -1,0 +1,26 @@
+use borrow.Author.Needs.{needs}
+use mathlib.Core.Path.{_≡_, refl, sym, ap, _∙_}
+use mathlib.Core.Bool.{Bool, true, false, not, _&&_}
+use Prim.Native.Nat.{ℕ, _+_, _-_, _*_, _%_, _≤_, _<_}
+use native.Mathlib.Omega.{arith}
+use lib.ListN.{length, getD, take, drop, length-set}
+use Rattle.groups.specs.Groups.{rankOf, descendingKey, isTilted, isNear}
+use Rattle.groups.proofs.descending_key.Statement.{statement}
+use Rattle.groups.proofs.descending_key.Tie as tie
+
+-- `groups::descending_key` meets its contract: from that of `rank`.
+
+returns : tie.Need-returns
+unfolding descendingKey
+returns c = rw (← c .rank .ensures)
+
+pub descending-key-spec : {M : Type 1} → statement M
+descending-key-spec =
+    tie.close
+    (tie.spec
+    (λ c κs. tt)
+    (λ c. omega arith)
+    (λ c. omega arith)
+    (λ c. omega arith)
+    (λ c. omega arith)
+    returns)

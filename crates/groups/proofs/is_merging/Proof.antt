@@ -1,0 +1,30 @@
+use borrow.Author.Needs.{needs}
+use mathlib.Core.Path.{_≡_, refl, sym, ap, _∙_}
+use mathlib.Core.Bool.{Bool, true, false, not, _&&_}
+use mathlib.Core.List.{List, [], _∷_, map}
+use Prim.Native.Nat.{ℕ, _+_, _-_, _*_, _%_, _≤_, _<_}
+use native.Mathlib.Omega.{arith}
+use lib.ListN.{length, getD, take, drop, set, length-set}
+use lib.Dec.{ltb}
+use lib.Ieee.{lt}
+use Rattle.groups.proofs.is_merging.Statement.{statement}
+use Rattle.groups.proofs.is_merging.Tie as tie
+
+-- `groups::is_merging` meets its contract: by the three tests.
+
+returns : tie.Need-returns
+returns c = rw (c .before .if1 .taken, c .if2 .taken)
+
+returns-2 : tie.Need-returns-2
+returns-2 c = rw (c .before .if1 .taken, c .if2 .left)
+
+returns-3 : tie.Need-returns-3
+returns-3 c = rw (c .if1 .left)
+
+pub is-merging-spec : {M : Type 1} → statement M
+is-merging-spec =
+    tie.close
+    (tie.spec
+    returns
+    returns-2
+    returns-3)

@@ -1,0 +1,32 @@
+use borrow.Author.Needs.{needs}
+use mathlib.Core.Path.{_≡_, refl, sym, ap, _∙_}
+use mathlib.Core.Bool.{Bool, true, false, not, _&&_}
+use Prim.Native.Nat.{ℕ, _+_, _-_, _*_, _%_, _≤_, _<_}
+use native.Mathlib.Omega.{arith}
+use lib.ListN.{length, getD, take, drop, length-set}
+use Rattle.patches.specs.Rows.{vecIn}
+use Rattle.groups.proofs.normal_of.Statement.{statement}
+use Rattle.groups.proofs.normal_of.Tie as tie
+
+-- `groups::normal_of` meets its contract: as it reads.
+
+returns : tie.Need-returns
+unfolding vecIn
+returns c = refl
+
+pub normal-of-spec : {M : Type 1} → statement M
+normal-of-spec =
+    tie.close
+    (tie.spec
+    (λ c. omega arith)
+    (λ c. omega arith)
+    (λ c. omega arith)
+    (λ c. omega arith)
+    (λ c. omega arith)
+    (λ c. omega arith)
+    (λ c. omega arith)
+    (λ c. omega arith)
+    (λ c. omega arith)
+    (λ c. omega arith)
+    (λ c. omega arith)
+    returns)

@@ -1,0 +1,31 @@
+use borrow.Author.Needs.{needs}
+use mathlib.Core.Path.{_≡_, refl, sym, ap, _∙_}
+use mathlib.Core.Bool.{Bool, true, false, not, _&&_}
+use Prim.Native.Nat.{ℕ, _+_, _-_, _*_, _%_, _≤_, _<_}
+use native.Mathlib.Omega.{arith}
+use lib.ListN.{length, getD, take, drop, length-set}
+use Rattle.groups.specs.Groups.{rankOf, descendingKey, isTilted, isNear}
+use Rattle.groups.proofs.rank.Statement.{statement}
+use Rattle.groups.proofs.rank.Tie as tie
+
+-- `groups::rank` meets its contract: by the test for NaN.
+
+returns : tie.Need-returns
+unfolding rankOf
+returns c = rw (← c .before .is-nan .ensures, c .if1 .taken)
+
+float-key-requires : tie.Need-float-key-requires
+float-key-requires c κs = rw (← c .before .is-nan .ensures, c .if1 .left) tt
+
+returns-2 : tie.Need-returns-2
+unfolding rankOf
+returns-2 c = rw (← c .before .before .is-nan .ensures, c .before .if1 .left) (c .float-key .ensures)
+
+pub rank-spec : {M : Type 1} → statement M
+rank-spec =
+    tie.close
+    (tie.spec
+    (λ c κs. tt)
+    returns
+    float-key-requires
+    returns-2)

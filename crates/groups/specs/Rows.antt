@@ -1,0 +1,88 @@
+-- Groups in areas: the patches of all groups one after another, and where each group starts. Beside that, what the code's contracts cite.
+use mathlib.Core.Path.{_≡_}
+use mathlib.Core.Bool.{Bool, not, _&&_}
+use mathlib.Core.List.{List, [], _∷_, _++_, map}
+use Prim.Native.Nat.{ℕ, zero, suc, _+_, _*_, _<_, _≤_}
+use lib.Dec.{eqb}
+use lib.ListN.{length, getD, take}
+use lib.Ieee.{Float, nan}
+use Rattle.order.specs.Sort.{Below}
+use Rattle.order.specs.Runs.{headOr, upTo}
+use Rattle.vector.specs.declared.Vec3.{Vec3}
+use Rattle.columns.specs.Columns.{vecAtOf, triangleAtOf}
+use Rattle.faces.specs.Key.{sameKey, vertexKey}
+use Rattle.patches.specs.Lists.{filterBy, allBy}
+use Rattle.patches.specs.Triangles.{cornersOf}
+use Rattle.patches.specs.Rows.{patchFloats, vecIn}
+use Rattle.links.specs.Words.{partOf, rowIn, Fenced}
+use Rattle.groups.specs.Groups.{descendingKey, isTilted, isNear, grownOf}
+
+-- group g stands in the queue from starts[g] to starts[g + 1]
+unfoldable pub groupsIn : List ℕ → List ℕ → ℕ → List (List ℕ)
+groupsIn queue starts ng = map (λ g. partOf queue (getD starts g 0) (getD starts (g + 1) 0)) (upTo ng)
+
+-- ---- what the code reads
+
+-- rows of numbers below a bound
+pub record Table (rows bound : ℕ) (sorted starts : List ℕ) : Type 0 where
+  pub fenced : Fenced rows sorted starts
+  pub long : rows < length starts
+  pub below : (r : ℕ) → r < rows → Below bound (rowIn sorted starts r)
+
+-- corner c of triangle i
+unfoldable pub cornerIn : List Float → ℕ → ℕ → ℕ → Vec3
+cornerIn area n zero i = vecAtOf area n i
+cornerIn area n (suc zero) i = vecAtOf area n (i + 3 * n)
+cornerIn area n (suc (suc c)) i = vecAtOf area n (i + 6 * n)
+
+-- its number
+unfoldable pub numberIn : List ℕ → ℕ → ℕ → ℕ → ℕ
+numberIn id n zero i = getD id i 0
+numberIn id n (suc zero) i = getD id (n + i) 0
+numberIn id n (suc (suc c)) i = getD id (2 * n + i) 0
+
+-- the corners of m triangles have equal numbers where they are the same vertex: what `faces::first_faces` leaves in id
+pub record Numbered (area : List Float) (n m : ℕ) (id : List ℕ) : Type 0 where
+  pub same : (c d i j : ℕ) → c < 3 → d < 3 → i < m → j < m
+      → eqb (numberIn id n c i) (numberIn id n d j) ≡ sameKey (vertexKey (cornerIn area n c i)) (vertexKey (cornerIn area n d j))
+
+-- the key of patch p as a seed
+abbrev pub seedKeyIn : List Float → List ℕ → List ℕ → ℕ → ℕ
+seedKeyIn rows sorted starts p = descendingKey (getD rows (patchFloats * p + 4) nan) (headOr 0 (rowIn sorted starts p))
+
+-- ---- growing
+
+-- `takes` of two patches in areas
+unfoldable pub takesIn : List Float → List ℕ → ℕ → List Float → List ℕ → List ℕ → Float → Float → ℕ → ℕ → Bool
+takesIn area handles n rows sorted starts least most a b =
+    isTilted least (vecIn rows (patchFloats * a)) (vecIn rows (patchFloats * b))
+    && allBy (λ i. allBy (isNear (vecIn rows (patchFloats * a)) (getD rows (patchFloats * a + 3) nan) most) (cornersOf (triangleAtOf area handles n i))) (rowIn sorted starts b)
+
+-- a patch is free where `assigned` has 0
+abbrev pub isFree : List ℕ → ℕ → Bool
+isFree assigned q = eqb (getD assigned q 0) 0
+
+-- the patches that are still free
+unfoldable pub freeOf : ℕ → List ℕ → List ℕ
+freeOf np assigned = filterBy (isFree assigned) (upTo np)
+
+-- the first `tail` of the queue are the patches that are not free
+pub record Queue (np : ℕ) (assigned queue : List ℕ) (tail : ℕ) : Type 0 where
+  pub column : np ≤ length assigned
+  pub room : np ≤ length queue
+  pub total : tail + length (freeOf np assigned) ≡ np
+  pub below : Below np (take tail queue)
+
+-- from a queue and a column, a row of patches adj: those of the free ones that fit follow in the queue, and the others stay free
+pub record LetIn (np : ℕ) (fit adj : ℕ → Bool) (assigned queue : List ℕ) (tail : ℕ) (assigned2 queue2 : List ℕ) (tail2 : ℕ) : Type 0 where
+  pub added : take tail2 queue2 ≡ take tail queue ++ filterBy (λ q. adj q && fit q) (freeOf np assigned)
+  pub left : freeOf np assigned2 ≡ filterBy (λ q. not (adj q && fit q)) (freeOf np assigned)
+
+-- the group that grows from `members`, the end of the queue, follows what stands before them
+pub record Grown (np : ℕ) (adj : ℕ → ℕ → Bool) (fit : ℕ → Bool) (before members free assigned2 queue2 : List ℕ) (tail2 : ℕ) : Type 0 where
+  pub group : take tail2 queue2 ≡ before ++ grownOf np adj fit members free .0
+  pub left : freeOf np assigned2 ≡ grownOf np adj fit members free .1
+
+-- the rows are those of a relation
+abbrev pub RowsOf : ℕ → List ℕ → List ℕ → (ℕ → ℕ → Bool) → Type 0
+RowsOf np sorted starts adj = (p : ℕ) → p < np → rowIn sorted starts p ≡ filterBy (adj p) (upTo np)
