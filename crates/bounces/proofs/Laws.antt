@@ -1,16 +1,17 @@
 -- Laws on the definitions: an image in one plane more, the ways that a turn back goes, and that a way back depends only on the planes and
 -- images below its start.
 use mathlib.Core.Path.{_≡_, refl, sym, ap, _∙_}
-use mathlib.Core.List.{List, [], _∷_, _++_, foldl}
+use mathlib.Core.List.{List, [], _∷_, _++_}
 use Prim.Native.Nat.{ℕ, zero, suc, _+_, _-_, _<_, _≤_}
 use native.Mathlib.Numerals.{add-one}
 use native.Mathlib.Omega.{arith}
 use lib.Ieee.{Float, binary32, mul}
 use lib.ListN.{length, getD, set, take, drop, length-set}
-use lib.Seq.{slice, slice-cons, getD-set-same, take-set-lt, drop-set-lt}
+use lib.Seq.{slice, slice-cons, getD-set-same, getD-set-other, take-set-le, take-set-lt, take-suc-set, drop-set-lt}
+use Rattle.float.proofs.Numbers.{by-order}
 use Rattle.vector.specs.declared.Vec3.{Vec3}
 use Rattle.geometry.specs.declared.Triangle.{Triangle}
-use Rattle.mirror.specs.Plane.{Plane, planeAt}
+use Rattle.mirror.specs.Plane.{Plane, noPoint, planeAt}
 use Rattle.mirror.specs.Mirror.{mirrorOf}
 use Rattle.mirror.specs.Rows.{rowOf, trisOf, borderOf, planeOf, planeIn, planesIn}
 use Rattle.mirror.proofs.Laws.{plane-at}
@@ -35,6 +36,22 @@ pub image-next : (planes : List Plane) (source : Vec3) (seq : List ℕ) (p : ℕ
 unfolding imageOf
 image-next planes source [] p = refl
 image-next planes source (q ∷ seq) p = image-next planes (mirrorOf (planeAt planes q) source) seq p
+
+-- the images of a sequence that gets plane p at d, and v in the place of its image: what a search holds on its way down
+pub images-put :
+    (planes : List Plane) (source : Vec3) (seq : List ℕ) (images : List Vec3) (d p : ℕ) (v : Vec3) → d < length seq → d + 1 < length images →
+    v ≡ mirrorOf (planeAt planes p) (getD images d noPoint) →
+    ((j : ℕ) → j ≤ d → getD images j noPoint ≡ imageOf planes source (take j seq)) →
+    (j : ℕ) → j ≤ d + 1 → getD (set images (d + 1) v) j noPoint ≡ imageOf planes source (take j (set seq d p))
+images-put planes source seq images d p v low high e are j h =
+    by-order j d
+    (λ before.
+    let ne : (j ≡ d + 1 → ⊥) = λ z. omega (arith, z, before) in
+    getD-set-other images (d + 1) j v noPoint ne ∙ are j before ∙ ap (imageOf planes source) (sym (take-set-le j seq d p before)))
+    (λ after.
+    let at : j ≡ d + 1 = omega arith in
+    let taken : take (d + 1) (set seq d p) ≡ take d seq ++ (p ∷ []) = rw add-one (take-suc-set seq d p low) in
+    rw (at, getD-set-same images (d + 1) v noPoint high, taken, image-next planes source (take d seq) p, ← are d (omega arith)) e)
 
 -- ---- a store in a run
 

@@ -1,14 +1,13 @@
 -- The laws that the proofs cite: the plane at an index, the runs of a plane, and one step of each loop over them.
-use mathlib.Core.Path.{_≡_, refl, sym, ap, _∙_}
+use mathlib.Core.Path.{_≡_, refl, ap, _∙_}
 use mathlib.Core.Bool.{cond}
 use mathlib.Core.List.{List, [], _∷_, _++_, map, foldl}
 use Prim.Native.Nat.{ℕ, zero, suc, _+_, _-_, _<_, _≤_}
 use native.Mathlib.Numerals.{add-one}
 use native.Mathlib.Omega.{arith}
 use lib.Ieee.{Float}
-use lib.ListN.{length, getD, take, drop, length-drop, drop-of-length-le}
-use lib.Seq.{drop-cons, length-take-le}
-use Rattle.order.specs.Sort.{Below}
+use lib.ListN.{length, getD, drop, drop-of-length-le}
+use lib.Seq.{drop-cons}
 use Rattle.order.specs.Runs.{upTo}
 use Rattle.vector.specs.declared.Vec3.{Vec3}
 use Rattle.vector.specs.declared.Ray.{Ray}
@@ -16,7 +15,7 @@ use Rattle.geometry.specs.declared.Triangle.{Triangle}
 use Rattle.geometry.specs.Intersect.{intersectMaxOf}
 use Rattle.geometry.specs.Contains.{containsOf, containsPointOf}
 use Rattle.columns.specs.Columns.{vecAtOf, edgesAtOf, dotsAtOf}
-use Rattle.mirror.specs.Plane.{Edge, Plane, noPlane, planeAt}
+use Rattle.mirror.specs.Plane.{noPlane, planeAt}
 use Rattle.mirror.specs.Border.{nearerOf}
 use Rattle.mirror.specs.Locate.{snapOf, snapEdgesOf, snapAllOf, findOf}
 use Rattle.mirror.specs.Rows.{edgeIn, edgesIn, planeIn, planesIn, ReadsAs}

@@ -9,7 +9,7 @@ use Rattle.vector.specs.declared.Vec3.{Vec3}
 use Rattle.vector.specs.Vector.{dot3Of, sub3Of, distance3Of}
 use Rattle.geometry.specs.Aabb.{two}
 use Rattle.geometry.specs.Triangle.{three}
-use Rattle.mirror.specs.Plane.{Edge, Plane}
+use Rattle.mirror.specs.Plane.{Edge}
 use Rattle.mirror.specs.Mirror.{alongOf}
 
 -- 1e-20

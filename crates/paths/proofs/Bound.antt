@@ -23,7 +23,6 @@ use Rattle.bounces.specs.declared.Bounce.the-variants.{NotCrossed, OffSurface, 
 use Rattle.bounces.specs.Image.{imageOf, imageAt}
 use Rattle.bounces.specs.Bounces.{bounceOf, Bounces, notCrossed, offSurface, made, thenOf, backOf, planeOn, bouncesOf}
 use Rattle.paths.specs.declared.Way.{Way}
-use Rattle.paths.specs.declared.Verdict.{Verdict}
 use Rattle.paths.specs.declared.Fate.the-variants.{TooFar}
 use Rattle.paths.specs.Visibility.{startOf, goOf, goAllOf, wayOf}
 use Rattle.paths.specs.Path.{verdict, bouncedOf, pathWith, pathOf}

@@ -1,13 +1,13 @@
 -- Document 01's case A, by computing: the path by way of the floor has one bounce at (1.5, 0, 0), a delay of 750 samples and 36 rays. The floor's
 -- plane is the one that `planes/proofs/SceneQuad` works out.
 use mathlib.Core.Path.{_≡_, refl}
-use mathlib.Core.Bool.{Bool, true, false}
+use mathlib.Core.Bool.{true, false}
 use mathlib.Core.List.{List, [], _∷_}
 use Prim.Native.Nat.{ℕ}
 use lib.IntN.{pos, negsuc}
 use lib.ListN.{getD}
-use lib.Ieee.{Float, fin, nan, binary32, add, sub, mul, div, neg, lt, le, eq, isNan, ofBits, round}
-use Rattle.float.specs.Literals.{zero32, one32}
+use lib.Ieee.{Float, fin, binary32, add, sub, mul, div, neg, lt, le, eq, isNan, ofBits}
+use Rattle.float.specs.Literals.{one32}
 use Rattle.float.specs.Compare.{minOf, maxOf, absOf, clampOf, isFinite}
 use Rattle.float.specs.Sqrt.{isqrt, rootOf, sqrtOf}
 use Rattle.vector.specs.declared.Vec3.{Vec3}
@@ -19,8 +19,6 @@ use Rattle.geometry.specs.Aabb.{box}
 use Rattle.geometry.specs.Slab.{padOf, paddedOf, narrowOf, axisOf, slabOf, intersectTOf}
 use Rattle.geometry.specs.Intersect.{edgesOf, parallelOf, outsideOf, withinOf, solveOf, crossingOf, intersectMaxOf}
 use Rattle.geometry.specs.Contains.{dotsOf, insideOf, containsOf, containsPointOf}
-use Rattle.bands.specs.declared.Band8.{Band8}
-use Rattle.bands.specs.declared.DistanceModel.{DistanceModel}
 use Rattle.bands.specs.declared.DistanceCurve.the-variants.{Inverse}
 use Rattle.bands.specs.Band8.{splatOf, zerosOf, mulOf, scaleOf, sumOfSquaresOf}
 use Rattle.bands.specs.Distance.{heldOf, furthestOf, betweenOf, inverseOf, curveOf, gainOf}
@@ -32,7 +30,7 @@ use Rattle.mirror.specs.Plane.{Edge, Plane, planeAt}
 use Rattle.mirror.specs.Mirror as mirror
 use Rattle.mirror.specs.Border.{nearestOf, pointSegmentDistanceOf, nearerOf, borderDistanceOf, smoothOf, weightOf}
 use Rattle.mirror.specs.Locate as locate
-use Rattle.segments.specs.Materials.{bandsIn, clampedOf, transmissionOf, coefficientOf, coefficientsOf, reflectionOf}
+use Rattle.segments.specs.Materials.{bandsIn, transmissionOf, coefficientOf, coefficientsOf, reflectionOf}
 use Rattle.segments.specs.Segment.{maxCrossings, visibilityRadius, transmission, segmentRayOf, walkOf, segmentTransmissionOf, offsetOf, midOf, addPartOf, probeOf, probesOf, segmentSoftTransmissionOf}
 use Rattle.segments.specs.Areas.{traceIn}
 use Rattle.bounces.specs.Image.{imageOf}

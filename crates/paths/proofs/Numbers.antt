@@ -1,12 +1,11 @@
 -- The candidate of a path is a number in all its parts, where distance, speed and rate lie within document 01's limits: its energy was tested; its
 -- delay is a length up to 1,000 times the rate by the speed; and its direction is that of the first segment, whose length is a part of the whole.
-use mathlib.Core.Path.{_≡_, refl, sym, ap, _∙_}
+use mathlib.Core.Path.{_≡_, refl}
 use mathlib.Core.Bool.{Bool, true, false, not, cond, _&&_}
 use mathlib.Core.List.{List, [], _∷_}
-use Prim.Native.Nat.{ℕ, zero, suc, _+_, _-_, _<_}
+use Prim.Native.Nat.{ℕ, _+_, _-_, _<_}
 use native.Mathlib.Omega.{arith}
 use lib.Dec.{T}
-use lib.IntN.{pos}
 use lib.ListN.{length, getD}
 use lib.Ieee.{Float, nan, inf, fin, binary32, add, mul, div, lt, le, eq, fits, isNan, ofBits}
 use lib.Ieee.Positive.{positive, le-trans-positive}
@@ -105,12 +104,6 @@ gains-numbers g h7 =
       n6 = number-square binary32 (g .b6) (number-right binary32 _ _ h6);
       n7 = number-square binary32 (g .b7) (number-right binary32 _ _ h7);
     }
-
-finite-number : (x : Float) → T (isFinite x) → T (isNumber x)
-unfolding isFinite isNan
-finite-number nan h = absurd h
-finite-number (inf s) h = absurd h
-finite-number (fin s m e) h = tt
 
 module _ (v : Vec3) (h : T (isFinite (length3Of v))) where
   square-finite : T (isFinite (dot3Of v v))

@@ -1,17 +1,17 @@
 -- Floats within a range: a product and a quotient of values in range are finite and above zero, and so large a quotient that it is not finite needs
 -- a divisor next to nothing.
-use mathlib.Core.Path.{_≡_, refl, sym, ap, _∙_, subst}
+use mathlib.Core.Path.{_≡_, sym, ap, _∙_, subst}
 use mathlib.Core.Bool.{Bool, true, false, not, cond, _&&_}
-use Prim.Native.Nat.{ℕ, zero, suc, _+_, _-_, _*_, _/_, _%_, _^_, _<_, _≤_, compare}
+use Prim.Native.Nat.{ℕ, zero, suc, _-_, _*_, _/_, _%_, _^_, _<_, _≤_, compare}
 use native.Mathlib.Nat.{mul-pos, zero-lt-suc, mul-comm, mul-one, mul-mul-mul-comm, mul-le-mul, le-trans, le-of-eq, le-of-lt}
 use native.Mathlib.Omega.{arith}
-use borrow.Author.Tests.{le-ltb, ne-eqb}
+use borrow.Author.Tests.{ne-eqb}
 use lib.Dec.{T, ltb, leb, eqb, leb→le, nltb→le, ltb→lt, lt→ltb}
 use lib.IntN.{ℤ, pos, negsuc}
-use lib.Ieee.{Float, nan, inf, fin, Format, binary32, prec, emax, low, size, nearest, up, down, unlike, odd, units, round, mul, div, lt, le, eq, fits, ofBits}
+use lib.Ieee.{Float, nan, inf, fin, Format, binary32, size, nearest, up, down, unlike, odd, units, round, mul, div, lt, le, fits, ofBits}
 use lib.Ieee.Fits.{up-pos, down-pos, and-l, and-r}
 use lib.Ieee.Order.{round-mono}
-use lib.Ieee.Positive.{num, den, positive, den-pos, le→cross, cross→le, le-trans-positive, between, mul-mono}
+use lib.Ieee.Positive.{num, den, positive, den-pos, le→cross, cross→le, between, mul-mono}
 use Rattle.float.specs.Literals.{zero32}
 use Rattle.float.proofs.Numbers.{by-order}
 use Rattle.float.proofs.Squares.{square-lt-back}

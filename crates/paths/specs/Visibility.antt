@@ -1,6 +1,6 @@
 -- The second loop of `validate_image_path`: 'Visibility of every segment L -> B_n -> .. -> B_1 -> S', and the length of the whole.
 -- `soft` says what is left of a sound along a segment, and the traces made for it.
-use Prim.Native.Nat.{ℕ, _+_}
+use Prim.Native.Nat.{_+_}
 use lib.Ieee.{binary32, add}
 use mathlib.Core.List.{List, [], _∷_}
 use Rattle.float.specs.Literals.{zero32, one32}

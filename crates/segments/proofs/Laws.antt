@@ -1,6 +1,6 @@
 -- Laws on the definitions, for any trace and any limit: the four ways that a turn of the walk goes, and how many traces there are. And that a
 -- hit's handle is a triangle's.
-use mathlib.Core.Path.{_≡_, refl, sym, ap, _∙_}
+use mathlib.Core.Path.{_≡_, refl}
 use mathlib.Core.Bool.{Bool, true, false, cond}
 use Prim.Native.Nat.{ℕ, zero, suc, _+_, _-_, _*_, _≤_}
 use native.Mathlib.Omega.{arith}

@@ -1,15 +1,14 @@
 -- The square of a difference does not depend on which is taken from which, so neither does a distance: `distance3(from, to)` and the length
 -- that `normalize3(sub3(to, from))` divides by are one root.
-use mathlib.Core.Path.{_≡_, refl, sym, ap, _∙_}
+use mathlib.Core.Path.{_≡_, refl, ap, _∙_}
 use mathlib.Core.Bool.{Bool, true, false, not, cond}
-use Prim.Native.Nat.{ℕ, zero, suc, _+_, _-_, _*_, _/_, _%_, _^_, _<_, _≤_, compare}
+use Prim.Native.Nat.{ℕ, zero, suc, _+_, _-_, _*_, _/_, _%_, _^_, _≤_, compare}
 use native.Mathlib.Nat.{mul-comm, add-comm}
 use native.Mathlib.Omega.{arith}
 use borrow.Author.Tests.{lt-ltb, le-ltb}
 use lib.Dec.{ltb}
 use lib.IntN.{ℤ, pos}
 use lib.Ieee.{Float, nan, inf, fin, Format, binary32, prec, emax, low, size, nearest, up, down, unlike, odd, units, round, neg, sum, add, sub, mul}
-use Rattle.float.specs.Sqrt.{sqrtOf}
 use Rattle.float.proofs.Numbers.{by-order}
 use Rattle.vector.specs.declared.Vec3.{Vec3}
 use Rattle.vector.specs.Vector.{dot3Of, sub3Of, length3Of, distance3Of}

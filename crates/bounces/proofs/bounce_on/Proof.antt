@@ -1,5 +1,4 @@
 -- `bounces::bounce_on` meets its contract: the plane's row, its crossing and its point.
-use mathlib.Core.Path.{_≡_}
 use native.Mathlib.Omega.{arith}
 use borrow.Author.Needs.{needs}
 use Rattle.mirror.specs.Rows.{trisOf, borderOf}

@@ -1,5 +1,4 @@
 -- `bounces::lies_on` meets its contract: the plane's row is what the distance is taken from.
-use mathlib.Core.Path.{_≡_}
 use Rattle.mirror.specs.Rows.{trisOf, borderOf}
 use Rattle.bounces.specs.Image.{liesOnOf}
 use Rattle.bounces.proofs.Laws.{plane-row}

@@ -1,5 +1,4 @@
 -- `bounces::next_image` meets its contract: the plane's row is what it is mirrored in.
-use mathlib.Core.Path.{_≡_}
 use Rattle.mirror.specs.Rows.{trisOf, borderOf}
 use Rattle.bounces.proofs.Laws.{plane-row}
 use Rattle.bounces.proofs.next_image.Statement.{statement}

@@ -1,5 +1,4 @@
 -- `mirror::spot_on` meets its contract, by whether the plane is fitted.
-use mathlib.Core.Path.{_≡_}
 use borrow.Author.Needs.{needs}
 use Rattle.mirror.specs.Locate.{normalRayOf, spotOf}
 use Rattle.mirror.proofs.spot_on.Statement.{statement}

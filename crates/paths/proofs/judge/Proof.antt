@@ -1,8 +1,6 @@
 -- `paths::judge` meets its contract, by the trail's fate and the tests of the way.
-use mathlib.Core.Path.{_≡_, refl}
 use Prim.Native.Nat.{_-_}
 use native.Mathlib.Omega.{arith}
-use borrow.Author.Needs.{needs}
 use borrow.Author.Tests.{eq-eqb, ne-eqb}
 use Rattle.bounces.specs.Areas.{trailOf}
 use Rattle.paths.specs.Path.{bouncedOf}

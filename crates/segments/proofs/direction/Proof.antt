@@ -1,5 +1,4 @@
 -- `segments::direction` meets its contract, by whether the vector has a length.
-use mathlib.Core.Path.{_≡_}
 use Rattle.vector.specs.Vector.{normalize3Of}
 use Rattle.segments.proofs.direction.Statement.{statement}
 use Rattle.segments.proofs.direction.Tie as tie

@@ -1,5 +1,4 @@
 -- `segments::probe` meets its contract: both halves, and the sums.
-use mathlib.Core.Path.{_≡_}
 use native.Mathlib.Omega.{arith}
 use Rattle.segments.specs.Segment.{probeOf}
 use Rattle.segments.proofs.probe.Statement.{statement}

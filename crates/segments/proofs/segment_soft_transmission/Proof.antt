@@ -1,5 +1,5 @@
 -- `segments::segment_soft_transmission` meets its contract: after k turns the sum is that of the middle and k probes around it.
-use mathlib.Core.Path.{_≡_, refl, ap}
+use mathlib.Core.Path.{_≡_, ap}
 use Prim.Native.Nat.{ℕ, _+_, _-_, _*_, _≤_}
 use native.Mathlib.Numerals.{add-one}
 use native.Mathlib.Omega.{arith}
