@@ -27,7 +27,7 @@ use Rattle.links.proofs.Rising.{clash, has-filter}
 use Rattle.links.proofs.Filters.{any-more, eqb-turn, filter-below, filter-cut, getD-inside}
 use Rattle.links.proofs.Pushing.{is-of, linked-none, run-cut}
 use Rattle.groups.specs.Groups.{verticesOf, runAt, runsOf, isAdjacent}
-use Rattle.groups.specs.Rows.{cornerIn, numberIn, Numbered}
+use Rattle.faces.specs.Numbers.{cornerIn, placeIn, numberIn, Numbered}
 use Rattle.groups.proofs.Reading.{upTo-at, map-twice, patches-length, triangle-at}
 
 -- ---- some element passes
@@ -129,7 +129,7 @@ or-third false false c e = e
 -- ---- the scene
 
 module _ (area : List Float) (handles : List ℕ) (n m : ℕ) (rows : List Float) (of : List ℕ) (np : ℕ) (id : List ℕ) (vertices : ℕ)
-    (numbered : Numbered area n m id) (numbers : Numbers id n m vertices) (long : m ≤ length of) (few : np ≤ 4096) where
+    (numbered : Numbered vertexKey area n m id) (numbers : Numbers id n m vertices) (long : m ≤ length of) (few : np ≤ 4096) where
   unfoldable key : ℕ → ℕ → Key
   key c i = vertexKey (cornerIn area n c i)
 
@@ -174,7 +174,7 @@ module _ (area : List Float) (handles : List ℕ) (n m : ℕ) (rows : List Float
   same-turn c d i j hc hd hi hj = sym (numbered .same c d i j hc hd hi hj) ∙ eqb-turn (numberIn id n c i) (numberIn id n d j)
 
   corner-same : (c i x j : ℕ) → c < 3 → i < m → x < np → j < m → eqb (getD of j 0) x && some (sameKey (key c i)) j ≡ hasCorner id n of np (numberIn id n c i) x j
-  unfolding hasCorner numberIn
+  unfolding hasCorner placeIn
   corner-same c i x j hc hi h l =
       let v = numberIn id n c i in
       let s0 = same-turn c 0 i j hc (omega arith) hi l in
@@ -233,7 +233,7 @@ module _ (area : List Float) (handles : List ℕ) (n m : ℕ) (rows : List Float
         go false h = absurd (clash e (linked-none (runOf id n of m np v) p q h))
 
     forward : (v i : ℕ) → by-number v ≡ true → i < m → hasCorner id n of np v q i ≡ true → adjacent ≡ true
-    unfolding hasCorner isOf numberIn
+    unfolding hasCorner isOf placeIn
     forward v i e hi h =
         let here = and-left (isOf of np q i) (eqb (getD id i 0) v || (eqb (getD id (n + i) 0) v || eqb (getD id (2 * n + i) 0) v)) h in
         let corner = and-right (isOf of np q i) (eqb (getD id i 0) v || (eqb (getD id (n + i) 0) v || eqb (getD id (2 * n + i) 0) v)) h in
@@ -246,7 +246,7 @@ module _ (area : List Float) (handles : List ℕ) (n m : ℕ) (rows : List Float
         (λ s. or-third (by-key (key 0 i)) (by-key (key 1 i)) (by-key (key 2 i)) (linked 2 (omega arith) (eqb-true (getD id (2 * n + i) 0) v s))))
 
     backward : (i : ℕ) → i < m → some by-key i ≡ true → anyBy by-number (upTo vertices) ≡ true
-    unfolding numberIn
+    unfolding placeIn
     backward i hi e =
         or-case (by-key (key 0 i)) (by-key (key 1 i)) (by-key (key 2 i)) e
         (λ s. any-intro by-number vertices (getD id i 0) (numbers .first i hi) (sym (link-same 0 i (omega arith) hi) ∙ s))

@@ -2,15 +2,13 @@
 use mathlib.Core.Path.{_≡_}
 use mathlib.Core.Bool.{Bool, not, _&&_}
 use mathlib.Core.List.{List, [], _∷_, _++_, map}
-use Prim.Native.Nat.{ℕ, zero, suc, _+_, _*_, _<_, _≤_}
+use Prim.Native.Nat.{ℕ, _+_, _*_, _<_, _≤_}
 use lib.Dec.{eqb}
 use lib.ListN.{length, getD, take}
 use lib.Ieee.{Float, nan}
 use Rattle.order.specs.Sort.{Below}
 use Rattle.order.specs.Runs.{headOr, upTo}
-use Rattle.vector.specs.declared.Vec3.{Vec3}
-use Rattle.columns.specs.Columns.{vecAtOf, triangleAtOf}
-use Rattle.faces.specs.Key.{sameKey, vertexKey}
+use Rattle.columns.specs.Columns.{triangleAtOf}
 use Rattle.patches.specs.Lists.{filterBy, allBy}
 use Rattle.patches.specs.Triangles.{cornersOf}
 use Rattle.patches.specs.Rows.{patchFloats, vecIn}
@@ -28,23 +26,6 @@ pub record Table (rows bound : ℕ) (sorted starts : List ℕ) : Type 0 where
   pub fenced : Fenced rows sorted starts
   pub long : rows < length starts
   pub below : (r : ℕ) → r < rows → Below bound (rowIn sorted starts r)
-
--- corner c of triangle i
-unfoldable pub cornerIn : List Float → ℕ → ℕ → ℕ → Vec3
-cornerIn area n zero i = vecAtOf area n i
-cornerIn area n (suc zero) i = vecAtOf area n (i + 3 * n)
-cornerIn area n (suc (suc c)) i = vecAtOf area n (i + 6 * n)
-
--- its number
-unfoldable pub numberIn : List ℕ → ℕ → ℕ → ℕ → ℕ
-numberIn id n zero i = getD id i 0
-numberIn id n (suc zero) i = getD id (n + i) 0
-numberIn id n (suc (suc c)) i = getD id (2 * n + i) 0
-
--- the corners of m triangles have equal numbers where they are the same vertex: what `faces::first_faces` leaves in id
-pub record Numbered (area : List Float) (n m : ℕ) (id : List ℕ) : Type 0 where
-  pub same : (c d i j : ℕ) → c < 3 → d < 3 → i < m → j < m
-      → eqb (numberIn id n c i) (numberIn id n d j) ≡ sameKey (vertexKey (cornerIn area n c i)) (vertexKey (cornerIn area n d j))
 
 -- the key of patch p as a seed
 abbrev pub seedKeyIn : List Float → List ℕ → List ℕ → ℕ → ℕ

@@ -19,7 +19,9 @@ ghost use Rattle.links.specs.Words.{mostTriangles, mostRows, lows, rowIn, partO
 ghost use Rattle.links.specs.Links.{isJoined, Numbers};
 ghost use Rattle.groups.specs.Settings.{Settings};
 ghost use Rattle.groups.specs.Groups.{rankOf, descendingKey, isTilted, isNear, grownOf, groupsFrom, groupsOf};
-ghost use Rattle.groups.specs.Rows.{groupsIn, Table, seedKeyIn, Numbered, takesIn, isFree, freeOf, Queue, LetIn, Grown, RowsOf};
+ghost use Rattle.faces.specs.Key.{vertexKey};
+ghost use Rattle.faces.specs.Numbers.{Numbered};
+ghost use Rattle.groups.specs.Rows.{groupsIn, Table, seedKeyIn, takesIn, isFree, freeOf, Queue, LetIn, Grown, RowsOf};
 
 // How many triangles, and so patches, a scene with planes has at most: `mostTriangles`.
 const MOST_TRIANGLES: u32 = 4096;
@@ -37,7 +39,7 @@ fn rank(x: f32) -> u32
 }
 
 // A key that has larger floats first, and of equal ones the lower number.
-fn descending_key(x: f32, i: u32) -> u64
+pub fn descending_key(x: f32, i: u32) -> u64
     ensures { λ r. ⌜ r ≡ descendingKey x i ⌝ }
 {
     let place = rank(x);
@@ -583,7 +585,7 @@ pub fn merge_patches(
     requires { ⌜ (m ≤ mostTriangles) × (m ≤ n) × (m ≤ length (now of)) × (np ≤ m) ⌝ }
     requires { ⌜ patchFloats * np ≤ length (now rows) ⌝ }
     requires { ⌜ (3 * n ≤ length (now id)) × Numbers (now id) n m vertices × (vertices ≤ mostRows) ⌝ }
-    requires { ⌜ Numbered (now area) n m (now id) ⌝ }
+    requires { ⌜ Numbered vertexKey (now area) n m (now id) ⌝ }
     requires { ⌜ (m ≤ length (now keys)) × (24 * m ≤ length (now words)) × (24 * m ≤ length (now scratch)) ⌝ }
     requires { ⌜ (m ≤ length (now tsorted)) × (m < length (now tstarts)) ⌝ }
     requires { ⌜ (length (now vsorted) ≡ 3 * m) × (vertices < length (now vstarts)) ⌝ }

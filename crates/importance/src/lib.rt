@@ -16,7 +16,6 @@ ghost use Rattle.columns.specs.Columns.{columnCount, triangleAtOf};
 ghost use Rattle.patches.specs.Triangles.{trianglesIn};
 ghost use Rattle.mirror.specs.Rows.{rowOf, planesIn, PlanesHeld};
 ghost use Rattle.importance.specs.Importance.{grownByOf, noBoxOf, sceneBoxOf, centreOf, halfDiagOf, noMoments, momentOf, meanOf, weighedOf, keyIn, rowKeyIn, rankingOf};
-ghost use Rattle.groups.specs.Groups.{rankOf, descendingKey};
 
 // The sum of areas times centroids, and of areas.
 pub struct Moments {
@@ -160,23 +159,6 @@ fn weigh(centre: Vec3, half_diag: f32, area: f32, c: Vec3) -> f32
     area / (1.0 + d * d)
 }
 
-// The place of x among floats, NaN lowest.
-fn rank(x: f32) -> u32
-    ensures { λ r. ⌜ r ≡ rankOf x ⌝ }
-{
-    if float::is_nan(x) {
-        return 0;
-    }
-    float::float_key(x)
-}
-
-fn descending_key(x: f32, i: u32) -> u64
-    ensures { λ r. ⌜ r ≡ descendingKey x i ⌝ }
-{
-    let place = rank(x);
-    (0xffff_ffff - place) as u64 * 0x1_0000_0000 + i as u64
-}
-
 fn first_of(tris: &[u32]) -> u32
     ensures { λ r. ⌜ r ≡ headOr 0 (now (tris .entry)) ⌝ }
 {
@@ -202,7 +184,7 @@ fn plane_key(
     ensures { λ r. ⌜ ((b : Aabb) → centre ≡ centreOf b → «half_diag» ≡ halfDiagOf b → r ≡ keyIn (triangleAtOf (now (area .entry)) (now (handles .entry)) n) b «plane_area» (now (tris .entry))) ⌝ }
 {
     let c = mean(moments_of(area, handles, n, tris));
-    descending_key(weigh(centre, half_diag, plane_area, c), first_of(tris))
+    groups::descending_key(weigh(centre, half_diag, plane_area, c), first_of(tris))
 }
 
 // Stores the key of each plane, and its number.
