@@ -33,6 +33,7 @@ ghost use Rattle.build.specs.Areas.{treeAtOf};
 ghost use Rattle.trace.specs.Leaf.{Rows};
 ghost use Rattle.trace.specs.Trace.{intersectOf, paddedTreeOf, Held};
 ghost use Rattle.bvh.specs.Bvh.{Lent, BvhOf};
+ghost use Rattle.ranking.specs.Rows.{Ranked, Lent as Candidates};
 
 // ---- numbers
 
@@ -415,4 +416,40 @@ pub extern "C" fn biv_intersect(
         return true;
     }
     false
+}
+
+// ---- ranking
+
+// `rank_reflections`: the positions of the candidates kept, best first. A candidate is 13 floats (energy, delay, direction, gains) and 2 words
+// (order, number).
+#[no_mangle]
+pub extern "C" fn biv_rank_reflections(
+    fs: &[f32],
+    ws: &[u32],
+    n: usize,
+    speed: f32,
+    rate: f32,
+    limit: usize,
+    keys: &mut [u64],
+    index: &mut [u32],
+    words: &mut [u64],
+    scratch: &mut [u64],
+    out: &mut [u32],
+) -> usize
+    requires { ⌜ Candidates n limit (now fs) (now ws) (now keys) (now index) (now words) (now scratch) (now out) ⌝ }
+    ensures { λ r. ⌜ Ranked speed rate limit n (now (fs .entry)) (now (ws .entry)) (now (out .entry)) (now (out .exit)) r ⌝ }
+{
+    ranking::rank_reflections(
+        fs,
+        ws,
+        n,
+        speed,
+        rate,
+        limit,
+        keys,
+        index,
+        words,
+        scratch,
+        out,
+    )
 }

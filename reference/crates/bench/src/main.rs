@@ -3,6 +3,8 @@
 use oracle::{Case, Mesh, Row, Settings, IDENTITY};
 use compare::front::{areas, lent};
 use compare::random::Random;
+use compare::ranking;
+use quasar_backends::cpu_simd::oracle_rank;
 use port::{Loaded, Tree, OUTPUT, TAPS, TAP_WORDS};
 use std::hint::black_box;
 use std::time::Instant;
@@ -15,6 +17,7 @@ fn main() {
     sorts();
     fronts();
     trees();
+    rankings();
     packets();
 }
 
@@ -143,6 +146,25 @@ fn trees() {
             |_| rays.iter().for_each(|r| { black_box(rust.intersect(r)); }),
         );
         line(&format!("intersect, {n} triangles, a ray"), p / 1e3, q / 1e3);
+    }
+}
+
+fn rankings() {
+    let mut r = Random::new(11);
+    // the Rust compares each candidate with all kept ones, so that many distinct ones take it minutes
+    for (n, values) in [(100, 1000), (2000, 1000), (250_000, 4)] {
+        let found = ranking::list(&mut r, n, values);
+        let (mut rows, config, mut out) = (ranking::rows(&found), ranking::config(343.0, 48_000.0, TAPS), vec![0; TAPS]);
+        let kept = rows.rank(343.0, 48_000.0, &mut out);
+        let same: Vec<u32> = out[..kept].iter().map(|&p| p + 1).collect();
+        assert_eq!(same, oracle_rank(&found, &config));
+        let sets = (20_000 / n).max(1);
+        let (p, q) = both(
+            || (),
+            |_| (0..sets).for_each(|_| { black_box(rows.rank(343.0, 48_000.0, &mut out)); }),
+            |_| (0..sets).for_each(|_| { black_box(oracle_rank(&found, &config)); }),
+        );
+        line(&format!("rank_reflections, {n} from {values} values"), p / sets as f64, q / sets as f64);
     }
 }
 

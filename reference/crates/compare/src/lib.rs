@@ -3,5 +3,6 @@ pub mod cases;
 pub mod front;
 pub mod numbers;
 pub mod random;
+pub mod ranking;
 pub mod scenes;
 pub mod tree;

@@ -1,9 +1,10 @@
 //! The port against the Rust. Stops at the first difference with what shows it and exit status 1.
-use compare::{cases, numbers};
+use compare::{cases, numbers, ranking};
 
 const USAGE: &str = "\
   compare numbers [SEED]         floats: sqrt, abs, round on all 2^32 patterns, the others on many millions of values
   compare scenes [COUNT [SEED]]  generated scenes, 2,000 unless said: refusals, triangles, areas, tree, hits
+  compare ranking [COUNT [SEED]] generated lists of candidates, 2,000 unless said: which are kept, and their order
   compare file FILE ..           the cases of files (FORMAT.md)
   compare slips [COUNT [SEED]]   plants slips into the port's answers to generated scenes, and counts those found";
 
@@ -13,6 +14,7 @@ fn main() {
     match words[..] {
         ["numbers", ref rest @ ..] => numbers::run(number(rest.first(), 1)),
         ["scenes", ref rest @ ..] => cases::generated(number(rest.first(), 2000), number(rest.get(1), 1)),
+        ["ranking", ref rest @ ..] => ranking::run(number(rest.first(), 2000), number(rest.get(1), 1)),
         ["file", ref names @ ..] if !names.is_empty() => cases::files(names),
         ["slips", ref rest @ ..] => cases::slips(number(rest.first(), 500), number(rest.get(1), 1)),
         _ => usage("say what to compare"),

@@ -41,6 +41,12 @@ mod ffi {
             rows: *const f32, rows_len: usize, handles: *const u32, handles_len: usize, count: usize,
             ray: *const f32, ray_len: usize, hit: *mut f32, hit_len: usize, place: *mut usize, place_len: usize,
         ) -> bool;
+        #[rustfmt::skip]
+        pub fn biv_rank_reflections(
+            fs: *const f32, fs_len: usize, ws: *const u32, ws_len: usize, n: usize, speed: f32, rate: f32, limit: usize,
+            keys: *mut u64, keys_len: usize, index: *mut u32, index_len: usize, words: *mut u64, words_len: usize,
+            scratch: *mut u64, scratch_len: usize, out: *mut u32, out_len: usize,
+        ) -> usize;
         pub fn biv_distance_gain(curve: u32, reference: f32, rolloff: f32, least: f32, greatest: f32, distance: f32) -> f32;
     }
 }
@@ -265,5 +271,40 @@ impl Tree {
             )
         };
         found.then(|| Hit { distance: hit[0], point: [hit[1], hit[2], hit[3]], triangle: place[0] })
+    }
+}
+
+/// Candidates as rows, and the areas that ranking them takes.
+#[derive(Clone, Debug, Default)]
+pub struct Candidates {
+    floats: Vec<f32>,
+    words: Vec<u32>,
+    keys: [Vec<u64>; 3],
+    index: Vec<u32>,
+}
+
+impl Candidates {
+    /// A candidate more: energy, delay, direction and gains, and order and number. Energy and delay must be numbers.
+    pub fn push(&mut self, floats: [f32; CANDIDATE_FLOATS], words: [u32; CANDIDATE_WORDS]) {
+        assert!(!floats[0].is_nan() && !floats[1].is_nan(), "energy or delay is NaN");
+        self.floats.extend(floats);
+        self.words.extend(words);
+        self.keys.iter_mut().for_each(|k| k.push(0));
+        self.index.push(0);
+    }
+
+    /// The positions of those kept, best first, at most as many as `out` is long; how many they are.
+    pub fn rank(&mut self, speed: f32, rate: f32, out: &mut [u32]) -> usize {
+        let n = self.index.len();
+        let [keys, words, scratch] = &mut self.keys;
+        // SAFETY: `push` keeps n rows of numbers and n of each area; the `&mut` areas are distinct.
+        #[rustfmt::skip]
+        let kept = unsafe {
+            ffi::biv_rank_reflections(
+                self.floats.as_ptr(), self.floats.len(), self.words.as_ptr(), self.words.len(), n, speed, rate, out.len(),
+                keys.as_mut_ptr(), n, self.index.as_mut_ptr(), n, words.as_mut_ptr(), n, scratch.as_mut_ptr(), n, out.as_mut_ptr(), out.len(),
+            )
+        };
+        kept
     }
 }
