@@ -35,9 +35,9 @@ use Rattle.paths.specs.declared.Fate.the-variants.{TooFar, NotCrossed, O
 use Rattle.paths.specs.Visibility.{startOf, goOf, goAllOf, wayOf}
 use Rattle.paths.specs.Gains.{leastEnergy, leastWeight, leastBlocker, usableOf, reflectedOf, gainsOf, rejectedOf, candidateOf, arrivedOf}
 use Rattle.paths.specs.Path.{verdict, lastOf, bouncedOf, pathWith}
-use Rattle.paths.specs.Numbers.{isNumber, Finite3, Numbers8, Numbers}
+use Rattle.paths.specs.Numbers.{isNumber, Finite3, Finite8, Numbers8, Numbers}
 use Rattle.paths.proofs.Bound.{Long, back-long}
-use Rattle.paths.proofs.Floats.{above-number, number-left, number-right, finite-left, finite-right, number-square, finite-root}
+use Rattle.paths.proofs.Floats.{above-number, number-left, number-right, finite-left, finite-right, number-square, finite-square, finite-root}
 use Rattle.paths.proofs.Ranges.{positive-of, le-of-not-lt, delay-positive, quotient-finite}
 
 -- ---- the settings
@@ -103,6 +103,28 @@ gains-numbers g h7 =
       n5 = number-square binary32 (g .b5) (number-right binary32 _ _ h5);
       n6 = number-square binary32 (g .b6) (number-right binary32 _ _ h6);
       n7 = number-square binary32 (g .b7) (number-right binary32 _ _ h7);
+    }
+
+-- a finite energy has finite gains
+pub gains-finite : (g : Band8) → T (isFinite (sumOfSquaresOf g)) → Finite8 g
+unfolding sumOfSquaresOf
+gains-finite g h7 =
+    let h6 = finite-left binary32 _ _ h7 in
+    let h5 = finite-left binary32 _ _ h6 in
+    let h4 = finite-left binary32 _ _ h5 in
+    let h3 = finite-left binary32 _ _ h4 in
+    let h2 = finite-left binary32 _ _ h3 in
+    let h1 = finite-left binary32 _ _ h2 in
+    let h0 = finite-left binary32 _ _ h1 in
+    record {
+      f0 = finite-square binary32 (g .b0) (finite-right binary32 _ _ h0);
+      f1 = finite-square binary32 (g .b1) (finite-right binary32 _ _ h1);
+      f2 = finite-square binary32 (g .b2) (finite-right binary32 _ _ h2);
+      f3 = finite-square binary32 (g .b3) (finite-right binary32 _ _ h3);
+      f4 = finite-square binary32 (g .b4) (finite-right binary32 _ _ h4);
+      f5 = finite-square binary32 (g .b5) (finite-right binary32 _ _ h5);
+      f6 = finite-square binary32 (g .b6) (finite-right binary32 _ _ h6);
+      f7 = finite-square binary32 (g .b7) (finite-right binary32 _ _ h7);
     }
 
 module _ (v : Vec3) (h : T (isFinite (length3Of v))) where

@@ -31,6 +31,16 @@ pub record Numbers8 (g : Band8) : Type 0 where
   pub n6 : T (isNumber (g .b6))
   pub n7 : T (isNumber (g .b7))
 
+pub record Finite8 (g : Band8) : Type 0 where
+  pub f0 : T (isFinite (g .b0))
+  pub f1 : T (isFinite (g .b1))
+  pub f2 : T (isFinite (g .b2))
+  pub f3 : T (isFinite (g .b3))
+  pub f4 : T (isFinite (g .b4))
+  pub f5 : T (isFinite (g .b5))
+  pub f6 : T (isFinite (g .b6))
+  pub f7 : T (isFinite (g .b7))
+
 pub record Numbers (c : PathCandidate) : Type 0 where
   pub energy-is : c .energy ≡ sumOfSquaresOf (c .gains)
   pub energy-above : T (lt leastEnergy (c .energy))
