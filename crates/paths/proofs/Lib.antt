@@ -4,4 +4,5 @@ pub mod Bound
 pub mod Numbers
 mod Floats
 mod Ranges
+mod Signs
 pub mod CaseA
