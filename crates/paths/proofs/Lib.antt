@@ -5,4 +5,5 @@ pub mod Numbers
 mod Floats
 mod Ranges
 mod Signs
+mod Levels
 pub mod CaseA

@@ -42,7 +42,7 @@ module _ (f : Format) where
     picked true = odd-false (suc (prec f)) q k (low f)
     picked false = tt
 
-  round-false : (a c : ℕ) → NotNegative (round f false a c)
+  pub round-false : (a c : ℕ) → NotNegative (round f false a c)
   unfolding round
   round-false a c =
       let n = a * 2 ^ low f in
@@ -171,11 +171,11 @@ not-below (fin true (suc m) e) h =
     let no : ⊥ = omega arith in
     no
 
-zero-not-negative : NotNegative zero32
+pub zero-not-negative : NotNegative zero32
 unfolding ofBits
 zero-not-negative = tt
 
-one-not-negative : NotNegative one32
+pub one-not-negative : NotNegative one32
 unfolding ofBits
 one-not-negative = tt
 
