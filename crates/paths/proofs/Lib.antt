@@ -6,4 +6,5 @@ mod Floats
 mod Ranges
 mod Signs
 mod Levels
+mod Bands
 pub mod CaseA
