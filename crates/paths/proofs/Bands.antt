@@ -1,11 +1,9 @@
 -- No band of what the segments let through, of what the triangles reflect, or of what arrives is below zero.
-use mathlib.Core.Path.{_≡_, refl}
-use mathlib.Core.Bool.{Bool, true, false, not, cond}
+use mathlib.Core.Bool.{Bool, true, false, cond}
 use mathlib.Core.List.{List, [], _∷_, foldl}
 use Prim.Native.Nat.{ℕ, zero, suc, _+_}
-use lib.Dec.{T}
 use lib.IntN.{pos}
-use lib.Ieee.{Float, nan, inf, fin, binary32, add, sub, mul, div, lt, ofBits}
+use lib.Ieee.{Float, fin, binary32, add, sub, mul, div, lt, ofBits}
 use Rattle.float.specs.Literals.{zero32, one32}
 use Rattle.vector.specs.declared.Vec3.{Vec3}
 use Rattle.vector.specs.declared.Ray.{Ray}
@@ -21,7 +19,7 @@ use Rattle.bands.specs.Distance.{gainOf}
 use Rattle.trace.specs.declared.Hit.{Hit}
 use Rattle.trace.specs.declared.Hit.the-variants.{Nothing, At}
 use Rattle.segments.specs.declared.Transmission.{Transmission}
-use Rattle.segments.specs.Materials.{bandsIn, clampedOf, transmissionOf, coefficientOf, coefficientsOf, reflectionOf}
+use Rattle.segments.specs.Materials.{clampedOf, transmissionOf, coefficientOf, coefficientsOf, reflectionOf}
 use Rattle.segments.specs.Segment.{visibilityRays, probeCount, transmission, segmentRayOf, afterOf, occlusionEps, walkOf, segmentTransmissionOf, offsetOf, midOf, addPartOf, probeOf, probesOf, segmentSoftTransmissionOf}
 use Rattle.paths.specs.declared.Way.{Way}
 use Rattle.paths.specs.Visibility.{startOf, goOf, goAllOf, wayOf}

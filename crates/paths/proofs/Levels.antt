@@ -1,13 +1,12 @@
 -- No gain of a path is below zero: neither the edge weight, nor what the segments let through, nor what the triangles reflect.
-use mathlib.Core.Path.{_≡_, refl}
-use mathlib.Core.Bool.{Bool, true, false, not, cond, _&&_}
-use mathlib.Core.List.{List, [], _∷_, foldl}
+use mathlib.Core.Bool.{Bool, true, false, not, cond}
+use mathlib.Core.List.{List, _∷_}
 use Prim.Native.Nat.{ℕ, zero, suc, _+_, _-_, _*_, _/_, _%_, _^_, _<_, _≤_, compare}
-use native.Mathlib.Nat.{zero-mul, mul-one}
+use native.Mathlib.Nat.{zero-mul}
 use native.Mathlib.Omega.{arith}
 use borrow.Author.Tests.{le-ltb}
 use lib.Dec.{T, ltb, nltb→le, lt→ltb}
-use lib.IntN.{ℤ, pos}
+use lib.IntN.{pos}
 use lib.Ieee.{Float, nan, inf, fin, binary32, up, down, size, nearest, odd, units, round, neg, sum, add, sub, mul, div, lt, le, eq, ofBits}
 use lib.Ieee.Order.{round-mono}
 use lib.Ieee.Positive.{le→cross}
@@ -96,8 +95,8 @@ twice (fin false m e) p h =
     let l : m * up e * 1 ≤ 1 * 1 * down e = nltb→le (1 * 1 * down e) (m * up e * 1) h in
     le-two (round binary32 false (1 * 2 * (m * up e)) (1 * down e))
     (round-mono binary32 (1 * 2 * (m * up e)) (1 * down e) 2 1 (some (down e) (down-pos e)) (omega arith) (omega arith)) where
-  some : (d : ℕ) → 0 < d → 0 < 1 * d
-  some d h = omega arith
+      some : (d : ℕ) → 0 < d → 0 < 1 * d
+      some d h = omega arith
 
 zero-below : T (not (lt one32 zero32))
 unfolding lt ofBits
@@ -160,6 +159,7 @@ bounce-weight tri fade plane prev target = picked (crossingOf plane prev target)
   placed : (l : Located) → LocatedWeight l → BounceWeight (locatedOf l)
   placed located.Off h = tt
   placed (located.On i w q) h = h
+
   picked : (c : PlaneCrossing) → BounceWeight (crossedOf (locateOnPlaneOf tri fade plane) c)
   picked Nowhere = tt
   picked (crossing.At b) = placed (locateOnPlaneOf tri fade plane b) (located-weight tri fade plane b)

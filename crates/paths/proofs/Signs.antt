@@ -1,5 +1,5 @@
 -- Where a float is not below zero (a NaN is not): what arithmetic keeps so.
-use mathlib.Core.Path.{_≡_, refl}
+use mathlib.Core.Path.{_≡_}
 use mathlib.Core.Bool.{Bool, true, false, not, cond, _&&_}
 use Prim.Native.Nat.{ℕ, zero, suc, _+_, _-_, _*_, _/_, _%_, _^_, _<_, _≤_, compare}
 use native.Mathlib.Nat.{mul-pos, zero-lt-suc, zero-mul, mul-zero}
@@ -8,7 +8,7 @@ use borrow.Author.Tests.{le-ltb, ne-eqb}
 use lib.Dec.{T, ltb, eqb, nltb→le}
 use lib.IntN.{ℤ}
 use lib.Pow.{pow-pos}
-use lib.Ieee.{Float, nan, inf, fin, Format, binary32, prec, emax, low, size, nearest, up, down, unlike, odd, units, round, neg, sum, add, mul, div, lt, isNan, ofBits}
+use lib.Ieee.{Float, nan, inf, fin, Format, binary32, prec, emax, low, size, nearest, up, down, unlike, odd, units, round, sum, add, mul, div, lt, isNan, ofBits}
 use lib.Ieee.Fits.{up-pos, down-pos}
 use lib.Ieee.Exact.{HasValue, round-exact}
 use Rattle.float.specs.Literals.{zero32, one32}
@@ -195,3 +195,16 @@ held-not-negative x = picked (isFinite x) (isNan x) (lt x zero32) (λ h. h) wher
   picked true true c h = zero-not-negative
   picked true false true h = zero-not-negative
   picked true false false h = not-below x (h tt)
+
+pub below-none : (x : Float) → NotNegative x → T (not (lt x zero32))
+unfolding lt ofBits
+below-none nan h = tt
+below-none (inf true) h = absurd h
+below-none (inf false) h = tt
+below-none (fin true (suc m) e) h = absurd h
+below-none (fin true zero e) h =
+    let z : 0 * up e * 1 + 0 * 1 * down e ≤ 0 = (let a = zero-mul (up e) in let b = zero-mul (down e) in omega arith) in
+    rw (le-ltb 0 (0 * up e * 1 + 0 * 1 * down e) z) tt
+below-none (fin false m e) h =
+    let z : 0 * 1 * down e ≤ m * up e * 1 = (let b = zero-mul (down e) in omega arith) in
+    rw (le-ltb (m * up e * 1) (0 * 1 * down e) z) tt
