@@ -20,7 +20,7 @@ use Rattle.bounces.specs.declared.Bounce.{Bounce}
 use Rattle.bounces.specs.declared.Bounce.the-variants.{NotCrossed, OffSurface, On}
 use Rattle.bounces.specs.declared.Trail.{Trail}
 use Rattle.bounces.specs.Bounces.{bounceOf, Bounces, thenOf, backOf}
-use Rattle.bounces.specs.Areas.{trailOf}
+use Rattle.bounces.specs.Areas.{madeFate, notCrossedFate, offSurfaceFate, trailOf}
 
 pub never : {A : Type 0} (x m : ℕ) → x ≡ suc m → x ≡ 0 → A
 never x m a b = let no : ⊥ = omega arith in absurd no
@@ -68,7 +68,7 @@ slice-put l x d k n h fits =
 
 module _ (tri : ℕ → Triangle) (fade : Float) (plane : ℕ → Plane) (image : ℕ → Vec3) where
   pub back-none :
-      (t : Trail) (k n : ℕ) (prev : Vec3) → k ≡ 0 → t .fate ≡ 0 →
+      (t : Trail) (k n : ℕ) (prev : Vec3) → k ≡ 0 → t .fate ≡ madeFate →
       trailOf t n ≡ backOf tri fade plane image k prev (t .weight) (slice k n (t .points)) (slice k n (t .tris))
   unfolding trailOf backOf
   back-none t k n prev z f = rw (z, f)
@@ -84,11 +84,11 @@ module _ (tri : ℕ → Triangle) (fade : Float) (plane : ℕ → Plane) (image 
       opened zero ne e = absurd (ne refl)
       opened (suc k) ne e = let l : suc k - 1 ≡ k = omega arith in rw (e, l)
 
-    pub back-not-crossed : (r : Trail) (n : ℕ) → r .fate ≡ 2 → b ≡ NotCrossed → trailOf r n ≡ backOf tri fade plane image k prev weight ps is
+    pub back-not-crossed : (r : Trail) (n : ℕ) → r .fate ≡ notCrossedFate → b ≡ NotCrossed → trailOf r n ≡ backOf tri fade plane image k prev weight ps is
     unfolding trailOf
     back-not-crossed r n f h = rw (f, back-step, h)
 
-    pub back-off-surface : (r : Trail) (n : ℕ) → r .fate ≡ 3 → b ≡ OffSurface → trailOf r n ≡ backOf tri fade plane image k prev weight ps is
+    pub back-off-surface : (r : Trail) (n : ℕ) → r .fate ≡ offSurfaceFate → b ≡ OffSurface → trailOf r n ≡ backOf tri fade plane image k prev weight ps is
     unfolding trailOf
     back-off-surface r n f h = rw (f, back-step, h)
 

@@ -25,12 +25,22 @@ PlanesRead tri columns n floats words members count = (p : ℕ) → p < count �
 abbrev pub maxOrder : ℕ
 maxOrder = 8
 
--- a trail of n bounces: fate 0 is all of them, 2 no crossing, 3 off the surface
+-- the fates of a trail: all bounces made, a plane not crossed, a point off the surface
+abbrev pub madeFate : ℕ
+madeFate = 0
+
+abbrev pub notCrossedFate : ℕ
+notCrossedFate = 2
+
+abbrev pub offSurfaceFate : ℕ
+offSurfaceFate = 3
+
+-- what a trail of n bounces says
 unfoldable pub trailOf : Trail → ℕ → Bounces
-trailOf t n = cond (eqb (t .fate) 0) (made (take n (t .points)) (take n (t .tris)) (t .weight)) (cond (eqb (t .fate) 2) notCrossed offSurface)
+trailOf t n = cond (eqb (t .fate) madeFate) (made (take n (t .points)) (take n (t .tris)) (t .weight)) (cond (eqb (t .fate) notCrossedFate) notCrossed offSurface)
 
 -- a trail that goes on
 pub record Going (t : Trail) : Type 0 where
   pub points-room : length (t .points) ≡ maxOrder
   pub tris-room : length (t .tris) ≡ maxOrder
-  pub good : t .fate ≡ 0
+  pub good : t .fate ≡ madeFate

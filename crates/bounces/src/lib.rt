@@ -15,13 +15,11 @@ ghost use Rattle.mirror.specs.Mirror.{mirrorOf};
 ghost use Rattle.mirror.specs.Rows.{planeFloats, planeWords, planesIn};
 ghost use Rattle.bounces.specs.Image.{liesOnOf};
 ghost use Rattle.bounces.specs.Bounces.{bounceOf, backOf, planeOn};
-ghost use Rattle.bounces.specs.Areas.{PlanesLent, PlanesRead, maxOrder, trailOf, Going};
+ghost use Rattle.bounces.specs.Areas.{PlanesLent, PlanesRead, maxOrder, madeFate, trailOf, Going};
 
-const PLANE_SIDE_EPS: f32 = 1e-4;
+pub const NOT_CROSSED: u32 = 2;
 
-const NOT_CROSSED: u32 = 2;
-
-const OFF_SURFACE: u32 = 3;
+pub const OFF_SURFACE: u32 = 3;
 
 // One bounce: the triangle, the edge weight and the point.
 pub enum Bounce {
@@ -45,7 +43,8 @@ pub fn lies_on(floats: &[f32], words: &[u32], p: usize, source: Vec3) -> bool
     requires { ⌜ (planeFloats * p + planeFloats ≤ length (now floats)) × (planeWords * p + planeWords ≤ length (now words)) ⌝ }
     ensures { λ r. ⌜ ((members : List ℕ) (edges : List Float) (count : ℕ) → p < count → r ≡ liesOnOf (planeAt (planesIn (now (floats .entry)) (now (words .entry)) members edges count) p) source) ⌝ }
 {
-    float::abs(mirror::signed_distance(mirror::plane_at(floats, words, p), source)) < PLANE_SIDE_EPS
+    float::abs(mirror::signed_distance(mirror::plane_at(floats, words, p), source))
+        < mirror::PLANE_SIDE_EPS
 }
 
 // The image of an image in plane p.
@@ -150,7 +149,7 @@ pub fn back(
     requires { ⌜ ((j : ℕ) → j < order → getD seq j 0 < count) ⌝ }
     requires { ⌜ Going t ⌝ }
     ensures { λ r. ⌜ ((tri : ℕ → Triangle) → PlanesRead tri (now (columns .entry)) n (now (floats .entry)) (now (words .entry)) (now (members .entry)) count → trailOf r order ≡ backOf tri fade (planeOn (planesIn (now (floats .entry)) (now (words .entry)) (now (members .entry)) (now (edges .entry)) count) seq) (λ j. getD images j noPoint) k prev (t .weight) (slice k order (t .points)) (slice k order (t .tris))) ⌝ }
-    ensures { λ r. ⌜ (r .fate ≡ 0 → Going r) ⌝ }
+    ensures { λ r. ⌜ (r .fate ≡ madeFate → Going r) ⌝ }
 {
     if k == 0 {
         return t;

@@ -32,7 +32,7 @@ pointSegmentDistanceOf p a b =
 unfoldable pub nearerOf : Vec3 → Float → Edge → Float
 nearerOf p d e = minOf d (pointSegmentDistanceOf p (e .start) (e .end))
 
--- `dist`: the least distance from edges, beginning with d; infinite where there is no edge
+-- `dist`: the least distance from the edges, infinite where there is none
 unfoldable pub borderDistanceOf : Vec3 → List Edge → Float
 borderDistanceOf p es = foldl (nearerOf p) (inf false) es
 

@@ -17,7 +17,7 @@ ghost use Rattle.mirror.specs.Border.{nearestOf, pointSegmentDistanceOf,
 ghost use Rattle.mirror.specs.Locate.{withinOf, containsInBoxOf, snapEdgesOf, snapAllOf, normalRayOf, findOf, spotOf, locateOnPlaneOf};
 ghost use Rattle.mirror.specs.Rows.{planeFloats, planeWords, edgeFloats, vecIn, rowOf, edgeIn, edgesIn, trisOf, borderOf, planeOf, RunsIn, AllRead};
 
-const PLANE_SIDE_EPS: f32 = 1e-4;
+pub const PLANE_SIDE_EPS: f32 = 1e-4;
 
 const PLANE_BOX_PAD: f32 = 2e-3;
 

@@ -33,7 +33,7 @@ use Rattle.mirror.specs.Locate as locate
 use Rattle.segments.specs.Materials.{bandsIn, transmissionOf, coefficientOf, coefficientsOf, reflectionOf}
 use Rattle.segments.specs.Segment.{maxCrossings, visibilityRadius, transmission, segmentRayOf, walkOf, segmentTransmissionOf, offsetOf, midOf, addPartOf, probeOf, probesOf, segmentSoftTransmissionOf}
 use Rattle.segments.specs.Areas.{traceIn}
-use Rattle.bounces.specs.Image.{imageOf}
+use Rattle.bounces.specs.Image.{liesOnOf, imageOf}
 use Rattle.bounces.specs.Bounces.{bounceOf, made, backOf, bouncesOf}
 use Rattle.paths.specs.declared.PathCandidate.{PathCandidate}
 use Rattle.paths.specs.declared.Fate.the-variants.{Passed}
@@ -43,44 +43,44 @@ use Rattle.paths.specs.Path.{verdict, bouncedOf, pathWith, pathOf}
 
 -- ---- the scene
 
-abbrev nought : Float
+abbrev pub nought : Float
 nought = fin false 0 (pos 0)
 
-abbrev minusNought : Float
+abbrev pub minusNought : Float
 minusNought = fin true 0 (pos 0)
 
-abbrev four : Float
+abbrev pub four : Float
 four = fin false 1 (pos 2)
 
-abbrev minusFour : Float
+abbrev pub minusFour : Float
 minusFour = fin true 1 (pos 2)
 
 -- the floor's corners
-abbrev corner0 : Vec3
+abbrev pub corner0 : Vec3
 corner0 = vec minusFour nought minusFour
 
-abbrev corner1 : Vec3
+abbrev pub corner1 : Vec3
 corner1 = vec four nought minusFour
 
-abbrev corner2 : Vec3
+abbrev pub corner2 : Vec3
 corner2 = vec four nought four
 
-abbrev corner3 : Vec3
+abbrev pub corner3 : Vec3
 corner3 = vec minusFour nought four
 
-abbrev triangle : Vec3 → Vec3 → Vec3 → Triangle
+abbrev pub triangle : Vec3 → Vec3 → Vec3 → Triangle
 triangle p q r = record { a = p; b = q; c = r; normal = vec nought (fin true 1 (pos 0)) nought; «material_handle» = 0 }
 
-abbrev triangles : ℕ → Triangle
+abbrev pub triangles : ℕ → Triangle
 triangles i = getD (triangle corner0 corner1 corner2 ∷ triangle corner0 corner2 corner3 ∷ []) i (triangle corner0 corner1 corner2)
 
-abbrev tree : Tree
+abbrev pub tree : Tree
 tree = leaf (box corner0 corner2) (0 ∷ 1 ∷ [])
 
-abbrev edge : Vec3 → Vec3 → Edge
+abbrev pub edge : Vec3 → Vec3 → Edge
 edge p q = record { start = p; end = q }
 
-abbrev floor : Plane
+abbrev pub floor : Plane
 floor =
     record {
       normal = vec minusNought (fin false 1 (pos 0)) minusNought;
@@ -94,13 +94,13 @@ floor =
     }
 
 -- eight absorptions of 0.75, eight transmissions of 0
-abbrev materials : List Float
+abbrev pub materials : List Float
 materials =
     let a = fin false 3 (negsuc 1) in
     a ∷ a ∷ a ∷ a ∷ a ∷ a ∷ a ∷ a ∷ nought ∷ nought ∷ nought ∷ nought ∷ nought ∷ nought ∷ nought ∷ nought ∷ []
 
 -- fade 0.1, speed 320, rate 48,000, reference, rolloff and least distance 1; the others are the Rust's defaults
-abbrev settings : Settings
+abbrev pub settings : Settings
 settings =
     record {
       «max_reflection_order» = 3;
@@ -123,16 +123,16 @@ settings =
       };
     }
 
-abbrev source : Vec3
+abbrev pub source : Vec3
 source = vec nought (fin false 1 (pos 1)) nought
 
-abbrev listener : Vec3
+abbrev pub listener : Vec3
 listener = vec (fin false 3 (pos 0)) (fin false 1 (pos 1)) nought
 
 -- ---- stage by stage
 
 -- (0, -2, 0)
-abbrev image : Vec3
+abbrev pub image : Vec3
 image = vec nought (fin true 1 (pos 1)) nought
 
 image-is : imageOf (floor ∷ []) source (0 ∷ []) ≡ image
@@ -144,7 +144,7 @@ unfolding distance3Of length3Of dot3Of sub3Of sqrtOf rootOf isqrt add sub mul ne
 near = refl
 
 -- (1.5, 0, 0)
-abbrev bounce : Vec3
+abbrev pub bounce : Vec3
 bounce = vec (fin false 3 (negsuc 0)) nought nought
 
 bounces : bouncesOf triangles (settings .«reflection_edge_fade») (floor ∷ []) source listener (0 ∷ []) ≡ made (bounce ∷ []) (0 ∷ []) one32
@@ -163,7 +163,7 @@ second-segment = refl
 -- ---- the path
 
 -- direction (-0.6, -0.8, 0), gains 0.1
-abbrev candidate : PathCandidate
+abbrev pub candidate : PathCandidate
 candidate =
     record {
       energy = ofBits binary32 0x3da3_d70b;
@@ -181,3 +181,17 @@ arrives = refl
 pub case-a : pathOf settings (floor ∷ []) triangles tree materials source listener (0 ∷ []) ≡ verdict (Passed candidate) 36
 unfolding pathOf pathWith bouncedOf wayOf goAllOf goOf startOf usableOf distance3Of length3Of dot3Of sub3Of sqrtOf rootOf isqrt splatOf mulOf isFinite add sub mul neg lt eq ofBits
 case-a = rw (image-is, near, bounces, first-segment, second-segment, arrives)
+
+-- ---- which planes may come first: 'with source y = 0.00005, images is 0; with y = 0.0001, it is 1'
+
+pub too-near : liesOnOf floor (vec nought (ofBits binary32 0x3851_b717) nought) ≡ true
+unfolding liesOnOf mirror.signedDistanceOf dot3Of absOf add sub mul neg lt eq ofBits
+too-near = refl
+
+pub far-enough : liesOnOf floor (vec nought (ofBits binary32 0x38d1_b717) nought) ≡ false
+unfolding liesOnOf mirror.signedDistanceOf dot3Of absOf add sub mul neg lt eq ofBits
+far-enough = refl
+
+pub floor-first : liesOnOf floor source ≡ false
+unfolding liesOnOf mirror.signedDistanceOf dot3Of absOf add sub mul neg lt eq ofBits
+floor-first = refl

@@ -1,7 +1,10 @@
--- The laws of a path: its loops and images, how many rays it takes, and that its candidate is a number in all its parts.
+-- The laws of a path: its loops and images, how many rays it takes, what its candidate has of numbers, and case A.
 pub mod Laws
 pub mod Bound
 pub mod Numbers
+pub mod CaseA
 mod Floats
 mod Ranges
-pub mod CaseA
+mod Signs
+mod Levels
+mod Bands

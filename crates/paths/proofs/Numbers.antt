@@ -35,9 +35,12 @@ use Rattle.paths.specs.declared.Fate.the-variants.{TooFar, NotCrossed, O
 use Rattle.paths.specs.Visibility.{startOf, goOf, goAllOf, wayOf}
 use Rattle.paths.specs.Gains.{leastEnergy, leastWeight, leastBlocker, usableOf, reflectedOf, gainsOf, rejectedOf, candidateOf, arrivedOf}
 use Rattle.paths.specs.Path.{verdict, lastOf, bouncedOf, pathWith}
-use Rattle.paths.specs.Numbers.{isNumber, Finite3, Numbers8, Numbers}
+use Rattle.paths.specs.Numbers.{isNumber, Finite3, Finite8, Numbers8, NotBelow8, Numbers}
 use Rattle.paths.proofs.Bound.{Long, back-long}
-use Rattle.paths.proofs.Floats.{above-number, number-left, number-right, finite-left, finite-right, number-square, finite-root}
+use Rattle.paths.proofs.Floats.{above-number, number-left, number-right, finite-left, finite-right, number-square, finite-square, finite-root}
+use Rattle.paths.proofs.Signs.{NotNegative, one-not-negative, below-none}
+use Rattle.paths.proofs.Levels.{Weight, back-weight}
+use Rattle.paths.proofs.Bands.{NotNegative8, mul8, transmission8, soft8, way8, gains8}
 use Rattle.paths.proofs.Ranges.{positive-of, le-of-not-lt, delay-positive, quotient-finite}
 
 -- ---- the settings
@@ -103,6 +106,28 @@ gains-numbers g h7 =
       n5 = number-square binary32 (g .b5) (number-right binary32 _ _ h5);
       n6 = number-square binary32 (g .b6) (number-right binary32 _ _ h6);
       n7 = number-square binary32 (g .b7) (number-right binary32 _ _ h7);
+    }
+
+-- a finite energy has finite gains
+pub gains-finite : (g : Band8) → T (isFinite (sumOfSquaresOf g)) → Finite8 g
+unfolding sumOfSquaresOf
+gains-finite g h7 =
+    let h6 = finite-left binary32 _ _ h7 in
+    let h5 = finite-left binary32 _ _ h6 in
+    let h4 = finite-left binary32 _ _ h5 in
+    let h3 = finite-left binary32 _ _ h4 in
+    let h2 = finite-left binary32 _ _ h3 in
+    let h1 = finite-left binary32 _ _ h2 in
+    let h0 = finite-left binary32 _ _ h1 in
+    record {
+      f0 = finite-square binary32 (g .b0) (finite-right binary32 _ _ h0);
+      f1 = finite-square binary32 (g .b1) (finite-right binary32 _ _ h1);
+      f2 = finite-square binary32 (g .b2) (finite-right binary32 _ _ h2);
+      f3 = finite-square binary32 (g .b3) (finite-right binary32 _ _ h3);
+      f4 = finite-square binary32 (g .b4) (finite-right binary32 _ _ h4);
+      f5 = finite-square binary32 (g .b5) (finite-right binary32 _ _ h5);
+      f6 = finite-square binary32 (g .b6) (finite-right binary32 _ _ h6);
+      f7 = finite-square binary32 (g .b7) (finite-right binary32 _ _ h7);
     }
 
 module _ (v : Vec3) (h : T (isFinite (length3Of v))) where
@@ -171,11 +196,24 @@ positive-number nan h = absurd h
 positive-number (inf s) h = absurd h
 positive-number (fin s m e) h = tt
 
+not-below8 : (g : Band8) → NotNegative8 g → NotBelow8 g
+not-below8 g h =
+    record {
+      p0 = below-none (g .b0) (h .p0);
+      p1 = below-none (g .b1) (h .p1);
+      p2 = below-none (g .b2) (h .p2);
+      p3 = below-none (g .b3) (h .p3);
+      p4 = below-none (g .b4) (h .p4);
+      p5 = below-none (g .b5) (h .p5);
+      p6 = below-none (g .b6) (h .p6);
+      p7 = below-none (g .b7) (h .p7);
+    }
+
 candidate-numbers :
     (s : Settings) (last listener : Vec3) (total : Float) (g : Band8) → Rates s → Used s total → T (isFinite (distance3Of listener last)) →
-    T (lt leastEnergy (sumOfSquaresOf g)) → Numbers (candidateOf s last listener total g)
+    T (lt leastEnergy (sumOfSquaresOf g)) → NotNegative8 g → Numbers (candidateOf s last listener total g)
 unfolding candidateOf
-candidate-numbers s last listener total g r u near above =
+candidate-numbers s last listener total g r u near above level =
     let number = above-number leastEnergy (sumOfSquaresOf g) above in
     record {
       energy-is = refl;
@@ -186,6 +224,7 @@ candidate-numbers s last listener total g r u near above =
       delay-number = positive-number _ (candidate-delay s total r u);
       delay-positive = candidate-delay s total r u;
       gains-numbers = gains-numbers g number;
+      gains-not-below = not-below8 g level;
       direction-finite = direction-finite (sub3Of last listener) (rw (distance-turned listener last) at near);
     }
 
@@ -230,24 +269,25 @@ rejected-sound weight blocker = picked (lt weight leastWeight) (lt (sumOfSquares
 
 arrived-sound :
     (s : Settings) (last listener : Vec3) (total weight : Float) (g blocker : Band8) → Rates s → Used s total → T (isFinite (distance3Of listener last)) →
-    Sound (arrivedOf s last listener total weight g blocker)
+    NotNegative8 g → NotNegative8 blocker → Sound (arrivedOf s last listener total weight g blocker)
 unfolding arrivedOf
-arrived-sound s last listener total weight g blocker r u near = picked (lt leastEnergy (sumOfSquaresOf g)) (lt leastEnergy (sumOfSquaresOf (mulOf g blocker))) (λ b. b) where
+arrived-sound s last listener total weight g blocker r u near level blocked = picked (lt leastEnergy (sumOfSquaresOf g)) (lt leastEnergy (sumOfSquaresOf (mulOf g blocker))) (λ b. b) where
   picked :
       (a b : Bool) → (T b → T (lt leastEnergy (sumOfSquaresOf (mulOf g blocker)))) →
       Sound (cond a (cond b (Passed (candidateOf s last listener total (mulOf g blocker))) (rejectedOf weight blocker)) Faint)
-  picked true true f = candidate-numbers s last listener total (mulOf g blocker) r u near (f tt)
+  picked true true f = candidate-numbers s last listener total (mulOf g blocker) r u near (f tt) (mul8 g blocker level blocked)
   picked true false f = rejected-sound weight blocker
   picked false b f = tt
 
-module _ (soft : Vec3 → Vec3 → Transmission) (s : Settings) (materials : List Float) (tri : ℕ → Triangle) (n : ℕ) (source listener : Vec3) (r : Rates s) (some : 0 < n) where
+module _ (soft : Vec3 → Vec3 → Transmission) (s : Settings) (materials : List Float) (tri : ℕ → Triangle) (n : ℕ) (source listener : Vec3) (r : Rates s) (some : 0 < n)
+    (all : (a b : Vec3) → NotNegative8 (soft a b .gain)) where
   gone-sound :
-      (points : List Vec3) (tris : List ℕ) (weight : Float) (w : Way) → T (fits binary32 (w .total)) →
+      (points : List Vec3) (tris : List ℕ) (weight : Float) (w : Way) → T (fits binary32 (w .total)) → NotNegative weight → NotNegative8 (w .gain) →
       (T (isFinite (w .total)) → T (isFinite (distance3Of listener (lastOf points n)))) →
       Sound (cond (usableOf (w .total) (s .«max_reflection_distance»))
       (arrivedOf s (lastOf points n) listener (w .total) weight (gainsOf (s .«distance_model») (reflectedOf materials tri tris) (w .total) weight) (w .gain)) TooLong)
   unfolding usableOf
-  gone-sound points tris weight w fitting near =
+  gone-sound points tris weight w fitting heavy blocked near =
       picked (isFinite (w .total)) (lt zero32 (w .total)) (not (lt (s .«max_reflection_distance») (w .total))) (λ b. b) (λ b. b) (λ b. b)
     where
       picked :
@@ -256,6 +296,7 @@ module _ (soft : Vec3 → Vec3 → Transmission) (s : Settings) (materials : Lis
           (arrivedOf s (lastOf points n) listener (w .total) weight (gainsOf (s .«distance_model») (reflectedOf materials tri tris) (w .total) weight) (w .gain)) TooLong)
       picked true true true f g h =
           arrived-sound s (lastOf points n) listener (w .total) weight _ (w .gain) r (record { fitting = fitting; finite = f tt; above = g tt; within = h tt }) (near (f tt))
+          (gains8 (s .«distance_model») materials tri tris (w .total) weight heavy) blocked
       picked true true false f g h = tt
       picked true false c f g h = tt
       picked false b c f g h = tt
@@ -264,11 +305,12 @@ module _ (soft : Vec3 → Vec3 → Transmission) (s : Settings) (materials : Lis
   unfolding wayOf goOf
   way-fits points = add-fits binary32 _ _
 
-  bounced-sound : (b : Bounces) → Long n b → Sound (bouncedOf soft s materials tri n source listener b .fate)
+  bounced-sound : (b : Bounces) → Long n b → Weight b → Sound (bouncedOf soft s materials tri n source listener b .fate)
   unfolding bouncedOf
-  bounced-sound notCrossed long = tt
-  bounced-sound offSurface long = tt
-  bounced-sound (made points tris weight) long = gone-sound points tris weight (wayOf soft listener source points) (way-fits points) (last-finite soft listener source n points long some)
+  bounced-sound notCrossed long heavy = tt
+  bounced-sound offSurface long heavy = tt
+  bounced-sound (made points tris weight) long heavy =
+      gone-sound points tris weight (wayOf soft listener source points) (way-fits points) heavy (way8 soft all listener source points) (last-finite soft listener source n points long some)
 
 -- ---- a path
 
@@ -287,8 +329,12 @@ module _ (limit : ℕ) (radius : Float) (s : Settings) (planes : List Plane) (tr
         let e : length seq + 0 ≡ length seq = omega arith in
         back-long tri (s .«reflection_edge_fade») (planeOn planes seq) (imageAt planes source seq) (length seq) listener one32 [] [] (length seq) e
 
+    heavy : Weight found
+    heavy =
+        back-weight tri (s .«reflection_edge_fade») (planeOn planes seq) (imageAt planes source seq) (length seq) listener one32 [] [] one-not-negative
+
     picked : (b : Bool) → Sound (cond b (bouncedOf soft s materials tri (length seq) source listener found) (verdict TooFar 0) .fate)
-    picked true = bounced-sound soft s materials tri (length seq) source listener r some found long
+    picked true = bounced-sound soft s materials tri (length seq) source listener r some (soft8 (traceIn tri t) (transmissionOf materials) (transmission8 materials) limit radius) found long heavy
     picked false = tt
 
   pub path-numbers :

@@ -1,11 +1,12 @@
--- What the ranking and a packet need of a candidate: nothing in it is NaN, energy and delay are values of the format, the delay is above 0 and the
--- direction finite. That a candidate of a path has it, where distance, speed and rate lie within document 01's limits, is `path-numbers` of
+-- What the ranking and a packet need of a candidate: nothing in it is NaN, energy and delay are values of the format, the delay is above 0, the
+-- direction finite, and no gain below 0. That a candidate of a path has it, where distance, speed and rate lie within document 01's limits, is `path-numbers` of
 -- proofs/Numbers.antt.
 use lib.Dec.{T}
 use lib.Ieee.{Float, binary32, lt, fits, isNan}
 use lib.Ieee.Positive.{positive}
 use mathlib.Core.Path.{_≡_}
 use mathlib.Core.Bool.{Bool, not}
+use Rattle.float.specs.Literals.{zero32}
 use Rattle.float.specs.Compare.{isFinite}
 use Rattle.vector.specs.declared.Vec3.{Vec3}
 use Rattle.bands.specs.declared.Band8.{Band8}
@@ -31,6 +32,27 @@ pub record Numbers8 (g : Band8) : Type 0 where
   pub n6 : T (isNumber (g .b6))
   pub n7 : T (isNumber (g .b7))
 
+pub record Finite8 (g : Band8) : Type 0 where
+  pub f0 : T (isFinite (g .b0))
+  pub f1 : T (isFinite (g .b1))
+  pub f2 : T (isFinite (g .b2))
+  pub f3 : T (isFinite (g .b3))
+  pub f4 : T (isFinite (g .b4))
+  pub f5 : T (isFinite (g .b5))
+  pub f6 : T (isFinite (g .b6))
+  pub f7 : T (isFinite (g .b7))
+
+-- none is below 0
+pub record NotBelow8 (g : Band8) : Type 0 where
+  pub p0 : T (not (lt (g .b0) zero32))
+  pub p1 : T (not (lt (g .b1) zero32))
+  pub p2 : T (not (lt (g .b2) zero32))
+  pub p3 : T (not (lt (g .b3) zero32))
+  pub p4 : T (not (lt (g .b4) zero32))
+  pub p5 : T (not (lt (g .b5) zero32))
+  pub p6 : T (not (lt (g .b6) zero32))
+  pub p7 : T (not (lt (g .b7) zero32))
+
 pub record Numbers (c : PathCandidate) : Type 0 where
   pub energy-is : c .energy ≡ sumOfSquaresOf (c .gains)
   pub energy-above : T (lt leastEnergy (c .energy))
@@ -41,4 +63,5 @@ pub record Numbers (c : PathCandidate) : Type 0 where
   -- finite and above 0
   pub delay-positive : T (positive (c .delay))
   pub gains-numbers : Numbers8 (c .gains)
+  pub gains-not-below : NotBelow8 (c .gains)
   pub direction-finite : Finite3 (c .direction)

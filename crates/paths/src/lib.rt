@@ -16,11 +16,17 @@ ghost use Rattle.segments.specs.Materials.{materialFloats};
 ghost use Rattle.segments.specs.Segment.{maxCrossings};
 ghost use Rattle.segments.specs.Areas.{TreeReads, Traceable};
 ghost use Rattle.bounces.specs.Image.{imageOf};
-ghost use Rattle.bounces.specs.Areas.{maxOrder, trailOf, Going};
+ghost use Rattle.bounces.specs.Areas.{maxOrder, madeFate, trailOf, Going};
 ghost use Rattle.paths.specs.Visibility.{startOf, goOf, wayOf};
 ghost use Rattle.paths.specs.Gains.{usableOf, reflectedOf, airGainOf, gainsOf, rejectedOf, candidateOf, arrivedOf};
 ghost use Rattle.paths.specs.Path.{verdict, bouncedOf, pathOf};
 ghost use Rattle.paths.specs.Areas.{softIn, Lent, ReadAs};
+
+const LEAST_ENERGY: f32 = 1e-14;
+
+const LEAST_WEIGHT: f32 = 1e-3;
+
+const LEAST_BLOCKER: f32 = 1e-6;
 
 // What is left of a sound on the way gone so far, its length, where it has come to, and the traces made.
 pub struct Way {
@@ -211,10 +217,10 @@ fn gains(model: DistanceModel, reflection: Band8, total: f32, weight: f32) -> Ba
 fn rejected(weight: f32, blocker: Band8) -> Fate
     ensures { λ r. ⌜ r ≡ rejectedOf weight blocker ⌝ }
 {
-    if weight < 1e-3 {
+    if weight < LEAST_WEIGHT {
         return Fate::Faded;
     }
-    if bands::sum_of_squares(blocker) < 1e-6 {
+    if bands::sum_of_squares(blocker) < LEAST_BLOCKER {
         return Fate::Blocked;
     }
     Fate::Faint
@@ -243,9 +249,9 @@ fn arrived(
 ) -> Fate
     ensures { λ r. ⌜ r ≡ arrivedOf s last listener total weight gains blocker ⌝ }
 {
-    if bands::sum_of_squares(gains) > 1e-14 {
+    if bands::sum_of_squares(gains) > LEAST_ENERGY {
         let left = bands::mul(gains, blocker);
-        if bands::sum_of_squares(left) > 1e-14 {
+        if bands::sum_of_squares(left) > LEAST_ENERGY {
             return Fate::Passed(candidate(s, last, listener, total, left));
         }
         return rejected(weight, blocker);
@@ -278,7 +284,7 @@ fn judge(
 ) -> Verdict
     requires { ⌜ Traceable (now padded) (now nodes) (now perm) (now rows) (now handles) «nodes_count» (now materials) ⌝ }
     requires { ⌜ (0 < order) × (order ≤ maxOrder) ⌝ }
-    requires { ⌜ (trail .fate ≡ 0 → Going trail) ⌝ }
+    requires { ⌜ (trail .fate ≡ madeFate → Going trail) ⌝ }
     ensures { λ r. ⌜ ((tri : ℕ → Triangle) (t : Tree) → TreeReads (now (padded .entry)) (now (nodes .entry)) (now (perm .entry)) (now (rows .entry)) (now (handles .entry)) tri t → r ≡ bouncedOf (softIn tri t (now (materials .entry))) s (now (materials .entry)) tri order source listener (trailOf trail order)) ⌝ }
     ensures { λ r. ⌜ r .rays ≤ 18 * (maxCrossings + 1) * (order + 1) ⌝ }
 {
@@ -314,7 +320,7 @@ fn judge(
         }
         return counted(Fate::TooLong, way.rays);
     }
-    if fate == 2 {
+    if fate == bounces::NOT_CROSSED {
         return counted(Fate::NotCrossed, 0);
     }
     counted(Fate::OffSurface, 0)

@@ -22,6 +22,9 @@ const OCCLUSION_MAX_CROSSINGS: usize = 8;
 
 const REFLECTION_VISIBILITY_RADIUS: f32 = 0.06;
 
+// One probe in the middle and eight around it.
+const REFLECTION_VISIBILITY_RAYS: f32 = 9.0;
+
 const PROBES: usize = 8;
 
 const MATERIAL_FLOATS: usize = 16;
@@ -261,14 +264,14 @@ fn add_part(s: Band8, g: Band8) -> Band8
     ensures { λ r. ⌜ r ≡ addPartOf s g ⌝ }
 {
     Band8 {
-        b0: s.b0 + g.b0 / 9.0,
-        b1: s.b1 + g.b1 / 9.0,
-        b2: s.b2 + g.b2 / 9.0,
-        b3: s.b3 + g.b3 / 9.0,
-        b4: s.b4 + g.b4 / 9.0,
-        b5: s.b5 + g.b5 / 9.0,
-        b6: s.b6 + g.b6 / 9.0,
-        b7: s.b7 + g.b7 / 9.0,
+        b0: s.b0 + g.b0 / REFLECTION_VISIBILITY_RAYS,
+        b1: s.b1 + g.b1 / REFLECTION_VISIBILITY_RAYS,
+        b2: s.b2 + g.b2 / REFLECTION_VISIBILITY_RAYS,
+        b3: s.b3 + g.b3 / REFLECTION_VISIBILITY_RAYS,
+        b4: s.b4 + g.b4 / REFLECTION_VISIBILITY_RAYS,
+        b5: s.b5 + g.b5 / REFLECTION_VISIBILITY_RAYS,
+        b6: s.b6 + g.b6 / REFLECTION_VISIBILITY_RAYS,
+        b7: s.b7 + g.b7 / REFLECTION_VISIBILITY_RAYS,
     }
 }
 
