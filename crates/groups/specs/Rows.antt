@@ -21,6 +21,12 @@ use Rattle.groups.specs.Groups.{descendingKey, isTilted, isNear, grownOf
 unfoldable pub groupsIn : List ℕ → List ℕ → ℕ → List (List ℕ)
 groupsIn queue starts ng = map (λ g. partOf queue (getD starts g 0) (getD starts (g + 1) 0)) (upTo ng)
 
+-- each group ends where the next one starts, and their numbers are those of patches
+pub record Grouped (np ng : ℕ) (queue starts : List ℕ) : Type 0 where
+  pub rise : (g : ℕ) → g < ng → getD starts g 0 ≤ getD starts (g + 1) 0
+  pub ends : (g : ℕ) → g ≤ ng → getD starts g 0 ≤ np
+  pub below : Below np (take (getD starts ng 0) queue)
+
 -- ---- what the code reads
 
 -- rows of numbers below a bound

@@ -19,7 +19,7 @@ ghost use Rattle.links.specs.Words.{mostTriangles, mostRows, lows, rowIn, partO
 ghost use Rattle.links.specs.Links.{isJoined, Numbers};
 ghost use Rattle.groups.specs.Settings.{Settings};
 ghost use Rattle.groups.specs.Groups.{rankOf, descendingKey, isTilted, isNear, grownOf, groupsFrom, groupsOf};
-ghost use Rattle.groups.specs.Rows.{groupsIn, Table, seedKeyIn, Numbered, takesIn, isFree, freeOf, Queue, LetIn, Grown, RowsOf};
+ghost use Rattle.groups.specs.Rows.{groupsIn, Grouped, Table, seedKeyIn, Numbered, takesIn, isFree, freeOf, Queue, LetIn, Grown, RowsOf};
 
 // How many triangles, and so patches, a scene with planes has at most: `mostTriangles`.
 const MOST_TRIANGLES: u32 = 4096;
@@ -111,9 +111,10 @@ fn seeds(
 // `order.iter().map(|&p| vec![p])`: each patch alone.
 fn each_alone(order: &[u32], np: usize, queue: &mut [u32], starts: &mut [u32])
     requires { ⌜ np ≤ mostTriangles ⌝ }
-    requires { ⌜ np ≤ length (now order) ⌝ }
+    requires { ⌜ (np ≤ length (now order)) × Below np (take np (now order)) ⌝ }
     requires { ⌜ np ≤ length (now queue) ⌝ }
     requires { ⌜ np < length (now starts) ⌝ }
+    ensures { λ _. ⌜ Grouped np np (now (queue .exit)) (now (starts .exit)) ⌝ }
     ensures { λ _. ⌜ groupsIn (now (queue .exit)) (now (starts .exit)) np ≡ map (λ p. p ∷ []) (take np (now (order .entry))) ⌝ }
 {
     starts[0] = 0;
@@ -441,6 +442,7 @@ fn grow_groups(
     requires { ⌜ Queue np (now assigned) (now queue) 0 ⌝ }
     requires { ⌜ np < length (now starts) ⌝ }
     ensures { λ r. ⌜ r ≤ np ⌝ }
+    ensures { λ r. ⌜ Grouped np r (now (queue .exit)) (now (starts .exit)) ⌝ }
     ensures { λ r. ⌜ ((adj : ℕ → ℕ → Bool) → RowsOf np (now (asorted .entry)) (now (astarts .entry)) adj → groupsIn (now (queue .exit)) (now (starts .exit)) r ≡ groupsFrom np adj (takesIn (now (area .entry)) (now (handles .entry)) n (now (rows .entry)) (now (tsorted .entry)) (now (tstarts .entry)) least most) (take np (now (order .entry))) (freeOf np (now (assigned .entry)))) ⌝ }
 {
     starts[0] = 0;
@@ -514,6 +516,7 @@ fn merge(
     requires { ⌜ (24 * m ≤ length (now asorted)) × (np < length (now astarts)) ⌝ }
     requires { ⌜ (np ≤ length (now assigned)) × (np ≤ length (now queue)) × (np < length (now starts)) ⌝ }
     ensures { λ r. ⌜ r ≤ np ⌝ }
+    ensures { λ r. ⌜ Grouped np r (now (queue .exit)) (now (starts .exit)) ⌝ }
     ensures { λ r. ⌜ ((adj : ℕ → ℕ → Bool) → ((p q : ℕ) → p < np → q < np → isJoined (now (id .entry)) n vertices (now (of .entry)) m np p q ≡ adj p q) → groupsIn (now (queue .exit)) (now (starts .exit)) r ≡ groupsFrom np adj (takesIn (now (area .entry)) (now (handles .entry)) n (now (rows .entry)) (now (tsorted .entry)) (now (tstarts .entry)) least most) (take np (now (order .entry))) (upTo np)) ⌝ }
 {
     links::adjacency(
@@ -591,6 +594,7 @@ pub fn merge_patches(
     requires { ⌜ (m ≤ length (now order)) × (m ≤ length (now assigned)) ⌝ }
     requires { ⌜ (m ≤ length (now queue)) × (m < length (now starts)) ⌝ }
     ensures { λ r. ⌜ r ≤ np ⌝ }
+    ensures { λ r. ⌜ Grouped np r (now (queue .exit)) (now (starts .exit)) ⌝ }
     ensures { λ r. ⌜ ((s : Settings) → s .mergeOn ≡ on → s .mergeCos ≡ least → s .mergeOffset ≡ most → groupsIn (now (queue .exit)) (now (starts .exit)) r ≡ groupsOf s (trianglesIn (now (area .entry)) (now (handles .entry)) n m) (patchesIn (now (rows .entry)) (now (of .entry)) m np)) ⌝ }
 {
     links::patch_rows(of, m, np as u32, words, scratch, tsorted, tstarts);

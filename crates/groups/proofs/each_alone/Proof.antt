@@ -6,7 +6,7 @@ use Prim.Native.Nat.{ℕ, _+_, _-_, _*_, _%_, _≤_, _<_}
 use native.Mathlib.Omega.{arith}
 use lib.ListN.{length, getD, take, drop, set, length-set}
 use lib.Seq.{getD-set-same}
-use Rattle.groups.proofs.Grouping.{Alone, alone-none, alone-more}
+use Rattle.groups.proofs.Grouping.{Alone, alone-none, alone-more, alone-grouped}
 use Rattle.groups.proofs.each_alone.Statement.{statement}
 use Rattle.groups.proofs.each_alone.Tie as tie
 
@@ -23,6 +23,12 @@ slice-write-starts c = omega (arith, c .pre .1 .1 .1)
 
 loop-holds : tie.Need-loop-holds Inv-loop μ-loop
 loop-holds c = let room : 0 < length (c .args .starts .now) = omega (arith, c .pre .1 .1 .1) in (omega arith, refl, refl, alone-none (c .args .order .now) (c .args .queue .now) (set (c .args .starts .now) 0 0) (getD-set-same (c .args .starts .now) 0 0 0 room))
+
+mul-queue : tie.Need-mul-queue Inv-loop μ-loop
+mul-queue c = omega (arith, c .before .before .pre .1 .0 .0)
+
+shared-slice-read-queue : tie.Need-shared-slice-read-queue Inv-loop μ-loop
+shared-slice-read-queue c = omega (arith, c .before .before .before .pre .1 .0 .0)
 
 mul-queue-2 : tie.Need-mul-queue-2 Inv-loop μ-loop
 mul-queue-2 c = omega (arith, c .before .before .loop .inv .1, c .before .before .before .pre .1 .1 .0)
@@ -41,7 +47,7 @@ loop-again c = (
   omega arith,
   length-set (c .before .before .loop .queue) (c .before .before .loop .i) (getD (c .before .before .before .args .order .now) (c .before .before .loop .i) 0) ∙ c .before .before .loop .inv .1,
   length-set (c .before .before .loop .starts) (c .before .before .loop .i + 1) (c .before .before .loop .i + 1) ∙ c .before .before .loop .inv .2,
-  alone-more (c .before .before .before .args .order .now) (c .before .before .loop .queue) (c .before .before .loop .starts) (c .before .before .loop .i) (omega (arith, c .before .before .before .pre .1 .0, c .before .loop-test .taken)) (omega (arith, c .before .before .loop .inv .1, c .before .before .before .pre .1 .1 .0, c .before .loop-test .taken)) (omega (arith, c .before .before .loop .inv .2 ∙ length-set (c .before .before .before .args .starts .now) 0 0, c .before .before .before .pre .1 .1 .1, c .before .loop-test .taken)) (c .before .before .loop .inv .3),
+  alone-more (c .before .before .before .args .order .now) (c .before .before .loop .queue) (c .before .before .loop .starts) (c .before .before .loop .i) (omega (arith, c .before .before .before .pre .1 .0 .0, c .before .loop-test .taken)) (omega (arith, c .before .before .loop .inv .1, c .before .before .before .pre .1 .1 .0, c .before .loop-test .taken)) (omega (arith, c .before .before .loop .inv .2 ∙ length-set (c .before .before .before .args .starts .now) 0 0, c .before .before .before .pre .1 .1 .1, c .before .loop-test .taken)) (c .before .before .loop .inv .3),
 )
 
 same-length : tie.Need-same-length Inv-loop μ-loop
@@ -51,7 +57,10 @@ same-length-2 : tie.Need-same-length-2 Inv-loop μ-loop
 same-length-2 c = c .before .loop .inv .2 ∙ length-set (c .before .before .args .starts .now) 0 0
 
 returns : tie.Need-returns Inv-loop μ-loop
-returns c = let e : c .before .loop .i ≡ c .before .before .args .np = omega arith in rw e at (c .before .loop .inv .3 .is)
+returns c =
+    let e : c .before .loop .i ≡ c .before .before .args .np = omega arith in
+    let m : Alone (c .before .before .args .order .now) (c .before .loop .queue) (c .before .loop .starts) (c .before .before .args .np) = rw e at (c .before .loop .inv .3) in
+    (alone-grouped (c .before .before .args .order .now) (c .before .loop .queue) (c .before .loop .starts) (c .before .before .args .np) (c .before .before .pre .1 .0 .1) m, m .is)
 
 pub each-alone-spec : {M : Type 1} → statement M
 each-alone-spec =
@@ -61,8 +70,8 @@ each-alone-spec =
     μ-loop
     slice-write-starts
     loop-holds
-    (λ c. omega arith)
-    (λ c. omega arith)
+    mul-queue
+    shared-slice-read-queue
     mul-queue-2
     slice-write-queue
     (λ c. omega arith)

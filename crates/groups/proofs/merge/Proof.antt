@@ -77,9 +77,12 @@ returns c =
     let e = c .before .before .before .before .before .before .before .before .before .before .before .before .before .before .clear-u32 .ensures in
     let f : ℕ → ℕ → Bool = takesIn (a .area .now) (a .handles .now) (a .n) (a .rows .now) (a .tsorted .now) (a .tstarts .now) (a .least) (a .most) in (
       c .before .before .before .before .before .before .grow-groups .ensures .0,
-      λ adj same.
-          c .before .before .before .before .before .before .grow-groups .ensures .1 adj (rows-adjacent (a .np) (c .before .before .before .before .before .before .before .before .before .before .before .before .before .before .before .before .before .before .before .before .before .before .before .before .before .before .before .before .adjacency .last .1 .1 .1 .1 .1 .1 .1 .1 .1 .1 .0) (c .before .before .before .before .before .before .before .before .before .before .before .before .before .before .before .before .before .before .before .before .before .before .before .before .before .before .before .before .adjacency .last .1 .1 .1 .1 .1 .1 .1 .1 .1 .1 .1 .0) (isJoined (a .id .now) (a .n) (a .vertices) (a .of .now) (a .m) (a .np)) adj (c .before .before .before .before .before .before .before .before .before .before .before .before .before .before .before .before .before .before .before .before .before .before .before .before .before .before .before .before .adjacency .ensures .1) same)
-          ∙ ap (groupsFrom (a .np) adj f (take (a .np) (a .order .now))) (ap (freeOf (a .np)) e ∙ free-all (a .np) (length (a .assigned .now)) (c .before .before .before .before .before .before .before .before .before .before .before .before .before .before .before .before .before .before .before .before .before .before .before .before .before .before .before .before .before .before .before .before .before .before .before .before .before .before .before .before .before .before .before .before .before .before .before .before .before .before .before .before .pre .1 .1 .1 .1 .1 .1 .1 .1 .1 .0)),
+      (
+        c .before .before .before .before .before .before .grow-groups .ensures .1 .0,
+        λ adj same.
+            c .before .before .before .before .before .before .grow-groups .ensures .1 .1 adj (rows-adjacent (a .np) (c .before .before .before .before .before .before .before .before .before .before .before .before .before .before .before .before .before .before .before .before .before .before .before .before .before .before .before .before .adjacency .last .1 .1 .1 .1 .1 .1 .1 .1 .1 .1 .0) (c .before .before .before .before .before .before .before .before .before .before .before .before .before .before .before .before .before .before .before .before .before .before .before .before .before .before .before .before .adjacency .last .1 .1 .1 .1 .1 .1 .1 .1 .1 .1 .1 .0) (isJoined (a .id .now) (a .n) (a .vertices) (a .of .now) (a .m) (a .np)) adj (c .before .before .before .before .before .before .before .before .before .before .before .before .before .before .before .before .before .before .before .before .before .before .before .before .before .before .before .before .adjacency .ensures .1) same)
+            ∙ ap (groupsFrom (a .np) adj f (take (a .np) (a .order .now))) (ap (freeOf (a .np)) e ∙ free-all (a .np) (length (a .assigned .now)) (c .before .before .before .before .before .before .before .before .before .before .before .before .before .before .before .before .before .before .before .before .before .before .before .before .before .before .before .before .before .before .before .before .before .before .before .before .before .before .before .before .before .before .before .before .before .before .before .before .before .before .before .before .pre .1 .1 .1 .1 .1 .1 .1 .1 .1 .0)),
+      ),
     )
 
 pub merge-spec : {M : Type 1} → statement M
