@@ -30,29 +30,34 @@ shared-slice-read-at : tie.Need-shared-slice-read-at Inv-loop μ-loop
 shared-slice-read-at c = c .before .loop-test .taken
 
 triangle-at-requires : tie.Need-triangle-at-requires Inv-loop μ-loop
-triangle-at-requires c κs = (c .before .before .before .before .before .before .pre .0 .0, c .before .before .before .before .before .before .pre .0 .1, low-below (c .before .before .before .before .before .before .args .n) (c .before .before .before .before .before .before .args .tris .now) (c .before .before .loop .i) (c .before .before .before .before .before .before .pre .1) (c .before .loop-test .taken))
+triangle-at-requires c κs =
+    let st = c .before .before .before .before .before .before in
+    (st .pre .0 .0, st .pre .0 .1, low-below (st .args .n) (st .args .tris .now) (c .before .before .loop .i) (st .pre .1) (c .before .loop-test .taken))
 
 loop-again : tie.Need-loop-again Inv-loop μ-loop
 loop-again c =
+    let lp = c .before .before .before .before .before .loop in
     let a = c .before .before .before .before .before .before .before .before .before .args in
     let f : ℕ → Bool = λ t. allBy (isNear (a .normal) (a .offset) (a .most)) (cornersOf (triangleAtOf (a .area .now) (a .handles .now) (a .n) t)) in (
       omega arith,
-      all-next f (lows (a .tris .now)) (c .before .before .before .before .before .loop .i) (rw (lows-length (a .tris .now)) (c .before .before .before .before .loop-test .taken))
-          (ap f (low-at (a .tris .now) (c .before .before .before .before .before .loop .i)) ∙ rw (← c .before .before .triangle-at .ensures, ← c .before .is-triangle-near .ensures) (c .if1 .taken)) ∙ c .before .before .before .before .before .loop .inv .1,
+      all-next f (lows (a .tris .now)) (lp .i) (rw (lows-length (a .tris .now)) (c .before .before .before .before .loop-test .taken))
+          (ap f (low-at (a .tris .now) (lp .i)) ∙ rw (← c .before .before .triangle-at .ensures, ← c .before .is-triangle-near .ensures) (c .if1 .taken)) ∙ lp .inv .1,
     )
 
 returns : tie.Need-returns Inv-loop μ-loop
 returns c =
+    let lp = c .before .before .before .before .before .loop in
     let a = c .before .before .before .before .before .before .before .before .before .args in
     let f : ℕ → Bool = λ t. allBy (isNear (a .normal) (a .offset) (a .most)) (cornersOf (triangleAtOf (a .area .now) (a .handles .now) (a .n) t)) in
-    all-stop f (lows (a .tris .now)) (c .before .before .before .before .before .loop .i) (rw (lows-length (a .tris .now)) (c .before .before .before .before .loop-test .taken))
-    (ap f (low-at (a .tris .now) (c .before .before .before .before .before .loop .i)) ∙ rw (← c .before .before .triangle-at .ensures, ← c .before .is-triangle-near .ensures) (c .if1 .left)) ∙ c .before .before .before .before .before .loop .inv .1
+    all-stop f (lows (a .tris .now)) (lp .i) (rw (lows-length (a .tris .now)) (c .before .before .before .before .loop-test .taken))
+    (ap f (low-at (a .tris .now) (lp .i)) ∙ rw (← c .before .before .triangle-at .ensures, ← c .before .is-triangle-near .ensures) (c .if1 .left)) ∙ lp .inv .1
 
 returns-2 : tie.Need-returns-2 Inv-loop μ-loop
 returns-2 c =
+    let lp = c .before .loop in
     let a = c .before .before .before .before .before .args in
     let f : ℕ → Bool = λ t. allBy (isNear (a .normal) (a .offset) (a .most)) (cornersOf (triangleAtOf (a .area .now) (a .handles .now) (a .n) t)) in
-    all-end f (lows (a .tris .now)) (c .before .loop .i) (rw (lows-length (a .tris .now)) (c .loop-test .left)) ∙ c .before .loop .inv .1
+    all-end f (lows (a .tris .now)) (lp .i) (rw (lows-length (a .tris .now)) (c .loop-test .left)) ∙ lp .inv .1
 
 pub is-within-spec : {M : Type 1} → statement M
 is-within-spec =

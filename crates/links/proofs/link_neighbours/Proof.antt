@@ -28,18 +28,21 @@ push-requires-2 : tie.Need-push-requires-2 Inv-loop μ-loop
 push-requires-2 c κs = (omega (arith, c .before .before .before .before .before .before .before .before .loop .inv .2, c .before .before .before .push .kept .0, c .before .before .before .push .ensures .0), (omega arith, omega arith))
 
 loop-again : tie.Need-loop-again Inv-loop μ-loop
-loop-again c = (
-  omega arith,
-  omega (arith, c .before .before .before .before .before .before .push .ensures .0, c .before .before .push2 .ensures .0),
-  c .before .before .push2 .kept .0 ∙ c .before .before .before .before .before .before .push .kept .0 ∙ c .before .before .before .before .before .before .before .before .before .before .before .loop .inv .2,
-  next-more (c .before .before .before .before .before .before .before .before .before .before .before .before .before .before .args .row .now) (c .before .before .before .before .before .before .before .before .before .before .before .before .before .before .args .words .now) (c .before .before .before .before .before .before .before .before .before .before .before .before .before .before .args .from) (c .before .before .before .before .before .before .before .before .before .before .before .loop .words) (c .before .before .before .before .before .before .push .last .0) (c .before .before .push2 .last .0) (c .before .before .before .before .before .before .before .before .before .before .before .loop .k) (c .before .before .before .before .before .before .push .result) (c .before .before .push2 .result) (c .before .before .before .before .before .before .before .before .before .before .before .loop .i) (c .before .before .before .before .before .before .before .before .before .before .loop-test .taken) (c .before .before .before .before .before .before .push .ensures .1) (c .before .before .push2 .ensures .1) (c .before .before .before .before .before .before .before .before .before .before .before .loop .inv .3),
-)
+loop-again c =
+    let st = c .before .before .before .before .before .before .before .before .before .before .before .before .before .before in let lp = c .before .before .before .before .before .before .before .before .before .before .before .loop in (
+      omega arith,
+      omega (arith, c .before .before .before .before .before .before .push .ensures .0, c .before .before .push2 .ensures .0),
+      c .before .before .push2 .kept .0 ∙ c .before .before .before .before .before .before .push .kept .0 ∙ lp .inv .2,
+      next-more (st .args .row .now) (st .args .words .now) (st .args .from) (lp .words) (c .before .before .before .before .before .before .push .last .0) (c .before .before .push2 .last .0) (lp .k) (c .before .before .before .before .before .before .push .result) (c .before .before .push2 .result) (lp .i) (c .before .before .before .before .before .before .before .before .before .before .loop-test .taken) (c .before .before .before .before .before .before .push .ensures .1) (c .before .before .push2 .ensures .1) (lp .inv .3),
+    )
 
 same-length : tie.Need-same-length Inv-loop μ-loop
 same-length c = c .before .loop .inv .2
 
 returns : tie.Need-returns Inv-loop μ-loop
-returns c = (omega arith, next-done (c .before .before .before .before .args .row .now) (c .before .before .before .before .args .words .now) (c .before .before .before .before .args .from) (c .before .loop .words) (c .before .loop .k) (c .before .loop .i) (c .loop-test .left) (c .before .loop .inv .3))
+returns c =
+    let st = c .before .before .before .before in let lp = c .before .loop in
+    (omega arith, next-done (st .args .row .now) (st .args .words .now) (st .args .from) (lp .words) (lp .k) (lp .i) (c .loop-test .left) (lp .inv .3))
 
 pub link-neighbours-spec : {M : Type 1} → statement M
 link-neighbours-spec =

@@ -17,13 +17,15 @@ link-all-requires c κs = (omega arith, omega arith)
 
 returns : tie.Need-returns
 returns c =
-    let row = c .before .before .before .before .before .before .before .args .row .now in
-    (c .before .before .link-all .ensures .0, λ a b h. c .before .before .link-all .ensures .1 a b h ∙ ap (λ (t : Bool). has (wordOf a b) (uppers (c .before .before .before .before .before .before .before .args .words .now) (c .before .before .before .before .before .before .before .args .from)) || t) (row-all (lows row) a b (rw (lows-length row) (c .before .before .before .before .if1 .taken))))
+    let st = c .before .before .before .before .before .before .before in
+    let row = st .args .row .now in
+    (c .before .before .link-all .ensures .0, λ a b h. c .before .before .link-all .ensures .1 a b h ∙ ap (λ (t : Bool). has (wordOf a b) (uppers (st .args .words .now) (st .args .from)) || t) (row-all (lows row) a b (rw (lows-length row) (c .before .before .before .before .if1 .taken))))
 
 returns-2 : tie.Need-returns-2
 returns-2 c =
-    let row = c .before .before .before .before .before .before .before .args .row .now in
-    (c .before .before .link-neighbours .ensures .0, λ a b h. c .before .before .link-neighbours .ensures .1 a b h ∙ ap (λ (t : Bool). has (wordOf a b) (uppers (c .before .before .before .before .before .before .before .args .words .now) (c .before .before .before .before .before .before .before .args .from)) || t) (row-next (lows row) a b (rw (lows-length row) (c .before .before .before .before .if1 .left))))
+    let st = c .before .before .before .before .before .before .before in
+    let row = st .args .row .now in
+    (c .before .before .link-neighbours .ensures .0, λ a b h. c .before .before .link-neighbours .ensures .1 a b h ∙ ap (λ (t : Bool). has (wordOf a b) (uppers (st .args .words .now) (st .args .from)) || t) (row-next (lows row) a b (rw (lows-length row) (c .before .before .before .before .if1 .left))))
 
 pub link-row-spec : {M : Type 1} → statement M
 link-row-spec =
