@@ -1,4 +1,5 @@
--- What the code of `groups` rests on.
+-- What the code of `groups` rests on, and what its caller cites: `Numbering`.
+pub mod Numbering
 mod Seeding
 mod Taking
 mod Growing

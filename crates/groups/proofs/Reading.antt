@@ -16,6 +16,7 @@ use Rattle.order.specs.Runs.{headOr, upTo}
 use Rattle.order.proofs.Laws.{below-none, below-cons, below-sort, length-sort}
 use Rattle.order.proofs.Stable.{by-eq}
 use Rattle.order.proofs.Lexi.{sort-cong}
+use Rattle.faces.proofs.Corners.{getD-map-upTo}
 use Rattle.faces.proofs.Firsts.{upTo-length}
 use Rattle.geometry.specs.declared.Triangle.{Triangle}
 use Rattle.columns.specs.Columns.{triangleAtOf}
@@ -42,18 +43,10 @@ upTo-at (suc n) i h =
     (λ e. ap (λ (k : ℕ). getD (upTo n ++ (n ∷ [])) k 0) e ∙ getD-at (upTo n) n [] 0 n l ∙ sym e)
     (λ d. let g : i < n = by-order (suc i) n (λ y. y) (λ y. absurd (d (omega arith))) in List·getD-append (upTo n) (n ∷ []) 0 i (rw l g) ∙ r g)
 
-map-at : {A : Type 0} (f : ℕ → A) (xs : List ℕ) (i : ℕ) (d : A) → i < length xs → getD (map f xs) i d ≡ f (getD xs i 0)
-map-at f [] i d h = absurd (not-suc-le-zero h)
-map-at f (x ∷ xs) zero d h = refl
-map-at f (x ∷ xs) (suc i) d h = map-at f xs i d (le-of-suc-le-suc h)
-
 pub map-twice : {A B : Type 0} (f : A → B) (g : ℕ → A) (xs : List ℕ) (i : ℕ) (d : B) → i < length xs → getD (map f (map g xs)) i d ≡ f (g (getD xs i 0))
 map-twice f g [] i d h = absurd (not-suc-le-zero h)
 map-twice f g (x ∷ xs) zero d h = refl
 map-twice f g (x ∷ xs) (suc i) d h = map-twice f g xs i d (le-of-suc-le-suc h)
-
-pub map-upTo : {A : Type 0} (f : ℕ → A) (n i : ℕ) (d : A) → i < n → getD (map f (upTo n)) i d ≡ f i
-map-upTo f n i d h = map-at f (upTo n) i d (rw (upTo-length n) h) ∙ ap f (upTo-at n i h)
 
 under-below : (n : ℕ) (xs : List ℕ) → Under n xs → Below n xs
 unfolding Under
@@ -116,11 +109,11 @@ queue-none np len queue h r =
 
 pub patch-at : (rows : List Float) (of : List ℕ) (m np a : ℕ) → a < np → patchAt (patchesIn rows of m np) a ≡ patchIn rows of m a
 unfolding patchAt patchesIn
-patch-at rows of m np a h = map-upTo (patchIn rows of m) np a noPatch h
+patch-at rows of m np a h = getD-map-upTo (patchIn rows of m) np a noPatch h
 
 pub triangle-at : (area : List Float) (handles : List ℕ) (n m i : ℕ) → i < m → triangleAt (trianglesIn area handles n m) i ≡ triangleAtOf area handles n i
 unfolding triangleAt trianglesIn
-triangle-at area handles n m i h = map-upTo (triangleAtOf area handles n) m i noTriangle h
+triangle-at area handles n m i h = getD-map-upTo (triangleAtOf area handles n) m i noTriangle h
 
 pub patches-length : (rows : List Float) (of : List ℕ) (m np : ℕ) → length (patchesIn rows of m np) ≡ np
 unfolding patchesIn
