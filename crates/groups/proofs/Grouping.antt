@@ -2,12 +2,12 @@
 use mathlib.Core.Path.{_≡_, refl, sym, ap, _∙_}
 use mathlib.Core.Bool.{Bool, true, false, not, _&&_}
 use mathlib.Core.List.{List, [], _∷_, _++_, map, append-nil}
-use Prim.Native.Nat.{ℕ, zero, suc, _+_, _-_, _<_, _≤_}
+use Prim.Native.Nat.{ℕ, suc, _+_, _-_, _<_, _≤_}
 use native.Mathlib.Nat.{le-refl}
 use native.Mathlib.Numerals.{add-one}
 use native.Mathlib.Omega.{arith}
-use lib.Dec.{eqb, ltb}
-use lib.ListN.{length, getD, take, drop, set, length-set, drop-of-length-le}
+use lib.Dec.{eqb}
+use lib.ListN.{length, getD, take, drop, set, drop-of-length-le}
 use lib.Seq.{append-snoc, drop-cons, getD-take, getD-set-same, getD-set-other, length-take-le, take-suc, take-suc-set}
 use borrow.Author.Tests.{eq-eqb, ne-eqb, lt-ltb}
 use Rattle.float.proofs.Numbers.{by-order}
@@ -15,7 +15,7 @@ use Rattle.order.specs.Sort.{Below}
 use Rattle.order.specs.Runs.{anyBy, upTo}
 use Rattle.order.proofs.Stable.{by-eq}
 use Rattle.patches.specs.Lists.{filterBy}
-use Rattle.links.specs.Words.{has, partOf}
+use Rattle.links.specs.Words.{partOf}
 use Rattle.links.proofs.Rising.{Under, under-upTo, has-filter, has-upTo}
 use Rattle.groups.specs.Groups.{grownOf, groupsFrom}
 use Rattle.groups.specs.Rows.{groupsIn, Grouped, isFree, freeOf, Queue, Grown, RowsOf}

@@ -1,16 +1,16 @@
 -- What `corner_keys` and `first_faces` of `faces` leave is what `merge_patches` asks: corners have equal numbers where they are one vertex
 -- (`numbered-is`), and the numbers are below 3 n (`numbers-are`).
-use mathlib.Core.Path.{_≡_, refl, sym, ap, _∙_}
+use mathlib.Core.Path.{_≡_, sym, ap, _∙_}
 use mathlib.Core.List.{List}
 use Prim.Native.Nat.{ℕ, zero, suc, _+_, _*_, _<_, _≤_}
 use native.Mathlib.Omega.{arith}
 use lib.Dec.{eqb}
 use lib.Ieee.{Float}
-use lib.ListN.{length, getD}
+use lib.ListN.{getD}
 use Rattle.order.specs.Runs.{firstAt}
 use Rattle.order.proofs.Runs.{first-same, first-le}
 use Rattle.columns.specs.Columns.{vecAtOf}
-use Rattle.faces.specs.Key.{Key, keyBy, sameKey, vertexStepsPerMetre, vertexKey}
+use Rattle.faces.specs.Key.{keyBy, vertexStepsPerMetre, vertexKey}
 use Rattle.faces.specs.Numbers.{keyAt, numberOf}
 use Rattle.faces.proofs.Numbers.{number-same, key-ranged}
 use Rattle.links.specs.Links.{Numbers}

@@ -1,14 +1,14 @@
 -- What stands in areas, as the definition reads it: patches and triangles by number, and rows as tables.
 use mathlib.Core.Path.{_≡_, refl, sym, ap, _∙_}
-use mathlib.Core.Bool.{Bool, true, false, cond, not, _&&_}
+use mathlib.Core.Bool.{Bool, true, false, _&&_}
 use mathlib.Core.List.{List, [], _∷_, _++_, map}
 use Prim.Native.Nat.{ℕ, zero, suc, _+_, _-_, _*_, _<_, _≤_}
 use native.Mathlib.Nat.{le-of-suc-le-suc, not-suc-le-zero}
 use native.Mathlib.Omega.{arith}
 use lib.Dec.{eqb}
 use lib.Ieee.{Float, nan}
-use lib.ListN.{length, getD, take, drop, set, replicate, length-append, length-map, length-replicate, getD-replicate, List·getD-append}
-use lib.Seq.{getD-append-seam, take-at, getD-at}
+use lib.ListN.{length, getD, take, drop, replicate, length-map, length-replicate, getD-replicate, List·getD-append}
+use lib.Seq.{take-at, getD-at}
 use borrow.Author.Tests.{eq-eqb}
 use Rattle.float.proofs.Numbers.{by-order}
 use Rattle.order.specs.Sort.{sortBy, keyOf, Below}
@@ -24,8 +24,8 @@ use Rattle.patches.specs.Lists.{keepIf, filterBy, allBy}
 use Rattle.patches.specs.Triangles.{noTriangle, triangleAt, cornersOf, trianglesIn}
 use Rattle.patches.specs.Patch.{Patch, noPatch, patchAt}
 use Rattle.patches.specs.Rows.{patchFloats, noneOf, vecIn, trisIn, patchIn, patchesIn}
-use Rattle.links.specs.Words.{rowIn, Fenced}
-use Rattle.links.proofs.Rising.{Under, under-upTo, filter-rising}
+use Rattle.links.specs.Words.{rowIn, RowBounds}
+use Rattle.links.proofs.Rising.{Under, under-upTo}
 use Rattle.links.proofs.Filters.{filter-below}
 use Rattle.groups.specs.Settings.{Settings}
 use Rattle.groups.specs.Groups.{descendingKey, seedsOf, isTilted, isNear, inCone, isWithin, takes}
@@ -77,15 +77,15 @@ sorted-positions f n xs e = rw e (below-sort f n (upTo n) (under-below n (upTo n
 
 -- ---- tables
 
-pub table-is : (rows n bound : ℕ) (sorted starts : List ℕ) (f : ℕ → ℕ → Bool) → Fenced rows sorted starts → rows < length starts
+pub table-is : (rows n bound : ℕ) (sorted starts : List ℕ) (f : ℕ → ℕ → Bool) → RowBounds rows sorted starts → rows < length starts
     → ((r : ℕ) → r < rows → rowIn sorted starts r ≡ filterBy (f r) (upTo n)) → n ≤ bound → Table rows bound sorted starts
-table-is rows n bound sorted starts f fenced long is h =
-    record { fenced = fenced; long = long; below = λ r l. rw (is r l) (below-more n bound (filterBy (f r) (upTo n)) h (below-filter (f r) n)) }
+table-is rows n bound sorted starts f bounds long is h =
+    record { bounds = bounds; long = long; below = λ r l. rw (is r l) (below-more n bound (filterBy (f r) (upTo n)) h (below-filter (f r) n)) }
 
-pub table-tris : (np m bound : ℕ) (of sorted starts : List ℕ) → Fenced np sorted starts → np < length starts
+pub table-tris : (np m bound : ℕ) (of sorted starts : List ℕ) → RowBounds np sorted starts → np < length starts
     → ((p : ℕ) → p < np → rowIn sorted starts p ≡ trisIn of m p) → m ≤ bound → Table np bound sorted starts
 unfolding trisIn
-table-tris np m bound of sorted starts fenced long is h = table-is np m bound sorted starts (λ p i. eqb (getD of i noneOf) p) fenced long is h
+table-tris np m bound of sorted starts bounds long is h = table-is np m bound sorted starts (λ p i. eqb (getD of i noneOf) p) bounds long is h
 
 -- ---- all free
 

@@ -3,7 +3,7 @@ use geometry::Triangle;
 use vector::Vec3;
 ghost use mathlib.Core.Path.{_≡_};
 ghost use mathlib.Core.Bool.{Bool, true, not, _&&_};
-ghost use mathlib.Core.List.{List, [], _∷_, _++_, map};
+ghost use mathlib.Core.List.{[], _∷_, map};
 ghost use Prim.Native.Nat.{ℕ, _+_, _*_, _<_, _≤_};
 ghost use lib.Ieee.{lt};
 ghost use Rattle.float.specs.Literals.{zero32};
@@ -18,7 +18,7 @@ ghost use Rattle.patches.specs.Rows.{patchFloats, vecIn, patchesIn};
 ghost use Rattle.links.specs.Words.{mostTriangles, mostRows, lows, rowIn, partOf};
 ghost use Rattle.links.specs.Links.{isJoined, Numbers};
 ghost use Rattle.groups.specs.Settings.{Settings};
-ghost use Rattle.groups.specs.Groups.{rankOf, descendingKey, isTilted, isNear, grownOf, groupsFrom, groupsOf};
+ghost use Rattle.groups.specs.Groups.{rankOf, descendingKey, isTilted, isNear, groupsFrom, groupsOf};
 ghost use Rattle.groups.specs.Rows.{groupsIn, Grouped, Table, seedKeyIn, Numbered, takesIn, isFree, freeOf, Queue, LetIn, Grown, RowsOf};
 
 // How many triangles, and so patches, a scene with planes has at most: `mostTriangles`.

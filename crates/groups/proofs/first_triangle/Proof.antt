@@ -1,9 +1,5 @@
-use borrow.Author.Needs.{needs}
-use mathlib.Core.Path.{_≡_, refl, sym, ap, _∙_}
-use mathlib.Core.Bool.{Bool, true, false, not, _&&_}
-use Prim.Native.Nat.{ℕ, _+_, _-_, _*_, _%_, _≤_, _<_}
+use Prim.Native.Nat.{_+_, _-_}
 use native.Mathlib.Omega.{arith}
-use lib.ListN.{length, getD, take, drop, length-set}
 use Rattle.groups.proofs.Seeding.{head-some, head-none}
 use Rattle.groups.proofs.first_triangle.Statement.{statement}
 use Rattle.groups.proofs.first_triangle.Tie as tie
@@ -34,12 +30,12 @@ cast-to c = omega (arith, c .shared-slice-known2 .given (c .before .before .args
 mul-result : tie.Need-mul-result
 mul-result c =
     let st = c .before .before .before in
-    let e = st .pre .0 .fenced .ends (st .args .p + 1) (omega (arith, st .pre .1)) in omega (arith, e, c .if1 .taken)
+    let e = st .pre .0 .bounds .ends (st .args .p + 1) (omega (arith, st .pre .1)) in omega (arith, e, c .if1 .taken)
 
 shared-slice-read-result : tie.Need-shared-slice-read-result
 shared-slice-read-result c =
     let st = c .before .before .before .before in
-    let e = st .pre .0 .fenced .ends (st .args .p + 1) (omega (arith, st .pre .1)) in omega (arith, e, c .before .if1 .taken)
+    let e = st .pre .0 .bounds .ends (st .args .p + 1) (omega (arith, st .pre .1)) in omega (arith, e, c .before .if1 .taken)
 
 returns : tie.Need-returns
 returns c =

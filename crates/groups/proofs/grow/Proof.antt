@@ -1,10 +1,7 @@
-use borrow.Author.Needs.{needs}
-use mathlib.Core.Path.{_≡_, refl, sym, ap, _∙_}
-use mathlib.Core.Bool.{Bool, true, false, not, _&&_}
-use mathlib.Core.List.{List, [], _∷_}
-use Prim.Native.Nat.{ℕ, _+_, _-_, _*_, _%_, _≤_, _<_}
+use mathlib.Core.Path.{_≡_, refl, _∙_}
+use Prim.Native.Nat.{_+_, _-_}
 use native.Mathlib.Omega.{arith}
-use lib.ListN.{length, getD, take, drop, set, length-set}
+use lib.ListN.{length, getD}
 use Rattle.groups.specs.Rows.{takesIn}
 use Rattle.groups.proofs.Seeding.{table-part}
 use Rattle.groups.proofs.Breadth.{Breadth, breadth-none, head-below, breadth-more, breadth-done}
@@ -76,22 +73,22 @@ cast-b c =
 mul-let-in : tie.Need-mul-let-in Inv-loop μ-loop
 mul-let-in c =
     let st = c .before .before .before .before .before .before .before .before .before .before .before .before .before .before in let lp = c .before .before .before .before .loop in
-    let hb = head-below (st .args .np) (takesIn (st .args .area .now) (st .args .handles .now) (st .args .n) (st .args .rows .now) (st .args .tsorted .now) (st .args .tstarts .now) (st .args .least) (st .args .most) (st .args .seed)) (st .args .asorted .now) (st .args .astarts .now) (st .args .assigned .now) (st .args .queue .now) (st .args .from) (st .args .to) (lp .assigned) (lp .queue) (lp .head) (lp .tail) (lp .inv .2) (c .before .before .before .loop-test .taken) in let t = st .pre .1 .1 .1 .1 .0 in let r = t .fenced .rise (getD (lp .queue) (lp .head) 0) hb in let e = t .fenced .ends (getD (lp .queue) (lp .head) 0 + 1) (omega (arith, hb)) in omega (arith, r, e)
+    let hb = head-below (st .args .np) (takesIn (st .args .area .now) (st .args .handles .now) (st .args .n) (st .args .rows .now) (st .args .tsorted .now) (st .args .tstarts .now) (st .args .least) (st .args .most) (st .args .seed)) (st .args .asorted .now) (st .args .astarts .now) (st .args .assigned .now) (st .args .queue .now) (st .args .from) (st .args .to) (lp .assigned) (lp .queue) (lp .head) (lp .tail) (lp .inv .2) (c .before .before .before .loop-test .taken) in let t = st .pre .1 .1 .1 .1 .0 in let r = t .bounds .rise (getD (lp .queue) (lp .head) 0) hb in let e = t .bounds .ends (getD (lp .queue) (lp .head) 0 + 1) (omega (arith, hb)) in omega (arith, r, e)
 
 sub-let-in : tie.Need-sub-let-in Inv-loop μ-loop
 sub-let-in c =
     let st = c .before .before .before .before .before .before .before .before .before .before .before .before .before .before in let lp = c .before .before .before .before .loop in
-    let hb = head-below (st .args .np) (takesIn (st .args .area .now) (st .args .handles .now) (st .args .n) (st .args .rows .now) (st .args .tsorted .now) (st .args .tstarts .now) (st .args .least) (st .args .most) (st .args .seed)) (st .args .asorted .now) (st .args .astarts .now) (st .args .assigned .now) (st .args .queue .now) (st .args .from) (st .args .to) (lp .assigned) (lp .queue) (lp .head) (lp .tail) (lp .inv .2) (c .before .before .before .loop-test .taken) in let t = st .pre .1 .1 .1 .1 .0 in let r = t .fenced .rise (getD (lp .queue) (lp .head) 0) hb in let e = t .fenced .ends (getD (lp .queue) (lp .head) 0 + 1) (omega (arith, hb)) in omega (arith, r, e)
+    let hb = head-below (st .args .np) (takesIn (st .args .area .now) (st .args .handles .now) (st .args .n) (st .args .rows .now) (st .args .tsorted .now) (st .args .tstarts .now) (st .args .least) (st .args .most) (st .args .seed)) (st .args .asorted .now) (st .args .astarts .now) (st .args .assigned .now) (st .args .queue .now) (st .args .from) (st .args .to) (lp .assigned) (lp .queue) (lp .head) (lp .tail) (lp .inv .2) (c .before .before .before .loop-test .taken) in let t = st .pre .1 .1 .1 .1 .0 in let r = t .bounds .rise (getD (lp .queue) (lp .head) 0) hb in let e = t .bounds .ends (getD (lp .queue) (lp .head) 0 + 1) (omega (arith, hb)) in omega (arith, r, e)
 
 part-let-in-start : tie.Need-part-let-in-start Inv-loop μ-loop
 part-let-in-start c =
     let st = c .before .before .before .before .before .before .before .before .before .before .before .before .before .before in let lp = c .before .before .before .before .loop in
-    let hb = head-below (st .args .np) (takesIn (st .args .area .now) (st .args .handles .now) (st .args .n) (st .args .rows .now) (st .args .tsorted .now) (st .args .tstarts .now) (st .args .least) (st .args .most) (st .args .seed)) (st .args .asorted .now) (st .args .astarts .now) (st .args .assigned .now) (st .args .queue .now) (st .args .from) (st .args .to) (lp .assigned) (lp .queue) (lp .head) (lp .tail) (lp .inv .2) (c .before .before .before .loop-test .taken) in let t = st .pre .1 .1 .1 .1 .0 in let r = t .fenced .rise (getD (lp .queue) (lp .head) 0) hb in let e = t .fenced .ends (getD (lp .queue) (lp .head) 0 + 1) (omega (arith, hb)) in omega (arith, r, e)
+    let hb = head-below (st .args .np) (takesIn (st .args .area .now) (st .args .handles .now) (st .args .n) (st .args .rows .now) (st .args .tsorted .now) (st .args .tstarts .now) (st .args .least) (st .args .most) (st .args .seed)) (st .args .asorted .now) (st .args .astarts .now) (st .args .assigned .now) (st .args .queue .now) (st .args .from) (st .args .to) (lp .assigned) (lp .queue) (lp .head) (lp .tail) (lp .inv .2) (c .before .before .before .loop-test .taken) in let t = st .pre .1 .1 .1 .1 .0 in let r = t .bounds .rise (getD (lp .queue) (lp .head) 0) hb in let e = t .bounds .ends (getD (lp .queue) (lp .head) 0 + 1) (omega (arith, hb)) in omega (arith, r, e)
 
 part-let-in-end : tie.Need-part-let-in-end Inv-loop μ-loop
 part-let-in-end c =
     let st = c .before .before .before .before .before .before .before .before .before .before .before .before .before .before in let lp = c .before .before .before .before .loop in
-    let hb = head-below (st .args .np) (takesIn (st .args .area .now) (st .args .handles .now) (st .args .n) (st .args .rows .now) (st .args .tsorted .now) (st .args .tstarts .now) (st .args .least) (st .args .most) (st .args .seed)) (st .args .asorted .now) (st .args .astarts .now) (st .args .assigned .now) (st .args .queue .now) (st .args .from) (st .args .to) (lp .assigned) (lp .queue) (lp .head) (lp .tail) (lp .inv .2) (c .before .before .before .loop-test .taken) in let t = st .pre .1 .1 .1 .1 .0 in let r = t .fenced .rise (getD (lp .queue) (lp .head) 0) hb in let e = t .fenced .ends (getD (lp .queue) (lp .head) 0 + 1) (omega (arith, hb)) in omega (arith, r, e)
+    let hb = head-below (st .args .np) (takesIn (st .args .area .now) (st .args .handles .now) (st .args .n) (st .args .rows .now) (st .args .tsorted .now) (st .args .tstarts .now) (st .args .least) (st .args .most) (st .args .seed)) (st .args .asorted .now) (st .args .astarts .now) (st .args .assigned .now) (st .args .queue .now) (st .args .from) (st .args .to) (lp .assigned) (lp .queue) (lp .head) (lp .tail) (lp .inv .2) (c .before .before .before .loop-test .taken) in let t = st .pre .1 .1 .1 .1 .0 in let r = t .bounds .rise (getD (lp .queue) (lp .head) 0) hb in let e = t .bounds .ends (getD (lp .queue) (lp .head) 0 + 1) (omega (arith, hb)) in omega (arith, r, e)
 
 let-in-requires : tie.Need-let-in-requires Inv-loop μ-loop
 let-in-requires c κs =

@@ -1,11 +1,9 @@
-use borrow.Author.Needs.{needs}
-use mathlib.Core.Path.{_≡_, refl, sym, ap, _∙_}
-use mathlib.Core.Bool.{Bool, true, false, not, _&&_}
-use Prim.Native.Nat.{ℕ, _+_, _-_, _*_, _%_, _≤_, _<_}
+use mathlib.Core.Path.{_≡_, refl, ap, _∙_}
+use mathlib.Core.Bool.{Bool}
+use Prim.Native.Nat.{ℕ, _-_, _≤_}
 use native.Mathlib.Omega.{arith}
-use lib.ListN.{length, getD, take, drop, length-set}
-use Rattle.groups.specs.Groups.{rankOf, descendingKey, isTilted, isNear}
-use Rattle.order.specs.Sort.{Below}
+use lib.ListN.{length, drop}
+use Rattle.groups.specs.Groups.{isNear}
 use Rattle.columns.specs.Columns.{triangleAtOf}
 use Rattle.patches.specs.Lists.{allBy}
 use Rattle.patches.specs.Triangles.{cornersOf}

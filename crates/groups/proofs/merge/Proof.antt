@@ -1,13 +1,11 @@
-use borrow.Author.Needs.{needs}
-use mathlib.Core.Path.{_≡_, refl, sym, ap, _∙_}
-use mathlib.Core.Bool.{Bool, true, false, not, _&&_}
-use mathlib.Core.List.{List, [], _∷_, map}
-use Prim.Native.Nat.{ℕ, _+_, _-_, _*_, _%_, _≤_, _<_}
+use mathlib.Core.Path.{ap, _∙_}
+use mathlib.Core.Bool.{Bool}
+use Prim.Native.Nat.{ℕ, _-_}
 use native.Mathlib.Omega.{arith}
-use lib.ListN.{length, getD, take, drop, set, length-set}
+use lib.ListN.{length, take}
 use Rattle.links.specs.Links.{isJoined}
 use Rattle.groups.specs.Groups.{groupsFrom}
-use Rattle.groups.specs.Rows.{groupsIn, takesIn, freeOf}
+use Rattle.groups.specs.Rows.{takesIn, freeOf}
 use Rattle.groups.proofs.Reading.{table-is, queue-none, free-all, rows-adjacent}
 use Rattle.groups.proofs.merge.Statement.{statement}
 use Rattle.groups.proofs.merge.Tie as tie

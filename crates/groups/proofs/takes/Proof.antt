@@ -1,11 +1,5 @@
-use borrow.Author.Needs.{needs}
-use mathlib.Core.Path.{_≡_, refl, sym, ap, _∙_}
-use mathlib.Core.Bool.{Bool, true, false, not, _&&_}
-use Prim.Native.Nat.{ℕ, _+_, _-_, _*_, _%_, _≤_, _<_}
+use Prim.Native.Nat.{_+_, _-_}
 use native.Mathlib.Omega.{arith}
-use lib.ListN.{length, getD, take, drop, length-set}
-use lib.Ieee.{nan}
-use Rattle.patches.specs.Rows.{vecIn}
 use Rattle.links.specs.Words.{rowIn}
 use Rattle.groups.specs.Rows.{takesIn}
 use Rattle.groups.proofs.Seeding.{table-part}
@@ -78,22 +72,22 @@ cast-to c = omega (arith, c .shared-slice-known8 .given (c .before .before .befo
 mul-is-within : tie.Need-mul-is-within
 mul-is-within c =
     let st = c .before .before .before .before .before .before .before .before .before .before .before .before in
-    let f = st .pre .1 .1 .0 .fenced in let r = f .rise (st .args .b) (st .pre .1 .1 .1 .1) in let e = f .ends (st .args .b + 1) (omega (arith, st .pre .1 .1 .1 .1)) in omega (arith, r, e)
+    let f = st .pre .1 .1 .0 .bounds in let r = f .rise (st .args .b) (st .pre .1 .1 .1 .1) in let e = f .ends (st .args .b + 1) (omega (arith, st .pre .1 .1 .1 .1)) in omega (arith, r, e)
 
 sub-is-within : tie.Need-sub-is-within
 sub-is-within c =
     let st = c .before .before .before .before .before .before .before .before .before .before .before .before in
-    let f = st .pre .1 .1 .0 .fenced in let r = f .rise (st .args .b) (st .pre .1 .1 .1 .1) in let e = f .ends (st .args .b + 1) (omega (arith, st .pre .1 .1 .1 .1)) in omega (arith, r, e)
+    let f = st .pre .1 .1 .0 .bounds in let r = f .rise (st .args .b) (st .pre .1 .1 .1 .1) in let e = f .ends (st .args .b + 1) (omega (arith, st .pre .1 .1 .1 .1)) in omega (arith, r, e)
 
 part-is-within-start : tie.Need-part-is-within-start
 part-is-within-start c =
     let st = c .before .before .before .before .before .before .before .before .before .before .before .before in
-    let f = st .pre .1 .1 .0 .fenced in let r = f .rise (st .args .b) (st .pre .1 .1 .1 .1) in let e = f .ends (st .args .b + 1) (omega (arith, st .pre .1 .1 .1 .1)) in omega (arith, r, e)
+    let f = st .pre .1 .1 .0 .bounds in let r = f .rise (st .args .b) (st .pre .1 .1 .1 .1) in let e = f .ends (st .args .b + 1) (omega (arith, st .pre .1 .1 .1 .1)) in omega (arith, r, e)
 
 part-is-within-end : tie.Need-part-is-within-end
 part-is-within-end c =
     let st = c .before .before .before .before .before .before .before .before .before .before .before .before in
-    let f = st .pre .1 .1 .0 .fenced in let r = f .rise (st .args .b) (st .pre .1 .1 .1 .1) in let e = f .ends (st .args .b + 1) (omega (arith, st .pre .1 .1 .1 .1)) in omega (arith, r, e)
+    let f = st .pre .1 .1 .0 .bounds in let r = f .rise (st .args .b) (st .pre .1 .1 .1 .1) in let e = f .ends (st .args .b + 1) (omega (arith, st .pre .1 .1 .1 .1)) in omega (arith, r, e)
 
 is-within-requires : tie.Need-is-within-requires
 is-within-requires c κs =

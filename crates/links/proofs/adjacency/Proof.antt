@@ -1,9 +1,7 @@
 use borrow.Author.Needs.{needs}
-use mathlib.Core.Path.{_≡_, refl, sym, ap, _∙_}
-use Prim.Native.Nat.{ℕ, _+_, _-_, _*_, _≤_, _<_}
+use mathlib.Core.Path.{_∙_}
+use Prim.Native.Nat.{_-_}
 use native.Mathlib.Omega.{arith}
-use lib.ListN.{length, getD, take, drop}
-use lib.Seq.{length-take-le, length-front}
 use Rattle.links.specs.Words.{rowIn}
 use Rattle.links.proofs.Pushing.{run-is, joined-is, joined-cut, numbers-under}
 use Rattle.links.proofs.adjacency.Statement.{statement}
@@ -30,7 +28,7 @@ link-rows-requires c κs =
     let mr = c .before .before .before .before .before .before .before .before .before .before .before .make-rows in
     let q = c .before .before .before .before .before .before .before .before .before .before .before .before .before .before .before .before .before .before .before .before .before .before .before .before .before .before .before .before .pre .1 .1 .1 .1 .1 .1 .1 in
     let r = mr .kept in
-    (omega (arith, q .1 .0, r .1 .1 .1 .1 .1 .0), (mr .ensures .fenced, omega (arith, q .0, q .1 .1 .0, r .0, r .1 .1 .1 .1 .0, c .before .before .before .before .before .before .before .before .before .before .before .before .before .before .before .before .before .before .vertex-words .kept .1 .1 .1 .1 .1 .0)))
+    (omega (arith, q .1 .0, r .1 .1 .1 .1 .1 .0), (mr .ensures .bounds, omega (arith, q .0, q .1 .1 .0, r .0, r .1 .1 .1 .1 .0, c .before .before .before .before .before .before .before .before .before .before .before .before .before .before .before .before .before .before .vertex-words .kept .1 .1 .1 .1 .1 .0)))
 
 make-rows-requires-2 : tie.Need-make-rows-requires-2
 make-rows-requires-2 c κs =
@@ -46,7 +44,7 @@ returns : tie.Need-returns
 returns c =
     let st = c .before .before .before .before .before .before .before .before .before .before .before .before .before .before .before .before .before .before .before .before .before .before .before .before .before .before .before .before .before .before .before .before .before .before .before .before .before .before .before .before .before .before .before .before in let mr = c .before .before .before .before .before .before .before .before .before .before .before .before .before .before .before .before .before .before .before .before .before .before .before .before .before .before .before .make-rows in let vw = c .before .before .before .before .before .before .before .before .before .before .before .before .before .before .before .before .before .before .before .before .before .before .before .before .before .before .before .before .before .before .before .before .before .before .vertex-words in let lr = c .before .before .before .before .before .before .before .before .before .before .before .before .before .before .before .link-rows in
     let a = st .args in (
-      c .before .before .before .before .before .before .before .before .make-rows2 .ensures .fenced,
+      c .before .before .before .before .before .before .before .before .make-rows2 .ensures .bounds,
       λ p h.
           c .before .before .before .before .before .before .before .before .make-rows2 .ensures .are p h
           ∙ joined-is (a .id .now) (a .n) (a .of .now) (a .m) (a .np) (a .vertices) (rowIn (mr .last .1 .1 .1 .1 .0) (mr .last .1 .1 .1 .1 .1 .0)) (lr .last .1 .1 .1 .0) (lr .result) p (lr .ensures .1)

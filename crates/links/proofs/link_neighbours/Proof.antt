@@ -1,11 +1,7 @@
-use borrow.Author.Needs.{needs}
-use mathlib.Core.Path.{_≡_, refl, sym, ap, _∙_}
-use mathlib.Core.Bool.{Bool, _&&_, _||_}
-use Prim.Native.Nat.{ℕ, _+_, _-_, _*_, _%_, _≤_, _<_}
+use mathlib.Core.Path.{_≡_, refl, _∙_}
+use Prim.Native.Nat.{_+_, _-_, _*_, _≤_}
 use native.Mathlib.Omega.{arith}
-use lib.Dec.{eqb}
-use lib.ListN.{length, getD, take, drop}
-use Rattle.links.specs.Words.{lows}
+use lib.ListN.{length}
 use Rattle.links.proofs.Linking.{Adding, next-more, next-done}
 use Rattle.links.proofs.link_neighbours.Statement.{statement}
 use Rattle.links.proofs.link_neighbours.Tie as tie

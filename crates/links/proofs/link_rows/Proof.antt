@@ -1,11 +1,8 @@
-use borrow.Author.Needs.{needs}
-use mathlib.Core.Path.{_≡_, refl, sym, ap, _∙_}
-use mathlib.Core.Bool.{Bool, _&&_, _||_}
-use Prim.Native.Nat.{ℕ, _+_, _-_, _*_, _%_, _≤_, _<_}
+use mathlib.Core.Path.{_≡_, refl, _∙_}
+use Prim.Native.Nat.{_+_, _-_, _*_, _≤_}
 use native.Mathlib.Omega.{arith}
-use lib.Dec.{eqb}
-use lib.ListN.{length, getD, take, drop}
-use Rattle.links.specs.Words.{rowIn, partOf}
+use lib.ListN.{length, getD}
+use Rattle.links.specs.Words.{rowIn}
 use Rattle.links.specs.Links.{isLinked}
 use Rattle.links.proofs.Pushing.{Told, told-none, told-more}
 use Rattle.links.proofs.Linking.{length-part, rows-link}

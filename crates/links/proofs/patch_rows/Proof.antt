@@ -1,9 +1,7 @@
 use borrow.Author.Needs.{needs}
-use mathlib.Core.Path.{_≡_, refl, sym, ap, _∙_}
-use Prim.Native.Nat.{ℕ, _+_, _-_, _*_, _≤_, _<_}
+use mathlib.Core.Path.{_∙_}
+use Prim.Native.Nat.{_-_}
 use native.Mathlib.Omega.{arith}
-use lib.ListN.{length, getD, take, drop}
-use lib.Seq.{length-take-le, length-front}
 use Rattle.links.proofs.Pushing.{patch-row}
 use Rattle.links.proofs.patch_rows.Statement.{statement}
 use Rattle.links.proofs.patch_rows.Tie as tie
@@ -25,7 +23,7 @@ make-rows-requires c κs =
 returns : tie.Need-returns
 returns c =
     let st = c .before .before .before .before .before .before .before .before .before .before .before .before .before .before .before .before .before .before .before .before .before .before in let mr = c .before .before .before .before .before .before .before .before .make-rows in
-    (mr .ensures .fenced, λ p h. mr .ensures .are p h ∙ patch-row (st .args .of .now) (c .before .before .before .before .before .before .before .before .before .before .before .before .before .before .before .patch-words .last .1 .1 .1 .0) (c .before .before .before .before .before .before .before .before .before .before .before .before .before .before .before .patch-words .result) (st .args .m) (st .args .np) p (c .before .before .before .before .before .before .before .before .before .before .before .before .before .before .before .patch-words .ensures .1) (st .pre .0) (st .pre .1 .1 .0) h)
+    (mr .ensures .bounds, λ p h. mr .ensures .are p h ∙ patch-row (st .args .of .now) (c .before .before .before .before .before .before .before .before .before .before .before .before .before .before .before .patch-words .last .1 .1 .1 .0) (c .before .before .before .before .before .before .before .before .before .before .before .before .before .before .before .patch-words .result) (st .args .m) (st .args .np) p (c .before .before .before .before .before .before .before .before .before .before .before .before .before .before .before .patch-words .ensures .1) (st .pre .0) (st .pre .1 .1 .0) h)
 
 pub patch-rows-spec : {M : Type 1} → statement M
 patch-rows-spec =
