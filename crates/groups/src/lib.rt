@@ -1,5 +1,6 @@
 // STEP 4 of the planes: groups of adjacent patches that grow breadth first from seeds, the largest patch first.
 use geometry::Triangle;
+use links::MOST_TRIANGLES;
 use vector::Vec3;
 ghost use mathlib.Core.Path.{_≡_};
 ghost use mathlib.Core.Bool.{Bool, true, not, _&&_};
@@ -21,8 +22,10 @@ ghost use Rattle.groups.specs.Settings.{Settings};
 ghost use Rattle.groups.specs.Groups.{rankOf, descendingKey, isTilted, isNear, groupsFrom, groupsOf};
 ghost use Rattle.groups.specs.Rows.{groupsIn, Grouped, Table, seedKeyIn, Numbered, takesIn, isFree, freeOf, Queue, LetIn, Grown, RowsOf};
 
-// How many triangles, and so patches, a scene with planes has at most: `mostTriangles`.
-const MOST_TRIANGLES: u32 = 4096;
+// How many floats a patch has: its normal from 0 on, its offset at 3, its area at 4.
+const PATCH_FLOATS: usize = 11;
+
+const PLANE_NORMAL_COS: f32 = 0.99998;
 
 // ---- seeds
 
@@ -78,7 +81,7 @@ fn seed_keys(
     let mut p = 0;
     while p < np {
         let first = first_triangle(tsorted, tstarts, np, p);
-        keys[p] = descending_key(rows[11 * p + 4], first);
+        keys[p] = descending_key(rows[PATCH_FLOATS * p + 4], first);
         order[p] = p as u32;
         p += 1;
     }
@@ -147,9 +150,9 @@ fn normal_of(rows: &[f32], p: usize) -> Vec3
     ensures { λ r. ⌜ r ≡ vecIn (now (rows .entry)) (patchFloats * p) ⌝ }
 {
     Vec3 {
-        x: rows[11 * p],
-        y: rows[11 * p + 1],
-        z: rows[11 * p + 2],
+        x: rows[PATCH_FLOATS * p],
+        y: rows[PATCH_FLOATS * p + 1],
+        z: rows[PATCH_FLOATS * p + 2],
     }
 }
 
@@ -159,7 +162,7 @@ fn is_tilted(a: Vec3, b: Vec3, least: f32) -> bool
 {
     let c = float::abs(vector::dot3(a, b));
     if c >= least {
-        return c <= 0.99998;
+        return c <= PLANE_NORMAL_COS;
     }
     false
 }
@@ -233,7 +236,7 @@ fn takes(
     let normal = normal_of(rows, a);
     let other = normal_of(rows, b);
     if is_tilted(normal, other, least) {
-        let offset = rows[11 * a + 3];
+        let offset = rows[PATCH_FLOATS * a + 3];
         let from = tstarts[b] as usize;
         let to = tstarts[b + 1] as usize;
         return is_within(area, handles, n, &tsorted[from..to], normal, offset, most);

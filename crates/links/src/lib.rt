@@ -16,7 +16,7 @@ ghost use Rattle.patches.specs.Lists.{filterBy};
 ghost use Rattle.patches.specs.Rows.{trisIn};
 
 // How many triangles, and so patches, a scene with planes has at most: `mostTriangles`.
-const MOST_TRIANGLES: u32 = 4096;
+pub const MOST_TRIANGLES: u32 = 4096;
 
 // The same as the weight of a word's first number.
 const ROW: usize = 4096;

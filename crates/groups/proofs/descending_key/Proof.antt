@@ -1,10 +1,9 @@
+-- `groups::descending_key` meets its contract: from that of `rank`.
 use Prim.Native.Nat.{_-_}
 use native.Mathlib.Omega.{arith}
 use Rattle.groups.specs.Groups.{descendingKey}
 use Rattle.groups.proofs.descending_key.Statement.{statement}
 use Rattle.groups.proofs.descending_key.Tie as tie
-
--- `groups::descending_key` meets its contract: from that of `rank`.
 
 returns : tie.Need-returns
 unfolding descendingKey

@@ -1,3 +1,4 @@
+-- `groups::each_alone` meets its contract: the loop keeps `Alone`.
 use mathlib.Core.Path.{_≡_, refl, _∙_}
 use Prim.Native.Nat.{_+_, _-_, _≤_, _<_}
 use native.Mathlib.Omega.{arith}
@@ -6,8 +7,6 @@ use lib.Seq.{getD-set-same}
 use Rattle.groups.proofs.Grouping.{Alone, alone-none, alone-more, alone-grouped}
 use Rattle.groups.proofs.each_alone.Statement.{statement}
 use Rattle.groups.proofs.each_alone.Tie as tie
-
--- `groups::each_alone` meets its contract: the loop keeps `Alone`.
 
 abbrev Inv-loop : tie.InvT-loop
 Inv-loop order np queue₀ starts₀ i₀ queue starts i = (i ≤ np) × (length queue ≡ length queue₀) × (length starts ≡ length starts₀) × Alone order queue starts i

@@ -1,10 +1,9 @@
+-- `groups::first_triangle` meets its contract: the row has a first triangle, or none (`head-some`, `head-none`).
 use Prim.Native.Nat.{_+_, _-_}
 use native.Mathlib.Omega.{arith}
 use Rattle.groups.proofs.Seeding.{head-some, head-none}
 use Rattle.groups.proofs.first_triangle.Statement.{statement}
 use Rattle.groups.proofs.first_triangle.Tie as tie
-
--- `groups::first_triangle` meets its contract: the row has a first triangle, or none (`head-some`, `head-none`).
 
 mul-from : tie.Need-mul-from
 mul-from c = let t = c .pre .0 .long in omega (arith, t)

@@ -1,3 +1,4 @@
+-- `groups::grow` meets its contract: the loop keeps `Breadth`.
 use mathlib.Core.Path.{_≡_, refl, _∙_}
 use Prim.Native.Nat.{_+_, _-_}
 use native.Mathlib.Omega.{arith}
@@ -7,8 +8,6 @@ use Rattle.groups.proofs.Seeding.{table-part}
 use Rattle.groups.proofs.Breadth.{Breadth, breadth-none, head-below, breadth-more, breadth-done}
 use Rattle.groups.proofs.grow.Statement.{statement}
 use Rattle.groups.proofs.grow.Tie as tie
-
--- `groups::grow` meets its contract: the loop keeps `Breadth`.
 
 abbrev Inv-loop : tie.InvT-loop
 Inv-loop area handles n rows np tsorted tstarts least most asorted astarts seed mark assigned₀ queue₀ from to head₀ tail₀ assigned queue head tail = (length assigned ≡ length assigned₀) × (length queue ≡ length queue₀) × Breadth np (takesIn area handles n rows tsorted tstarts least most seed) asorted astarts assigned₀ queue₀ from to assigned queue head tail

@@ -1,3 +1,4 @@
+-- `groups::grow_groups` meets its contract: the loop keeps `Grouping`.
 use mathlib.Core.Path.{_≡_, refl, sym, ap, _∙_}
 use Prim.Native.Nat.{ℕ, _+_, _-_, _≤_, _<_}
 use native.Mathlib.Omega.{arith}
@@ -7,8 +8,6 @@ use Rattle.groups.specs.Rows.{takesIn}
 use Rattle.groups.proofs.Grouping.{Grouping, group-none, group-skip, group-more, group-free, group-done, group-grouped, seed-below, seed-at}
 use Rattle.groups.proofs.grow_groups.Statement.{statement}
 use Rattle.groups.proofs.grow_groups.Tie as tie
-
--- `groups::grow_groups` meets its contract: the loop keeps `Grouping`.
 
 abbrev Inv-loop : tie.InvT-loop
 Inv-loop area handles n rows np tsorted tstarts least most asorted astarts order assigned₀ queue₀ starts₀ ng₀ tail₀ i₀ assigned queue starts ng tail i = (i ≤ np) × (ng ≤ i) × (length assigned ≡ length assigned₀) × (length queue ≡ length queue₀) × (length starts ≡ length starts₀) × Grouping np (takesIn area handles n rows tsorted tstarts least most) asorted astarts (take np order) assigned₀ assigned queue starts ng tail i

@@ -1,8 +1,7 @@
+-- `groups::is_merging` meets its contract: by the three tests.
 use Prim.Native.Nat.{_-_}
 use Rattle.groups.proofs.is_merging.Statement.{statement}
 use Rattle.groups.proofs.is_merging.Tie as tie
-
--- `groups::is_merging` meets its contract: by the three tests.
 
 returns : tie.Need-returns
 returns c = rw (c .before .if1 .taken, c .if2 .taken)

@@ -1,8 +1,7 @@
+-- `groups::is_near` meets its contract: from those of its calls.
 use Prim.Native.Nat.{_-_}
 use Rattle.groups.proofs.is_near.Statement.{statement}
 use Rattle.groups.proofs.is_near.Tie as tie
-
--- `groups::is_near` meets its contract: from those of its calls.
 
 returns : tie.Need-returns
 returns c = rw (← c .before .dot3 .ensures, ← c .abs .ensures)

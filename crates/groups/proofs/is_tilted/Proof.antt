@@ -1,8 +1,7 @@
+-- `groups::is_tilted` meets its contract: from those of its calls, and the two tests.
 use Prim.Native.Nat.{_-_}
 use Rattle.groups.proofs.is_tilted.Statement.{statement}
 use Rattle.groups.proofs.is_tilted.Tie as tie
-
--- `groups::is_tilted` meets its contract: from those of its calls, and the two tests.
 
 returns : tie.Need-returns
 returns c = rw (← c .before .before .dot3 .ensures, ← c .before .abs .ensures, c .if1 .taken)

@@ -1,11 +1,10 @@
+-- `groups::is_triangle_near` meets its contract: corner by corner.
 use Prim.Native.Nat.{_-_}
 use Rattle.patches.specs.Lists.{allBy}
 use Rattle.patches.specs.Triangles.{cornersOf}
 use Rattle.groups.proofs.Taking.{and-one}
 use Rattle.groups.proofs.is_triangle_near.Statement.{statement}
 use Rattle.groups.proofs.is_triangle_near.Tie as tie
-
--- `groups::is_triangle_near` meets its contract: corner by corner.
 
 returns : tie.Need-returns
 unfolding allBy cornersOf

@@ -1,3 +1,4 @@
+-- `groups::is_within` meets its contract: the loop holds that the triangles so far passed.
 use mathlib.Core.Path.{_≡_, refl, ap, _∙_}
 use mathlib.Core.Bool.{Bool}
 use Prim.Native.Nat.{ℕ, _-_, _≤_}
@@ -12,8 +13,6 @@ use Rattle.links.proofs.Linking.{low-at, lows-length}
 use Rattle.groups.proofs.Taking.{all-next, all-stop, all-end, low-below}
 use Rattle.groups.proofs.is_within.Statement.{statement}
 use Rattle.groups.proofs.is_within.Tie as tie
-
--- `groups::is_within` meets its contract: the loop holds that the triangles so far passed.
 
 abbrev Inv-loop : tie.InvT-loop
 Inv-loop area handles n tris normal offset most count i₀ i = (i ≤ length tris) × (allBy (λ t. allBy (isNear normal offset most) (cornersOf (triangleAtOf area handles n t))) (drop i (lows tris)) ≡ allBy (λ t. allBy (isNear normal offset most) (cornersOf (triangleAtOf area handles n t))) (lows tris))

@@ -1,3 +1,4 @@
+-- `groups::let_in` meets its contract: the loop keeps `Letting`.
 use mathlib.Core.Path.{_≡_, refl, sym, _∙_}
 use Prim.Native.Nat.{_-_, _%_, _≤_}
 use native.Mathlib.Omega.{arith}
@@ -8,8 +9,6 @@ use Rattle.groups.proofs.Taking.{low-below}
 use Rattle.groups.proofs.Letting.{Letting, let-none, let-taken, let-unfit, let-room, let-more, let-done}
 use Rattle.groups.proofs.let_in.Statement.{statement}
 use Rattle.groups.proofs.let_in.Tie as tie
-
--- `groups::let_in` meets its contract: the loop keeps `Letting`.
 
 abbrev Inv-loop : tie.InvT-loop
 Inv-loop area handles n rows np tsorted tstarts least most seed mark row assigned₀ queue₀ from count tail₀ i₀ assigned queue tail i = (i ≤ length row) × (length assigned ≡ length assigned₀) × (length queue ≡ length queue₀) × Letting np (takesIn area handles n rows tsorted tstarts least most seed) mark (lows row) assigned₀ queue₀ from assigned queue tail i

@@ -1,3 +1,4 @@
+-- `groups::merge` meets its contract: adjacency, and the groups that grow over it.
 use mathlib.Core.Path.{ap, _∙_}
 use mathlib.Core.Bool.{Bool}
 use Prim.Native.Nat.{ℕ, _-_}
@@ -9,8 +10,6 @@ use Rattle.groups.specs.Rows.{takesIn, freeOf}
 use Rattle.groups.proofs.Reading.{table-is, queue-none, free-all, rows-adjacent}
 use Rattle.groups.proofs.merge.Statement.{statement}
 use Rattle.groups.proofs.merge.Tie as tie
-
--- `groups::merge` meets its contract: adjacency, and the groups that grow over it.
 
 cast-adjacency : tie.Need-cast-adjacency
 cast-adjacency c = omega (arith, c .before .before .before .before .before .before .before .before .before .before .before .before .before .before .before .before .before .pre .1 .1 .1 .0 .2)

@@ -1,3 +1,4 @@
+-- `groups::merge_patches` meets its contract: the rows of patches, the seeds, and the groups (`merged-is`, `alone-is`).
 use mathlib.Core.Path.{sym, _∙_}
 use Prim.Native.Nat.{_-_}
 use native.Mathlib.Omega.{arith}
@@ -11,8 +12,6 @@ use Rattle.groups.proofs.Joining.{joined-adjacent}
 use Rattle.groups.proofs.Merging.{merged-is, alone-is}
 use Rattle.groups.proofs.merge_patches.Statement.{statement}
 use Rattle.groups.proofs.merge_patches.Tie as tie
-
--- `groups::merge_patches` meets its contract: the rows of patches, the seeds, and the groups (`merged-is`, `alone-is`).
 
 cast-patch-rows : tie.Need-cast-patch-rows
 cast-patch-rows c =

@@ -1,11 +1,10 @@
+-- `groups::normal_of` meets its contract: as it reads.
 use mathlib.Core.Path.{refl}
 use Prim.Native.Nat.{_-_}
 use native.Mathlib.Omega.{arith}
 use Rattle.patches.specs.Rows.{vecIn}
 use Rattle.groups.proofs.normal_of.Statement.{statement}
 use Rattle.groups.proofs.normal_of.Tie as tie
-
--- `groups::normal_of` meets its contract: as it reads.
 
 returns : tie.Need-returns
 unfolding vecIn

@@ -1,9 +1,8 @@
+-- `groups::rank` meets its contract: by the test for NaN.
 use Prim.Native.Nat.{_-_}
 use Rattle.groups.specs.Groups.{rankOf}
 use Rattle.groups.proofs.rank.Statement.{statement}
 use Rattle.groups.proofs.rank.Tie as tie
-
--- `groups::rank` meets its contract: by the test for NaN.
 
 returns : tie.Need-returns
 unfolding rankOf

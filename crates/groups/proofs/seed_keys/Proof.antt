@@ -1,3 +1,4 @@
+-- `groups::seed_keys` meets its contract: the loop holds that the keys of the first patches are there.
 use mathlib.Core.Path.{_≡_, refl, ap, _∙_}
 use Prim.Native.Nat.{ℕ, _+_, _-_, _*_, _≤_, _<_}
 use native.Mathlib.Omega.{arith}
@@ -9,8 +10,6 @@ use Rattle.groups.specs.Groups.{descendingKey}
 use Rattle.groups.proofs.Seeding.{counted-more, keys-more}
 use Rattle.groups.proofs.seed_keys.Statement.{statement}
 use Rattle.groups.proofs.seed_keys.Tie as tie
-
--- `groups::seed_keys` meets its contract: the loop holds that the keys of the first patches are there.
 
 abbrev Inv-loop : tie.InvT-loop
 Inv-loop rows np tsorted tstarts keys₀ order₀ p₀ keys order p = (p ≤ np) × (length keys ≡ length keys₀) × (length order ≡ length order₀) × (take p order ≡ upTo p) × ((q : ℕ) → q < p → getD keys q 0 ≡ descendingKey (getD rows (11 * q + 4) nan) (headOr 0 (rowIn tsorted tstarts q)))

@@ -1,3 +1,4 @@
+-- `groups::seeds` meets its contract: the sort of the patches by their keys (`seeds-sorted`).
 use borrow.Author.Needs.{needs}
 use mathlib.Core.Path.{sym, _∙_}
 use Prim.Native.Nat.{_-_}
@@ -8,8 +9,6 @@ use Rattle.groups.specs.Rows.{seedKeyIn}
 use Rattle.groups.proofs.Reading.{seeds-sorted, positions}
 use Rattle.groups.proofs.seeds.Statement.{statement}
 use Rattle.groups.proofs.seeds.Tie as tie
-
--- `groups::seeds` meets its contract: the sort of the patches by their keys (`seeds-sorted`).
 
 seed-keys-requires : tie.Need-seed-keys-requires
 seed-keys-requires c κs =

@@ -1,3 +1,4 @@
+-- `groups::start_group` meets its contract: the seed marked and appended (`queue-push`), and its group grown (`seed-grown`).
 use mathlib.Core.Path.{_∙_}
 use Prim.Native.Nat.{_-_}
 use native.Mathlib.Omega.{arith}
@@ -7,8 +8,6 @@ use Rattle.groups.proofs.Queueing.{queue-room, queue-push}
 use Rattle.groups.proofs.Breadth.{seed-grown}
 use Rattle.groups.proofs.start_group.Statement.{statement}
 use Rattle.groups.proofs.start_group.Tie as tie
-
--- `groups::start_group` meets its contract: the seed marked and appended (`queue-push`), and its group grown (`seed-grown`).
 
 mul-assigned : tie.Need-mul-assigned
 mul-assigned c =

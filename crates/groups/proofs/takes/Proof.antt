@@ -1,3 +1,4 @@
+-- `groups::takes` meets its contract: from those of its calls.
 use Prim.Native.Nat.{_+_, _-_}
 use native.Mathlib.Omega.{arith}
 use Rattle.links.specs.Words.{rowIn}
@@ -5,8 +6,6 @@ use Rattle.groups.specs.Rows.{takesIn}
 use Rattle.groups.proofs.Seeding.{table-part}
 use Rattle.groups.proofs.takes.Statement.{statement}
 use Rattle.groups.proofs.takes.Tie as tie
-
--- `groups::takes` meets its contract: from those of its calls.
 
 normal-of-requires : tie.Need-normal-of-requires
 normal-of-requires c κs =

@@ -1,3 +1,4 @@
+-- `links::adjacency` meets its contract: the words of corners, their rows, the words of links, and theirs (`run-is`, `joined-is`).
 use borrow.Author.Needs.{needs}
 use mathlib.Core.Path.{_∙_}
 use Prim.Native.Nat.{_-_}
@@ -6,8 +7,6 @@ use Rattle.links.specs.Words.{rowIn}
 use Rattle.links.proofs.Pushing.{run-is, joined-is, joined-cut, numbers-under}
 use Rattle.links.proofs.adjacency.Statement.{statement}
 use Rattle.links.proofs.adjacency.Tie as tie
-
--- `links::adjacency` meets its contract: the words of corners, their rows, the words of links, and theirs (`run-is`, `joined-is`).
 
 vertex-words-requires : tie.Need-vertex-words-requires
 vertex-words-requires c κs =

@@ -1,3 +1,4 @@
+-- `links::compact` meets its contract: the loop keeps `Compacting` of the words' upper halves.
 use borrow.Author.Needs.{needs}
 use mathlib.Core.Path.{_≡_, refl, _∙_}
 use mathlib.Core.List.{map}
@@ -8,8 +9,6 @@ use Rattle.order.specs.Radix.{upper}
 use Rattle.links.proofs.Compacting.{Compacting, words-none, words-same, words-new, words-done}
 use Rattle.links.proofs.compact.Statement.{statement}
 use Rattle.links.proofs.compact.Tie as tie
-
--- `links::compact` meets its contract: the loop keeps `Compacting` of the words' upper halves.
 
 abbrev Inv-loop : tie.InvT-loop
 Inv-loop words sorted₀ n last₀ k₀ i₀ sorted last k i = (i ≤ length words) × (k ≤ i) × (length sorted ≡ length sorted₀) × Compacting (map upper words) sorted last k i × (0 < i → getD words 0 0 < 18446744073709551616)

@@ -1,3 +1,4 @@
+-- `links::link_all` meets its contract: the loop keeps `Added` of what the first patches are linked to.
 use mathlib.Core.Path.{_≡_, refl, _∙_}
 use Prim.Native.Nat.{_+_, _-_, _*_, _≤_}
 use native.Mathlib.Omega.{arith}
@@ -6,8 +7,6 @@ use Rattle.links.specs.Words.{lows}
 use Rattle.links.proofs.Linking.{Added, linksSome, all-none, all-more, all-done}
 use Rattle.links.proofs.link_all.Statement.{statement}
 use Rattle.links.proofs.link_all.Tie as tie
-
--- `links::link_all` meets its contract: the loop keeps `Added` of what the first patches are linked to.
 
 abbrev Inv-loop : tie.InvT-loop
 Inv-loop row words₀ from n k₀ i₀ words k i = (i ≤ length row) × (k ≤ from + 8 * i) × (length words ≡ length words₀) × Added (linksSome (take i (lows row)) (lows row)) words₀ from words k

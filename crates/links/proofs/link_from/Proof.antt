@@ -1,3 +1,4 @@
+-- `links::link_from` meets its contract: the loop keeps `Added` of what the patches so far make.
 use mathlib.Core.Path.{_≡_, refl, _∙_}
 use Prim.Native.Nat.{_+_, _-_, _≤_}
 use native.Mathlib.Omega.{arith}
@@ -7,8 +8,6 @@ use Rattle.links.specs.Links.{linksFrom}
 use Rattle.links.proofs.Linking.{Added, from-none, from-skip, from-more, from-all}
 use Rattle.links.proofs.link_from.Statement.{statement}
 use Rattle.links.proofs.link_from.Tie as tie
-
--- `links::link_from` meets its contract: the loop keeps `Added` of what the patches so far make.
 
 abbrev Inv-loop : tie.InvT-loop
 Inv-loop p row words₀ from n k₀ j₀ words k j = (j ≤ length row) × (k ≤ from + j) × (length words ≡ length words₀) × Added (linksFrom p (take j (lows row))) words₀ from words k

@@ -1,3 +1,4 @@
+-- `links::link_neighbours` meets its contract: the loop keeps that what is there, and what the rest will add, is the whole.
 use mathlib.Core.Path.{_≡_, refl, _∙_}
 use Prim.Native.Nat.{_+_, _-_, _*_, _≤_}
 use native.Mathlib.Omega.{arith}
@@ -5,8 +6,6 @@ use lib.ListN.{length}
 use Rattle.links.proofs.Linking.{Adding, next-more, next-done}
 use Rattle.links.proofs.link_neighbours.Statement.{statement}
 use Rattle.links.proofs.link_neighbours.Tie as tie
-
--- `links::link_neighbours` meets its contract: the loop keeps that what is there, and what the rest will add, is the whole.
 
 abbrev Inv-loop : tie.InvT-loop
 Inv-loop row words₀ from n k₀ i₀ words k i = (i ≤ length row) × (k ≤ from + 2 * i) × (length words ≡ length words₀) × Adding row words₀ from words k i

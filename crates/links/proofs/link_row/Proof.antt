@@ -1,3 +1,4 @@
+-- `links::link_row` meets its contract: by the number of patches.
 use borrow.Author.Needs.{needs}
 use mathlib.Core.Path.{ap, _∙_}
 use mathlib.Core.Bool.{Bool, _||_}
@@ -7,8 +8,6 @@ use Rattle.links.specs.Words.{has, wordOf, uppers, lows}
 use Rattle.links.proofs.Linking.{lows-length, row-all, row-next}
 use Rattle.links.proofs.link_row.Statement.{statement}
 use Rattle.links.proofs.link_row.Tie as tie
-
--- `links::link_row` meets its contract: by the number of patches.
 
 link-all-requires : tie.Need-link-all-requires
 link-all-requires c κs = (omega arith, omega arith)

@@ -1,3 +1,4 @@
+-- `links::link_rows` meets its contract: the loop keeps `Told` of the rows so far.
 use mathlib.Core.Path.{_≡_, refl, _∙_}
 use Prim.Native.Nat.{_+_, _-_, _*_, _≤_}
 use native.Mathlib.Omega.{arith}
@@ -8,8 +9,6 @@ use Rattle.links.proofs.Pushing.{Told, told-none, told-more}
 use Rattle.links.proofs.Linking.{length-part, rows-link}
 use Rattle.links.proofs.link_rows.Statement.{statement}
 use Rattle.links.proofs.link_rows.Tie as tie
-
--- `links::link_rows` meets its contract: the loop keeps `Told` of the rows so far.
 
 abbrev Inv-loop : tie.InvT-loop
 Inv-loop sorted starts rows words₀ k₀ v₀ words k v = (v ≤ rows) × (k ≤ 8 * getD starts v 0) × (length words ≡ length words₀) × Told (λ a b r. isLinked (rowIn sorted starts r) a b) words k v

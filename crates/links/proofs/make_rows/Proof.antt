@@ -1,3 +1,4 @@
+-- `links::make_rows` meets its contract: `sort_rows` of the first k words.
 use borrow.Author.Needs.{needs}
 use mathlib.Core.Path.{sym, _∙_}
 use Prim.Native.Nat.{_-_}
@@ -6,8 +7,6 @@ use lib.Seq.{length-take-le}
 use Rattle.links.specs.Words.{uppers}
 use Rattle.links.proofs.make_rows.Statement.{statement}
 use Rattle.links.proofs.make_rows.Tie as tie
-
--- `links::make_rows` meets its contract: `sort_rows` of the first k words.
 
 slice-aggregate-sort-rows : tie.Need-slice-aggregate-sort-rows
 slice-aggregate-sort-rows c =

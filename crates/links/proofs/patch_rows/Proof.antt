@@ -1,3 +1,4 @@
+-- `links::patch_rows` meets its contract: the words, and their rows (`patch-row`).
 use borrow.Author.Needs.{needs}
 use mathlib.Core.Path.{_∙_}
 use Prim.Native.Nat.{_-_}
@@ -5,8 +6,6 @@ use native.Mathlib.Omega.{arith}
 use Rattle.links.proofs.Pushing.{patch-row}
 use Rattle.links.proofs.patch_rows.Statement.{statement}
 use Rattle.links.proofs.patch_rows.Tie as tie
-
--- `links::patch_rows` meets its contract: the words, and their rows (`patch-row`).
 
 patch-words-requires : tie.Need-patch-words-requires
 patch-words-requires c κs =

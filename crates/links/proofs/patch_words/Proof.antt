@@ -1,3 +1,4 @@
+-- `links::patch_words` meets its contract: the loop keeps `Told`.
 use mathlib.Core.Path.{_≡_, refl, _∙_}
 use Prim.Native.Nat.{_-_, _≤_}
 use native.Mathlib.Omega.{arith}
@@ -5,8 +6,6 @@ use lib.ListN.{length}
 use Rattle.links.proofs.Pushing.{Told, told-none, patchTest, patch-skip, patch-more}
 use Rattle.links.proofs.patch_words.Statement.{statement}
 use Rattle.links.proofs.patch_words.Tie as tie
-
--- `links::patch_words` meets its contract: the loop keeps `Told`.
 
 abbrev Inv-loop : tie.InvT-loop
 Inv-loop of m np words₀ k₀ i₀ words k i = (i ≤ m) × (k ≤ i) × (length words ≡ length words₀) × Told (patchTest of np) words k i

@@ -1,3 +1,4 @@
+-- `links::push` meets its contract: the word's upper half is the word of p and q (`pushed`).
 use borrow.Author.Needs.{needs}
 use mathlib.Core.Path.{refl}
 use native.Mathlib.Omega.{arith}
@@ -5,8 +6,6 @@ use Rattle.links.specs.Words.{wordOf}
 use Rattle.links.proofs.Compacting.{pushed}
 use Rattle.links.proofs.push.Statement.{statement}
 use Rattle.links.proofs.push.Tie as tie
-
--- `links::push` meets its contract: the word's upper half is the word of p and q (`pushed`).
 
 returns : tie.Need-returns
 returns c =

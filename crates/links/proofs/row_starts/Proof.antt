@@ -1,3 +1,4 @@
+-- `links::row_starts` meets its contract: the loop keeps `Starting`, and either passes a word or ends a row.
 use mathlib.Core.Path.{_≡_, refl, _∙_}
 use Prim.Native.Nat.{_+_, _-_, _≤_}
 use native.Mathlib.Omega.{arith}
@@ -5,8 +6,6 @@ use lib.ListN.{length, length-set}
 use Rattle.links.proofs.Cutting.{Starting, start-none, start-pass, start-row}
 use Rattle.links.proofs.row_starts.Statement.{statement}
 use Rattle.links.proofs.row_starts.Tie as tie
-
--- `links::row_starts` meets its contract: the loop keeps `Starting`, and either passes a word or ends a row.
 
 abbrev Inv-loop : tie.InvT-loop
 Inv-loop sorted rows starts₀ r₀ i₀ starts r i = (r ≤ rows + 1) × (i ≤ length sorted) × (length starts ≡ length starts₀) × Starting sorted starts r i

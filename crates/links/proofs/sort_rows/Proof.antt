@@ -1,3 +1,4 @@
+-- `links::sort_rows` meets its contract: the words sorted, without repeats, and cut into rows (`rows-are`).
 use borrow.Author.Needs.{needs}
 use mathlib.Core.Path.{sym}
 use Prim.Native.Nat.{_-_}
@@ -6,8 +7,6 @@ use lib.Seq.{length-take-le}
 use Rattle.links.proofs.Cutting.{set-sorted, rows-are}
 use Rattle.links.proofs.sort_rows.Statement.{statement}
 use Rattle.links.proofs.sort_rows.Tie as tie
-
--- `links::sort_rows` meets its contract: the words sorted, without repeats, and cut into rows (`rows-are`).
 
 sort-words-requires : tie.Need-sort-words-requires
 sort-words-requires c κs = c .before .before .before .before .before .before .pre .0

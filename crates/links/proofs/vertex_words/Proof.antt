@@ -1,3 +1,4 @@
+-- `links::vertex_words` meets its contract: the loop keeps `Told`, three words a triangle.
 use mathlib.Core.Path.{_≡_, refl, _∙_}
 use Prim.Native.Nat.{_-_, _*_, _≤_}
 use native.Mathlib.Omega.{arith}
@@ -6,8 +7,6 @@ use Rattle.links.specs.Links.{hasCorner}
 use Rattle.links.proofs.Pushing.{Told, told-none, corner-skip, corner-more}
 use Rattle.links.proofs.vertex_words.Statement.{statement}
 use Rattle.links.proofs.vertex_words.Tie as tie
-
--- `links::vertex_words` meets its contract: the loop keeps `Told`, three words a triangle.
 
 abbrev Inv-loop : tie.InvT-loop
 Inv-loop id n of m np words₀ k₀ i₀ words k i = (i ≤ m) × (k ≤ 3 * i) × (length words ≡ length words₀) × Told (hasCorner id n of np) words k i
