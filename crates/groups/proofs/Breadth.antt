@@ -1,13 +1,13 @@
 -- The loop that grows a group breadth first, and its start.
 use mathlib.Core.Path.{_≡_, refl, sym, ap, _∙_}
-use mathlib.Core.Bool.{Bool, true, false, not, _&&_}
+use mathlib.Core.Bool.{Bool, true, not, _&&_}
 use mathlib.Core.List.{List, [], _∷_, _++_, append-nil}
 use Prim.Native.Nat.{ℕ, zero, suc, _+_, _-_, _<_, _≤_}
 use native.Mathlib.Nat.{le-refl}
 use native.Mathlib.Numerals.{add-one}
 use native.Mathlib.Omega.{arith}
 use lib.Dec.{eqb}
-use lib.ListN.{length, getD, take, drop, set, length-set, length-take, drop-of-length-le}
+use lib.ListN.{length, getD, take, drop, set}
 use lib.Seq.{take-suc, append-snoc, drop-cons, getD-take, length-take-le, take-set-le}
 use Rattle.order.specs.Sort.{Below}
 use Rattle.order.specs.Runs.{upTo}
@@ -16,7 +16,7 @@ use Rattle.links.specs.Words.{partOf, lows, rowIn}
 use Rattle.groups.specs.Groups.{grownOf}
 use Rattle.groups.specs.Rows.{isFree, freeOf, Queue, LetIn, Grown, RowsOf}
 use Rattle.groups.proofs.Growing.{free-seed}
-use Rattle.groups.proofs.Queueing.{part-drop, take-kept, part-more, part-new, push-take, queue-push, queue-room}
+use Rattle.groups.proofs.Queueing.{part-drop, take-kept, part-more, part-new, push-take}
 
 -- the queue from head on and what is free give what the whole gives
 abbrev pub SoFar : ℕ → (ℕ → ℕ → Bool) → (ℕ → Bool) → List ℕ → List ℕ → ℕ → ℕ → List ℕ → List ℕ → ℕ → ℕ → Type 0

@@ -2,12 +2,12 @@
 use mathlib.Core.Path.{_≡_, refl, sym, ap, _∙_}
 use mathlib.Core.Bool.{Bool, true, false, not, _&&_}
 use mathlib.Core.List.{List, [], _∷_, _++_, map, append-nil}
-use Prim.Native.Nat.{ℕ, zero, suc, _+_, _-_, _<_, _≤_}
+use Prim.Native.Nat.{ℕ, suc, _+_, _-_, _<_, _≤_}
 use native.Mathlib.Nat.{le-refl}
 use native.Mathlib.Numerals.{add-one}
 use native.Mathlib.Omega.{arith}
-use lib.Dec.{eqb, ltb}
-use lib.ListN.{length, getD, take, drop, set, length-set, drop-of-length-le}
+use lib.Dec.{eqb}
+use lib.ListN.{length, getD, take, drop, set, drop-of-length-le}
 use lib.Seq.{append-snoc, drop-cons, getD-take, getD-set-same, getD-set-other, length-take-le, take-suc, take-suc-set}
 use borrow.Author.Tests.{eq-eqb, ne-eqb, lt-ltb}
 use Rattle.float.proofs.Numbers.{by-order}
@@ -15,10 +15,10 @@ use Rattle.order.specs.Sort.{Below}
 use Rattle.order.specs.Runs.{anyBy, upTo}
 use Rattle.order.proofs.Stable.{by-eq}
 use Rattle.patches.specs.Lists.{filterBy}
-use Rattle.links.specs.Words.{has, partOf}
+use Rattle.links.specs.Words.{partOf}
 use Rattle.links.proofs.Rising.{Under, under-upTo, has-filter, has-upTo}
 use Rattle.groups.specs.Groups.{grownOf, groupsFrom}
-use Rattle.groups.specs.Rows.{groupsIn, isFree, freeOf, Queue, Grown, RowsOf}
+use Rattle.groups.specs.Rows.{groupsIn, Grouped, isFree, freeOf, Queue, Grown, RowsOf}
 use Rattle.groups.proofs.Queueing.{part-kept, part-new}
 
 -- ---- groups in areas
@@ -89,12 +89,13 @@ pub record Grouping (np : ℕ) (fit : ℕ → ℕ → Bool) (asorted astarts see
   pub queue-is : Queue np col queue tail
   pub at : getD starts ng 0 ≡ tail
   pub rise : (g : ℕ) → g ≤ ng → getD starts g 0 ≤ tail
+  pub steps : (g : ℕ) → g < ng → getD starts g 0 ≤ getD starts (g + 1) 0
   pub is : (adj : ℕ → ℕ → Bool) → RowsOf np asorted astarts adj → groupsIn queue starts ng ++ groupsFrom np adj fit (drop i seeds) (freeOf np col) ≡ groupsFrom np adj fit seeds (freeOf np col0)
 
 pub group-none : (np : ℕ) (fit : ℕ → ℕ → Bool) (asorted astarts seeds col queue starts : List ℕ) → Queue np col queue 0 → getD starts 0 0 ≡ 0 → Grouping np fit asorted astarts seeds col col queue starts 0 0 0
 unfolding groupsIn upTo
 group-none np fit asorted astarts seeds col queue starts q z =
-    record { few = le-refl 0; queue-is = q; at = z; rise = λ g h. let e : g ≡ 0 = omega arith in rw (e, z) (le-refl 0); is = λ adj rows. refl }
+    record { few = le-refl 0; queue-is = q; at = z; rise = λ g h. let e : g ≡ 0 = omega arith in rw (e, z) (le-refl 0); steps = λ g h. absurd (omega arith); is = λ adj rows. refl }
 
 module _ (np : ℕ) (fit : ℕ → ℕ → Bool) (asorted astarts seeds col0 col queue starts : List ℕ) (ng tail i : ℕ) (m : Grouping np fit asorted astarts seeds col0 col queue starts ng tail i) (h : i < length seeds) (low : getD seeds i 0 < np) where
   rest : drop i seeds ≡ getD seeds i 0 ∷ drop (i + 1) seeds
@@ -109,6 +110,7 @@ module _ (np : ℕ) (fit : ℕ → ℕ → Bool) (asorted astarts seeds col0 col
         queue-is = m .queue-is;
         at = m .at;
         rise = m .rise;
+        steps = m .steps;
         is = λ adj rows.
             ap (λ (l : List (List ℕ)). groupsIn queue starts ng ++ l)
             (sym (ap (λ (l : List ℕ). groupsFrom np adj fit l (freeOf np col)) rest ∙ from-skip np adj fit s (drop (i + 1) seeds) (freeOf np col) (seed-free np col s low ∙ ne-eqb (getD col s 0) 0 d)))
@@ -129,6 +131,15 @@ module _ (np : ℕ) (fit : ℕ → ℕ → Bool) (asorted astarts seeds col0 col
         rise = λ g l. by-eq g (ng + 1)
             (λ e. let v : getD (set starts (ng + 1) r) g 0 ≡ r = ap (λ (k : ℕ). getD (set starts (ng + 1) r) k 0) e ∙ getD-set-same starts (ng + 1) r 0 room in omega arith)
             (λ d. let v = getD-set-other starts (ng + 1) g r 0 d in let w = m .rise g (by-order g ng (λ y. y) (λ y. absurd (d (omega arith)))) in omega arith);
+        steps = λ g l.
+            let v = getD-set-other starts (ng + 1) g r 0 (λ e. omega arith) in
+            by-eq g ng
+            (λ e. let w : getD (set starts (ng + 1) r) (g + 1) 0 ≡ r = ap (λ (k : ℕ). getD (set starts (ng + 1) r) (k + 1) 0) e ∙ getD-set-same starts (ng + 1) r 0 room in let y = m .rise g (omega arith) in omega arith)
+            (λ d.
+            let low : g < ng = by-order (suc g) ng (λ y. y) (λ y. absurd (d (omega arith))) in
+            let w = getD-set-other starts (ng + 1) (g + 1) r 0 (λ e. omega arith) in
+            let y = m .steps g low in
+            omega arith);
         is = λ adj rows.
             let g = grown adj rows in
             let new = grownOf np adj (fit s) (s ∷ []) (filterBy (λ q. not (eqb s q)) (freeOf np col)) .0 in
@@ -153,6 +164,11 @@ group-done np fit asorted astarts seeds col0 col queue starts ng tail i m h adj 
     let none : groupsFrom np adj fit (drop i seeds) (freeOf np col) ≡ [] = rw (drop-of-length-le seeds h) in
     sym (append-nil (groupsIn queue starts ng)) ∙ ap (λ (l : List (List ℕ)). groupsIn queue starts ng ++ l) (sym none) ∙ m .is adj rows
 
+pub group-grouped : (np : ℕ) (fit : ℕ → ℕ → Bool) (asorted astarts seeds col0 col queue starts : List ℕ) (ng tail i : ℕ) → Grouping np fit asorted astarts seeds col0 col queue starts ng tail i → Grouped np ng queue starts
+group-grouped np fit asorted astarts seeds col0 col queue starts ng tail i m =
+    let t = m .queue-is .total in
+    record { rise = m .steps; ends = λ g h. let r = m .rise g h in omega arith; below = rw (m .at) (m .queue-is .below) }
+
 -- ---- the seeds as the first np of an area
 
 pub seed-below : (np : ℕ) (order : List ℕ) (i : ℕ) → Below np (take np order) → np ≤ length order → i < np → getD order i 0 < np
@@ -166,24 +182,36 @@ seed-at np order i l = getD-take np order i 0 l
 
 pub record Alone (order queue starts : List ℕ) (i : ℕ) : Type 0 where
   pub at : (g : ℕ) → g ≤ i → getD starts g 0 ≡ g
+  pub same : take i queue ≡ take i order
   pub is : groupsIn queue starts i ≡ map (λ p. p ∷ []) (take i order)
 
 pub alone-none : (order queue starts : List ℕ) → getD starts 0 0 ≡ 0 → Alone order queue starts 0
 unfolding groupsIn upTo
-alone-none order queue starts z = record { at = λ g h. let e : g ≡ 0 = omega arith in rw e z; is = refl }
+alone-none order queue starts z = record { at = λ g h. let e : g ≡ 0 = omega arith in rw e z; same = refl; is = refl }
 
 pub alone-more : (order queue starts : List ℕ) (i : ℕ) → i < length order → i < length queue → i + 1 < length starts → Alone order queue starts i
     → Alone order (set queue i (getD order i 0)) (set starts (i + 1) (i + 1)) (i + 1)
 alone-more order queue starts i ho hq hs m =
     let x = getD order i 0 in
+    let pushed : take (i + 1) (set queue i x) ≡ take i queue ++ (x ∷ []) = ap (λ (k : ℕ). take k (set queue i x)) (add-one i) ∙ take-suc-set queue i x hq in
+    let taken : take (i + 1) order ≡ take i order ++ (x ∷ []) = ap (λ (k : ℕ). take k order) (add-one i) ∙ take-suc order i 0 ho in
     record {
       at = λ g h. by-eq g (i + 1)
           (λ e. ap (λ (k : ℕ). getD (set starts (i + 1) (i + 1)) k 0) e ∙ getD-set-same starts (i + 1) (i + 1) 0 hs ∙ sym e)
           (λ d. getD-set-other starts (i + 1) g (i + 1) 0 d ∙ m .at g (by-order g i (λ y. y) (λ y. absurd (d (omega arith)))));
+      same = pushed ∙ ap (λ (l : List ℕ). l ++ (x ∷ [])) (m .same) ∙ sym taken;
       is =
-          groups-more queue (set queue i x) starts (x ∷ []) i i (i + 1)
-          (ap (λ (k : ℕ). take k (set queue i x)) (add-one i) ∙ take-suc-set queue i x hq) (omega arith) (omega arith) hs (m .at i (le-refl i)) (λ g h. let e = m .at g h in omega arith)
+          groups-more queue (set queue i x) starts (x ∷ []) i i (i + 1) pushed (omega arith) (omega arith) hs (m .at i (le-refl i)) (λ g h. let e = m .at g h in omega arith)
           ∙ ap (λ (l : List (List ℕ)). l ++ ((x ∷ []) ∷ [])) (m .is)
           ∙ sym (map-snoc (λ p. p ∷ []) (take i order) x)
-          ∙ ap (map (λ (p : ℕ). p ∷ [])) (sym (ap (λ (k : ℕ). take k order) (add-one i) ∙ take-suc order i 0 ho));
+          ∙ ap (map (λ (p : ℕ). p ∷ [])) (sym taken);
+    }
+
+pub alone-grouped : (order queue starts : List ℕ) (np : ℕ) → Below np (take np order) → Alone order queue starts np → Grouped np np queue starts
+alone-grouped order queue starts np b m =
+    let last = m .at np (le-refl np) in
+    record {
+      rise = λ g h. let x = m .at g (omega arith) in let y = m .at (g + 1) (omega arith) in omega arith;
+      ends = λ g h. let x = m .at g h in omega arith;
+      below = rw (last, m .same) b;
     }

@@ -3,23 +3,23 @@
 --     still-free    what is free after it: of the free patches, those that are not
 --     free-less     one patch taken: one fewer is free
 use mathlib.Core.Path.{_≡_, refl, sym, ap, _∙_}
-use mathlib.Core.Bool.{Bool, true, false, cond, not, _||_, _&&_}
+use mathlib.Core.Bool.{Bool, true, false, cond, not, _&&_}
 use mathlib.Core.List.{List, [], _∷_, _++_}
 use Prim.Native.Nat.{ℕ, zero, suc, _+_, _<_, _≤_}
-use native.Mathlib.Nat.{le-refl, not-suc-le-zero}
+use native.Mathlib.Nat.{not-suc-le-zero}
 use native.Mathlib.Numerals.{add-one}
 use native.Mathlib.Omega.{arith}
-use lib.Dec.{eqb, ltb}
+use lib.Dec.{eqb}
 use lib.ListN.{length, getD, set, drop, length-set, length-append, drop-of-length-le}
 use lib.Seq.{getD-set-same, getD-set-other, drop-cons}
 use borrow.Author.Tests.{eq-eqb, ne-eqb, lt-ltb}
 use Rattle.float.proofs.Numbers.{by-order}
 use Rattle.order.specs.Runs.{anyBy, upTo}
-use Rattle.order.proofs.Stable.{by-eq, Least, least-less}
+use Rattle.order.proofs.Stable.{by-eq, Least}
 use Rattle.patches.specs.Lists.{keepIf, filterBy}
-use Rattle.links.specs.Words.{has, itself}
-use Rattle.links.proofs.Rising.{From, Rising, Under, not-from, has-filter, has-upTo, under-upTo, filter-rising, upTo-rising}
-use Rattle.links.proofs.Filters.{filter-under, filter-below, eqb-turn}
+use Rattle.links.specs.Words.{has}
+use Rattle.links.proofs.Rising.{From, Rising, not-from, has-filter, has-upTo, filter-rising, upTo-rising}
+use Rattle.links.proofs.Filters.{filter-below}
 use Rattle.groups.specs.Rows.{isFree, freeOf}
 
 -- ---- filters

@@ -1,6 +1,6 @@
 -- Adjacency by the numbers of corners is adjacency by vertices: `joined-adjacent`.
 use mathlib.Core.Path.{_≡_, refl, sym, ap, _∙_}
-use mathlib.Core.Bool.{Bool, true, false, cond, not, _||_, _&&_}
+use mathlib.Core.Bool.{Bool, true, false, _||_, _&&_}
 use mathlib.Core.List.{List, [], _∷_, _++_, map, flatMap}
 use Prim.Native.Nat.{ℕ, zero, suc, _+_, _-_, _*_, _<_, _≤_}
 use native.Mathlib.Nat.{not-suc-le-zero}
@@ -8,23 +8,22 @@ use native.Mathlib.Omega.{arith}
 use lib.Dec.{eqb, ltb}
 use lib.Ieee.{Float}
 use lib.ListN.{length, getD, length-map}
-use borrow.Author.Tests.{eq-eqb, ne-eqb, eqb-true, lt-ltb, le-ltb, ltb-true}
+use borrow.Author.Tests.{eq-eqb, eqb-true, ltb-true}
 use Rattle.float.proofs.Numbers.{by-order}
 use Rattle.order.specs.Runs.{anyBy, upTo}
 use Rattle.order.proofs.Stable.{by-eq}
 use Rattle.order.proofs.Runs.{any-under}
 use Rattle.geometry.specs.declared.Triangle.{Triangle}
-use Rattle.columns.specs.Columns.{vecAtOf, triangleAtOf}
+use Rattle.columns.specs.Columns.{triangleAtOf}
 use Rattle.faces.proofs.Firsts.{upTo-length}
 use Rattle.faces.specs.Key.{Key, sameKey, vertexKey}
 use Rattle.patches.specs.Lists.{keepIf, filterBy}
 use Rattle.patches.specs.Triangles.{triangleAt, cornersOf, trianglesIn}
-use Rattle.patches.specs.Patch.{Patch}
 use Rattle.patches.specs.Rows.{noneOf, trisIn, patchIn, patchesIn}
 use Rattle.links.specs.Words.{has}
 use Rattle.links.specs.Links.{isOf, hasCorner, isLinked, runOf, isJoined, Numbers}
 use Rattle.links.proofs.Rising.{clash, has-filter}
-use Rattle.links.proofs.Filters.{any-more, eqb-turn, filter-below, filter-cut, getD-inside}
+use Rattle.links.proofs.Filters.{any-more, eqb-turn, filter-below, getD-inside}
 use Rattle.links.proofs.Pushing.{is-of, linked-none, run-cut}
 use Rattle.groups.specs.Groups.{verticesOf, runAt, runsOf, isAdjacent}
 use Rattle.faces.specs.Numbers.{cornerIn, placeIn, numberIn, Numbered}

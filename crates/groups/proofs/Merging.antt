@@ -2,14 +2,13 @@
 use mathlib.Core.Path.{_≡_, refl, sym, ap, _∙_}
 use mathlib.Core.Bool.{Bool, true, false, cond, not, _&&_}
 use mathlib.Core.List.{List, [], _∷_, _++_, map}
-use Prim.Native.Nat.{ℕ, zero, suc, _<_, _≤_}
+use Prim.Native.Nat.{ℕ, zero, suc, _<_}
 use lib.Dec.{eqb, ltb}
 use lib.Ieee.{Float, lt}
-use lib.ListN.{length, getD, take}
 use Rattle.float.specs.Literals.{zero32}
 use Rattle.order.specs.Sort.{sortBy, Below}
 use Rattle.order.specs.Runs.{anyBy, upTo}
-use Rattle.order.proofs.Laws.{below-head, below-tail, below-sort}
+use Rattle.order.proofs.Laws.{below-head, below-tail}
 use Rattle.patches.specs.Lists.{filterBy}
 use Rattle.patches.specs.Triangles.{trianglesIn}
 use Rattle.patches.specs.Patch.{patchAt}
@@ -20,7 +19,6 @@ use Rattle.links.proofs.Filters.{filter-under}
 use Rattle.groups.specs.Settings.{Settings}
 use Rattle.groups.specs.Groups.{seedsOf, runsOf, isAdjacent, takes, grownOf, groupsFrom, groupsOf}
 use Rattle.groups.specs.Rows.{seedKeyIn, takesIn}
-use Rattle.groups.proofs.Breadth.{grown-open}
 use Rattle.groups.proofs.Grouping.{from-skip, from-start}
 use Rattle.groups.proofs.Reading.{under-filter, sorted-positions, patches-length, takes-is, seeds-are}
 

@@ -1,14 +1,14 @@
 -- A queue that patches are appended to, and its parts.
 --     part-drop      the part from a to b is what is left of the first b without the first a
 --     queue-push     a free patch marked and appended
-use mathlib.Core.Path.{_≡_, refl, sym, ap, _∙_}
-use mathlib.Core.Bool.{Bool, true, false}
-use mathlib.Core.List.{List, [], _∷_, _++_, append-nil}
+use mathlib.Core.Path.{_≡_, sym, ap, _∙_}
+use mathlib.Core.Bool.{true}
+use mathlib.Core.List.{List, [], _∷_, _++_}
 use Prim.Native.Nat.{ℕ, zero, suc, _+_, _-_, _<_, _≤_}
 use native.Mathlib.Numerals.{add-one}
 use native.Mathlib.Omega.{arith}
-use lib.ListN.{length, getD, take, drop, set, length-set, length-take}
-use lib.Seq.{take-nil, take-take, take-append-le, drop-append-le, drop-at, take-suc-set, take-suc, length-take-le}
+use lib.ListN.{length, take, drop, set, length-set}
+use lib.Seq.{take-nil, take-take, take-append-le, drop-append-le, drop-at, take-suc-set, length-take-le}
 use Rattle.order.specs.Sort.{Below}
 use Rattle.order.proofs.Laws.{below-append, below-cons, below-none}
 use Rattle.links.specs.Words.{partOf}

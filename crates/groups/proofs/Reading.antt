@@ -1,14 +1,14 @@
 -- What stands in areas, as the definition reads it: patches and triangles by number, and rows as tables.
 use mathlib.Core.Path.{_≡_, refl, sym, ap, _∙_}
-use mathlib.Core.Bool.{Bool, true, false, cond, not, _&&_}
+use mathlib.Core.Bool.{Bool, true, false, _&&_}
 use mathlib.Core.List.{List, [], _∷_, _++_, map}
 use Prim.Native.Nat.{ℕ, zero, suc, _+_, _-_, _*_, _<_, _≤_}
 use native.Mathlib.Nat.{le-of-suc-le-suc, not-suc-le-zero}
 use native.Mathlib.Omega.{arith}
 use lib.Dec.{eqb}
 use lib.Ieee.{Float, nan}
-use lib.ListN.{length, getD, take, drop, set, replicate, length-append, length-map, length-replicate, getD-replicate, List·getD-append}
-use lib.Seq.{getD-append-seam, take-at, getD-at}
+use lib.ListN.{length, getD, take, drop, replicate, length-map, length-replicate, getD-replicate, List·getD-append}
+use lib.Seq.{take-at, getD-at}
 use borrow.Author.Tests.{eq-eqb}
 use Rattle.float.proofs.Numbers.{by-order}
 use Rattle.order.specs.Sort.{sortBy, keyOf, Below}
@@ -16,6 +16,7 @@ use Rattle.order.specs.Runs.{headOr, upTo}
 use Rattle.order.proofs.Laws.{below-none, below-cons, below-sort, length-sort}
 use Rattle.order.proofs.Stable.{by-eq}
 use Rattle.order.proofs.Lexi.{sort-cong}
+use Rattle.faces.proofs.Corners.{getD-map-upTo}
 use Rattle.faces.proofs.Firsts.{upTo-length}
 use Rattle.geometry.specs.declared.Triangle.{Triangle}
 use Rattle.columns.specs.Columns.{triangleAtOf}
@@ -23,8 +24,8 @@ use Rattle.patches.specs.Lists.{keepIf, filterBy, allBy}
 use Rattle.patches.specs.Triangles.{noTriangle, triangleAt, cornersOf, trianglesIn}
 use Rattle.patches.specs.Patch.{Patch, noPatch, patchAt}
 use Rattle.patches.specs.Rows.{patchFloats, noneOf, vecIn, trisIn, patchIn, patchesIn}
-use Rattle.links.specs.Words.{rowIn, Fenced}
-use Rattle.links.proofs.Rising.{Under, under-upTo, filter-rising}
+use Rattle.links.specs.Words.{rowIn, RowBounds}
+use Rattle.links.proofs.Rising.{Under, under-upTo}
 use Rattle.links.proofs.Filters.{filter-below}
 use Rattle.groups.specs.Settings.{Settings}
 use Rattle.groups.specs.Groups.{descendingKey, seedsOf, isTilted, isNear, inCone, isWithin, takes}
@@ -42,18 +43,10 @@ upTo-at (suc n) i h =
     (λ e. ap (λ (k : ℕ). getD (upTo n ++ (n ∷ [])) k 0) e ∙ getD-at (upTo n) n [] 0 n l ∙ sym e)
     (λ d. let g : i < n = by-order (suc i) n (λ y. y) (λ y. absurd (d (omega arith))) in List·getD-append (upTo n) (n ∷ []) 0 i (rw l g) ∙ r g)
 
-map-at : {A : Type 0} (f : ℕ → A) (xs : List ℕ) (i : ℕ) (d : A) → i < length xs → getD (map f xs) i d ≡ f (getD xs i 0)
-map-at f [] i d h = absurd (not-suc-le-zero h)
-map-at f (x ∷ xs) zero d h = refl
-map-at f (x ∷ xs) (suc i) d h = map-at f xs i d (le-of-suc-le-suc h)
-
 pub map-twice : {A B : Type 0} (f : A → B) (g : ℕ → A) (xs : List ℕ) (i : ℕ) (d : B) → i < length xs → getD (map f (map g xs)) i d ≡ f (g (getD xs i 0))
 map-twice f g [] i d h = absurd (not-suc-le-zero h)
 map-twice f g (x ∷ xs) zero d h = refl
 map-twice f g (x ∷ xs) (suc i) d h = map-twice f g xs i d (le-of-suc-le-suc h)
-
-pub map-upTo : {A : Type 0} (f : ℕ → A) (n i : ℕ) (d : A) → i < n → getD (map f (upTo n)) i d ≡ f i
-map-upTo f n i d h = map-at f (upTo n) i d (rw (upTo-length n) h) ∙ ap f (upTo-at n i h)
 
 under-below : (n : ℕ) (xs : List ℕ) → Under n xs → Below n xs
 unfolding Under
@@ -84,15 +77,15 @@ sorted-positions f n xs e = rw e (below-sort f n (upTo n) (under-below n (upTo n
 
 -- ---- tables
 
-pub table-is : (rows n bound : ℕ) (sorted starts : List ℕ) (f : ℕ → ℕ → Bool) → Fenced rows sorted starts → rows < length starts
+pub table-is : (rows n bound : ℕ) (sorted starts : List ℕ) (f : ℕ → ℕ → Bool) → RowBounds rows sorted starts → rows < length starts
     → ((r : ℕ) → r < rows → rowIn sorted starts r ≡ filterBy (f r) (upTo n)) → n ≤ bound → Table rows bound sorted starts
-table-is rows n bound sorted starts f fenced long is h =
-    record { fenced = fenced; long = long; below = λ r l. rw (is r l) (below-more n bound (filterBy (f r) (upTo n)) h (below-filter (f r) n)) }
+table-is rows n bound sorted starts f bounds long is h =
+    record { bounds = bounds; long = long; below = λ r l. rw (is r l) (below-more n bound (filterBy (f r) (upTo n)) h (below-filter (f r) n)) }
 
-pub table-tris : (np m bound : ℕ) (of sorted starts : List ℕ) → Fenced np sorted starts → np < length starts
+pub table-tris : (np m bound : ℕ) (of sorted starts : List ℕ) → RowBounds np sorted starts → np < length starts
     → ((p : ℕ) → p < np → rowIn sorted starts p ≡ trisIn of m p) → m ≤ bound → Table np bound sorted starts
 unfolding trisIn
-table-tris np m bound of sorted starts fenced long is h = table-is np m bound sorted starts (λ p i. eqb (getD of i noneOf) p) fenced long is h
+table-tris np m bound of sorted starts bounds long is h = table-is np m bound sorted starts (λ p i. eqb (getD of i noneOf) p) bounds long is h
 
 -- ---- all free
 
@@ -116,11 +109,11 @@ queue-none np len queue h r =
 
 pub patch-at : (rows : List Float) (of : List ℕ) (m np a : ℕ) → a < np → patchAt (patchesIn rows of m np) a ≡ patchIn rows of m a
 unfolding patchAt patchesIn
-patch-at rows of m np a h = map-upTo (patchIn rows of m) np a noPatch h
+patch-at rows of m np a h = getD-map-upTo (patchIn rows of m) np a noPatch h
 
 pub triangle-at : (area : List Float) (handles : List ℕ) (n m i : ℕ) → i < m → triangleAt (trianglesIn area handles n m) i ≡ triangleAtOf area handles n i
 unfolding triangleAt trianglesIn
-triangle-at area handles n m i h = map-upTo (triangleAtOf area handles n) m i noTriangle h
+triangle-at area handles n m i h = getD-map-upTo (triangleAtOf area handles n) m i noTriangle h
 
 pub patches-length : (rows : List Float) (of : List ℕ) (m np : ℕ) → length (patchesIn rows of m np) ≡ np
 unfolding patchesIn

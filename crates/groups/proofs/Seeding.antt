@@ -1,11 +1,11 @@
 -- The keys of the patches as seeds, and their sort.
 use mathlib.Core.Path.{_≡_, refl, sym, ap, _∙_}
 use mathlib.Core.List.{List, [], _∷_, _++_}
-use Prim.Native.Nat.{ℕ, zero, suc, _+_, _-_, _*_, _%_, _<_, _≤_}
+use Prim.Native.Nat.{ℕ, _+_, _-_, _%_, _<_, _≤_}
 use native.Mathlib.Nat.{add-zero}
 use native.Mathlib.Numerals.{add-one}
 use native.Mathlib.Omega.{arith}
-use lib.ListN.{length, getD, take, drop, set, length-set}
+use lib.ListN.{length, getD, take, drop, set}
 use lib.Seq.{getD-take, getD-drop, getD-set-same, getD-set-other, take-suc-set}
 use Rattle.order.specs.Sort.{Below}
 use Rattle.order.specs.Runs.{headOr, upTo}

@@ -1,6 +1,6 @@
 -- Step 4, merging: groups of adjacent patches that grow breadth first from seeds, the largest patch first.
 use Prim.Native.Nat.{ℕ, zero, suc, _+_, _-_, _*_}
-use mathlib.Core.Bool.{Bool, true, false, cond, not, _&&_, _||_}
+use mathlib.Core.Bool.{Bool, true, false, cond, not, _&&_}
 use mathlib.Core.List.{List, [], _∷_, _++_, map, flatMap}
 use lib.Dec.{ltb, eqb}
 use lib.ListN.{length, getD}

@@ -1,7 +1,7 @@
 -- Groups in areas: the patches of all groups one after another, and where each group starts. Beside that, what the code's contracts cite.
 use mathlib.Core.Path.{_≡_}
 use mathlib.Core.Bool.{Bool, not, _&&_}
-use mathlib.Core.List.{List, [], _∷_, _++_, map}
+use mathlib.Core.List.{List, _++_, map}
 use Prim.Native.Nat.{ℕ, _+_, _*_, _<_, _≤_}
 use lib.Dec.{eqb}
 use lib.ListN.{length, getD, take}
@@ -12,18 +12,24 @@ use Rattle.columns.specs.Columns.{triangleAtOf}
 use Rattle.patches.specs.Lists.{filterBy, allBy}
 use Rattle.patches.specs.Triangles.{cornersOf}
 use Rattle.patches.specs.Rows.{patchFloats, vecIn}
-use Rattle.links.specs.Words.{partOf, rowIn, Fenced}
+use Rattle.links.specs.Words.{partOf, rowIn, RowBounds}
 use Rattle.groups.specs.Groups.{descendingKey, isTilted, isNear, grownOf}
 
 -- group g stands in the queue from starts[g] to starts[g + 1]
 unfoldable pub groupsIn : List ℕ → List ℕ → ℕ → List (List ℕ)
 groupsIn queue starts ng = map (λ g. partOf queue (getD starts g 0) (getD starts (g + 1) 0)) (upTo ng)
 
+-- each group ends where the next one starts, and their numbers are those of patches
+pub record Grouped (np ng : ℕ) (queue starts : List ℕ) : Type 0 where
+  pub rise : (g : ℕ) → g < ng → getD starts g 0 ≤ getD starts (g + 1) 0
+  pub ends : (g : ℕ) → g ≤ ng → getD starts g 0 ≤ np
+  pub below : Below np (take (getD starts ng 0) queue)
+
 -- ---- what the code reads
 
 -- rows of numbers below a bound
 pub record Table (rows bound : ℕ) (sorted starts : List ℕ) : Type 0 where
-  pub fenced : Fenced rows sorted starts
+  pub bounds : RowBounds rows sorted starts
   pub long : rows < length starts
   pub below : (r : ℕ) → r < rows → Below bound (rowIn sorted starts r)
 

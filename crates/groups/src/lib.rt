@@ -1,9 +1,10 @@
 // STEP 4 of the planes: groups of adjacent patches that grow breadth first from seeds, the largest patch first.
 use geometry::Triangle;
+use links::MOST_TRIANGLES;
 use vector::Vec3;
 ghost use mathlib.Core.Path.{_≡_};
 ghost use mathlib.Core.Bool.{Bool, true, not, _&&_};
-ghost use mathlib.Core.List.{List, [], _∷_, _++_, map};
+ghost use mathlib.Core.List.{[], _∷_, map};
 ghost use Prim.Native.Nat.{ℕ, _+_, _*_, _<_, _≤_};
 ghost use lib.Ieee.{lt};
 ghost use Rattle.float.specs.Literals.{zero32};
@@ -18,13 +19,15 @@ ghost use Rattle.patches.specs.Rows.{patchFloats, vecIn, patchesIn};
 ghost use Rattle.links.specs.Words.{mostTriangles, mostRows, lows, rowIn, partOf};
 ghost use Rattle.links.specs.Links.{isJoined, Numbers};
 ghost use Rattle.groups.specs.Settings.{Settings};
-ghost use Rattle.groups.specs.Groups.{rankOf, descendingKey, isTilted, isNear, grownOf, groupsFrom, groupsOf};
+ghost use Rattle.groups.specs.Groups.{rankOf, descendingKey, isTilted, isNear, groupsFrom, groupsOf};
 ghost use Rattle.faces.specs.Key.{vertexKey};
 ghost use Rattle.faces.specs.Numbers.{Numbered};
-ghost use Rattle.groups.specs.Rows.{groupsIn, Table, seedKeyIn, takesIn, isFree, freeOf, Queue, LetIn, Grown, RowsOf};
+ghost use Rattle.groups.specs.Rows.{groupsIn, Grouped, Table, seedKeyIn, takesIn, isFree, freeOf, Queue, LetIn, Grown, RowsOf};
 
-// How many triangles, and so patches, a scene with planes has at most: `mostTriangles`.
-const MOST_TRIANGLES: u32 = 4096;
+// How many floats a patch has: its normal from 0 on, its offset at 3, its area at 4.
+const PATCH_FLOATS: usize = 11;
+
+const PLANE_NORMAL_COS: f32 = 0.99998;
 
 // ---- seeds
 
@@ -80,7 +83,7 @@ fn seed_keys(
     let mut p = 0;
     while p < np {
         let first = first_triangle(tsorted, tstarts, np, p);
-        keys[p] = descending_key(rows[11 * p + 4], first);
+        keys[p] = descending_key(rows[PATCH_FLOATS * p + 4], first);
         order[p] = p as u32;
         p += 1;
     }
@@ -113,9 +116,10 @@ fn seeds(
 // `order.iter().map(|&p| vec![p])`: each patch alone.
 fn each_alone(order: &[u32], np: usize, queue: &mut [u32], starts: &mut [u32])
     requires { ⌜ np ≤ mostTriangles ⌝ }
-    requires { ⌜ np ≤ length (now order) ⌝ }
+    requires { ⌜ (np ≤ length (now order)) × Below np (take np (now order)) ⌝ }
     requires { ⌜ np ≤ length (now queue) ⌝ }
     requires { ⌜ np < length (now starts) ⌝ }
+    ensures { λ _. ⌜ Grouped np np (now (queue .exit)) (now (starts .exit)) ⌝ }
     ensures { λ _. ⌜ groupsIn (now (queue .exit)) (now (starts .exit)) np ≡ map (λ p. p ∷ []) (take np (now (order .entry))) ⌝ }
 {
     starts[0] = 0;
@@ -148,9 +152,9 @@ fn normal_of(rows: &[f32], p: usize) -> Vec3
     ensures { λ r. ⌜ r ≡ vecIn (now (rows .entry)) (patchFloats * p) ⌝ }
 {
     Vec3 {
-        x: rows[11 * p],
-        y: rows[11 * p + 1],
-        z: rows[11 * p + 2],
+        x: rows[PATCH_FLOATS * p],
+        y: rows[PATCH_FLOATS * p + 1],
+        z: rows[PATCH_FLOATS * p + 2],
     }
 }
 
@@ -160,7 +164,7 @@ fn is_tilted(a: Vec3, b: Vec3, least: f32) -> bool
 {
     let c = float::abs(vector::dot3(a, b));
     if c >= least {
-        return c <= 0.99998;
+        return c <= PLANE_NORMAL_COS;
     }
     false
 }
@@ -234,7 +238,7 @@ fn takes(
     let normal = normal_of(rows, a);
     let other = normal_of(rows, b);
     if is_tilted(normal, other, least) {
-        let offset = rows[11 * a + 3];
+        let offset = rows[PATCH_FLOATS * a + 3];
         let from = tstarts[b] as usize;
         let to = tstarts[b + 1] as usize;
         return is_within(area, handles, n, &tsorted[from..to], normal, offset, most);
@@ -443,6 +447,7 @@ fn grow_groups(
     requires { ⌜ Queue np (now assigned) (now queue) 0 ⌝ }
     requires { ⌜ np < length (now starts) ⌝ }
     ensures { λ r. ⌜ r ≤ np ⌝ }
+    ensures { λ r. ⌜ Grouped np r (now (queue .exit)) (now (starts .exit)) ⌝ }
     ensures { λ r. ⌜ ((adj : ℕ → ℕ → Bool) → RowsOf np (now (asorted .entry)) (now (astarts .entry)) adj → groupsIn (now (queue .exit)) (now (starts .exit)) r ≡ groupsFrom np adj (takesIn (now (area .entry)) (now (handles .entry)) n (now (rows .entry)) (now (tsorted .entry)) (now (tstarts .entry)) least most) (take np (now (order .entry))) (freeOf np (now (assigned .entry)))) ⌝ }
 {
     starts[0] = 0;
@@ -516,6 +521,7 @@ fn merge(
     requires { ⌜ (24 * m ≤ length (now asorted)) × (np < length (now astarts)) ⌝ }
     requires { ⌜ (np ≤ length (now assigned)) × (np ≤ length (now queue)) × (np < length (now starts)) ⌝ }
     ensures { λ r. ⌜ r ≤ np ⌝ }
+    ensures { λ r. ⌜ Grouped np r (now (queue .exit)) (now (starts .exit)) ⌝ }
     ensures { λ r. ⌜ ((adj : ℕ → ℕ → Bool) → ((p q : ℕ) → p < np → q < np → isJoined (now (id .entry)) n vertices (now (of .entry)) m np p q ≡ adj p q) → groupsIn (now (queue .exit)) (now (starts .exit)) r ≡ groupsFrom np adj (takesIn (now (area .entry)) (now (handles .entry)) n (now (rows .entry)) (now (tsorted .entry)) (now (tstarts .entry)) least most) (take np (now (order .entry))) (upTo np)) ⌝ }
 {
     links::adjacency(
@@ -593,6 +599,7 @@ pub fn merge_patches(
     requires { ⌜ (m ≤ length (now order)) × (m ≤ length (now assigned)) ⌝ }
     requires { ⌜ (m ≤ length (now queue)) × (m < length (now starts)) ⌝ }
     ensures { λ r. ⌜ r ≤ np ⌝ }
+    ensures { λ r. ⌜ Grouped np r (now (queue .exit)) (now (starts .exit)) ⌝ }
     ensures { λ r. ⌜ ((s : Settings) → s .mergeOn ≡ on → s .mergeCos ≡ least → s .mergeOffset ≡ most → groupsIn (now (queue .exit)) (now (starts .exit)) r ≡ groupsOf s (trianglesIn (now (area .entry)) (now (handles .entry)) n m) (patchesIn (now (rows .entry)) (now (of .entry)) m np)) ⌝ }
 {
     links::patch_rows(of, m, np as u32, words, scratch, tsorted, tstarts);

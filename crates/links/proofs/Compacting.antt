@@ -1,18 +1,13 @@
 -- The loop that leaves repeats out, and the words that it reads.
 use mathlib.Core.Path.{_≡_, refl, sym, ap, _∙_}
-use mathlib.Core.Bool.{Bool, true, false, not}
 use mathlib.Core.List.{List, [], _∷_, _++_, map, append-nil}
-use Prim.Native.Nat.{ℕ, zero, suc, _+_, _*_, _/_, _<_, _≤_}
+use Prim.Native.Nat.{ℕ, suc, _+_, _*_, _<_, _≤_}
 use native.Mathlib.Numerals.{add-one}
 use native.Mathlib.Omega.{arith}
-use lib.Dec.{eqb}
 use lib.ListN.{length, getD, take, drop, set, length-set, length-map, drop-of-length-le, List·getD-map}
 use lib.Seq.{drop-cons, take-suc-set, append-snoc}
-use borrow.Author.Tests.{eq-eqb, ne-eqb}
 use Rattle.order.specs.Radix.{upper}
-use Rattle.order.specs.Sort.{Below}
-use Rattle.patches.specs.Lists.{keepIf}
-use Rattle.links.specs.Words.{wordOf, uppers, dedupAfter, dedup}
+use Rattle.links.specs.Words.{uppers, dedupAfter, dedup}
 use Rattle.links.proofs.Rising.{after-same, after-new}
 
 pub emit : (d : List ℕ) (p x : ℕ) (r rest whole : List ℕ) → p < length d → take p d ++ r ≡ whole → r ≡ x ∷ rest → take (p + 1) (set d p x) ++ rest ≡ whole

@@ -1,21 +1,18 @@
 -- Rows of a rising list of words, cut out between where the words of a row start and where those of the next one do.
 use mathlib.Core.Path.{_≡_, refl, sym, ap, _∙_}
-use mathlib.Core.Bool.{Bool, true, false}
 use mathlib.Core.List.{List, [], _∷_, _++_, map, append-nil}
-use Prim.Native.Nat.{ℕ, zero, suc, _+_, _-_, _*_, _/_, _%_, _<_, _≤_}
+use Prim.Native.Nat.{ℕ, suc, _+_, _-_, _*_, _/_, _%_, _<_, _≤_}
 use native.Mathlib.Nat.{le-refl}
 use native.Mathlib.Omega.{arith}
-use lib.ListN.{length, getD, take, drop, set, length-set, length-take, length-drop, take-append-drop}
-use lib.Seq.{getD-set-same, getD-set-other, getD-take, getD-drop, drop-drop, drop-append-le, take-append-le, length-take-le}
+use lib.ListN.{length, getD, take, drop, set, length-take, length-drop, take-append-drop}
+use lib.Seq.{getD-set-same, getD-set-other, getD-take, getD-drop, drop-drop, drop-append-le, take-append-le}
 use Rattle.float.proofs.Numbers.{by-order}
 use Rattle.order.specs.Sort.{Sorted, sortBy}
 use Rattle.order.specs.Radix.{upper}
-use Rattle.order.specs.Runs.{upTo}
-use Rattle.order.proofs.Stable.{by-eq, chain-sorted, chain-sort}
+use Rattle.order.proofs.Stable.{by-eq, chain-sort}
 use Rattle.order.proofs.Lexi.{sort-map}
-use Rattle.patches.specs.Lists.{filterBy}
-use Rattle.links.specs.Words.{has, itself, wordOf, dedup, lows, partOf, rowIn, Cut, Fenced, Rows}
-use Rattle.links.proofs.Rising.{row, row-in, row-out, row-of, Rising, rising-sorted, dedup-rising}
+use Rattle.links.specs.Words.{itself, wordOf, dedup, lows, partOf, rowIn, Cut, Rows}
+use Rattle.links.proofs.Rising.{row, row-in, row-out, row-of, rising-sorted, dedup-rising}
 
 -- ---- the loop
 
@@ -134,7 +131,7 @@ module _ (words w2 sorted : List ℕ) (k : ℕ) (is-sorted : w2 ≡ sortBy upper
   unfolding rowIn
   rows-are starts rows h cuts =
       record {
-        fenced = record {
+        bounds = record {
           rise = λ r l. cut-rise (take k sorted) r (getD starts r 0) (getD starts (r + 1) 0) (cuts r (omega arith)) (cuts (r + 1) (omega arith));
           ends = λ r l. let w = cuts r l .within in let t = length-take k sorted in omega arith;
         };

@@ -3,7 +3,7 @@
 --     filter-under   two tests that agree below n
 --     any-at         some x of the list is p, and passes
 use mathlib.Core.Path.{_≡_, refl, sym, ap, _∙_}
-use mathlib.Core.Bool.{Bool, true, false, not, _||_, _&&_}
+use mathlib.Core.Bool.{Bool, true, false, _||_, _&&_}
 use mathlib.Core.List.{List, [], _∷_, _++_}
 use Prim.Native.Nat.{ℕ, zero, suc, _+_, _<_, _≤_}
 use native.Mathlib.Nat.{le-of-suc-le-suc, not-suc-le-zero}
@@ -16,7 +16,7 @@ use borrow.Author.Tests.{eq-eqb, ne-eqb, lt-ltb, le-ltb}
 use Rattle.float.proofs.Numbers.{by-order}
 use Rattle.order.specs.Runs.{anyBy, upTo}
 use Rattle.order.proofs.Stable.{by-eq}
-use Rattle.patches.specs.Lists.{keepIf, filterBy}
+use Rattle.patches.specs.Lists.{filterBy}
 use Rattle.links.specs.Words.{has}
 use Rattle.links.proofs.Rising.{Under, under-upTo, rising-unique, filter-rising, upTo-rising, has-filter, has-upTo, has-snoc}
 

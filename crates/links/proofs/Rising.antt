@@ -3,15 +3,14 @@
 --     sorted-set       the sort of L with repeats left out is: of 0 .. n - 1, those that are in L
 --     row-of           the words p * b + q of a sorted and compacted list, for one p: of 0 .. b - 1, those q with p * b + q in L
 use mathlib.Core.Path.{_≡_, refl, sym, ap, _∙_}
-use mathlib.Core.Bool.{Bool, true, false, cond, not, _||_, _&&_}
-use mathlib.Core.List.{List, [], _∷_, _++_, map}
+use mathlib.Core.Bool.{Bool, true, false, _||_, _&&_}
+use mathlib.Core.List.{List, [], _∷_, _++_}
 use Prim.Native.Nat.{ℕ, zero, suc, _+_, _*_, _/_, _%_, _<_, _≤_}
 use native.Mathlib.Nat.{le-refl, add-zero, mod-lt, div-add-mod', mul-add-div-right, div-eq-of-lt}
 use native.Mathlib.Omega.{arith}
 use lib.Dec.{eqb, ltb}
-use lib.ListN.{length, getD}
-use borrow.Author.Tests.{eq-eqb, ne-eqb, eqb-true, eqb-false, lt-ltb, le-ltb}
-use Rattle.order.specs.Sort.{Sorted, sortBy, insert, Below, Perm, none, skip, swap, then}
+use borrow.Author.Tests.{eq-eqb, ne-eqb, lt-ltb, le-ltb}
+use Rattle.order.specs.Sort.{Sorted, sortBy, Below, Perm, none, skip, swap, then}
 use Rattle.float.proofs.Numbers.{by-order}
 use Rattle.order.proofs.Laws.{below-head, below-tail}
 use Rattle.order.proofs.Stable.{by-eq, Least, Chain, least-less, chain-sort, chain-sorted, sort-perm}

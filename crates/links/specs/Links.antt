@@ -1,6 +1,6 @@
 -- Adjacency of patches: which patches the vertices link.
 use Prim.Native.Nat.{ℕ, _+_, _*_, _<_}
-use mathlib.Core.Bool.{Bool, true, false, cond, not, _&&_, _||_}
+use mathlib.Core.Bool.{Bool, false, cond, not, _&&_, _||_}
 use mathlib.Core.List.{List, [], _∷_}
 use lib.Dec.{ltb, leb, eqb}
 use lib.ListN.{length, getD}
@@ -51,11 +51,14 @@ isJoined id n vertices of m np p q = anyBy (λ v. isLinked (runOf id n of m np v
 
 -- ---- what the loops over a run link
 
+-- a and b, where a is p and b another one of the run
 unfoldable pub linksFrom : ℕ → List ℕ → ℕ → ℕ → Bool
 linksFrom p run a b = eqb a p && (not (eqb a b) && has b run)
 
+-- two of the run
 unfoldable pub linksAll : List ℕ → ℕ → ℕ → Bool
 linksAll run a b = not (eqb a b) && has a run && has b run
 
+-- neighbours in the run, in either order
 unfoldable pub linksNext : List ℕ → ℕ → ℕ → Bool
 linksNext run a b = follow run a b || follow run b a

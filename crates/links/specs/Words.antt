@@ -62,11 +62,11 @@ unfoldable pub rowIn : List ℕ → List ℕ → ℕ → List ℕ
 rowIn sorted starts r = lows (partOf sorted (getD starts r 0) (getD starts (r + 1) 0))
 
 -- each row ends where the next one starts, inside the list
-pub record Fenced (rows : ℕ) (sorted starts : List ℕ) : Type 0 where
+pub record RowBounds (rows : ℕ) (sorted starts : List ℕ) : Type 0 where
   pub rise : (r : ℕ) → r < rows → getD starts r 0 ≤ getD starts (r + 1) 0
   pub ends : (r : ℕ) → r ≤ rows → getD starts r 0 ≤ length sorted
 
 -- sorted and starts hold the rows of the relation whose pairs the words are
 pub record Rows (ws : List ℕ) (rows : ℕ) (sorted starts : List ℕ) : Type 0 where
-  pub fenced : Fenced rows sorted starts
+  pub bounds : RowBounds rows sorted starts
   pub are : (r : ℕ) → r < rows → rowIn sorted starts r ≡ filterBy (λ q. has (wordOf r q) ws) (upTo mostTriangles)

@@ -2,21 +2,21 @@
 // A pair of numbers is a word, the first above the second; the words are sorted, repeats are left out, and row r is those of the first
 // number r. It takes the place of the Rust's vectors of vectors.
 ghost use mathlib.Core.Path.{_≡_};
-ghost use mathlib.Core.Bool.{Bool, true, false, _&&_, _||_};
-ghost use mathlib.Core.List.{List, [], _∷_, _++_, map};
+ghost use mathlib.Core.Bool.{true, false, _&&_, _||_};
+ghost use mathlib.Core.List.{[], _∷_, _++_, map};
 ghost use Prim.Native.Nat.{ℕ, _+_, _*_, _<_, _≤_};
-ghost use lib.Dec.{eqb, ltb};
+ghost use lib.Dec.{eqb};
 ghost use lib.ListN.{length, getD, take};
 ghost use Rattle.order.specs.Radix.{upper};
 ghost use Rattle.order.specs.Sort.{Sorted};
 ghost use Rattle.order.specs.Runs.{anyBy, upTo};
-ghost use Rattle.links.specs.Words.{mostTriangles, mostRows, wordOf, has, uppers, lows, rowIn, itself, dedup, Cut, Fenced, Rows};
-ghost use Rattle.links.specs.Links.{isOf, hasCorner, linksFrom, linksAll, linksNext, isLinked, runOf, isJoined, Numbers};
+ghost use Rattle.links.specs.Words.{mostTriangles, mostRows, wordOf, has, uppers, lows, rowIn, itself, dedup, Cut, RowBounds, Rows};
+ghost use Rattle.links.specs.Links.{isOf, hasCorner, linksFrom, linksAll, linksNext, isLinked, isJoined, Numbers};
 ghost use Rattle.patches.specs.Lists.{filterBy};
 ghost use Rattle.patches.specs.Rows.{trisIn};
 
 // How many triangles, and so patches, a scene with planes has at most: `mostTriangles`.
-const MOST_TRIANGLES: u32 = 4096;
+pub const MOST_TRIANGLES: u32 = 4096;
 
 // The same as the weight of a word's first number.
 const ROW: usize = 4096;
@@ -177,7 +177,7 @@ pub fn patch_rows(
     requires { ⌜ m ≤ length (now scratch) ⌝ }
     requires { ⌜ m ≤ length (now sorted) ⌝ }
     requires { ⌜ np < length (now starts) ⌝ }
-    ensures { λ _. ⌜ Fenced np (now (sorted .exit)) (now (starts .exit)) ⌝ }
+    ensures { λ _. ⌜ RowBounds np (now (sorted .exit)) (now (starts .exit)) ⌝ }
     ensures { λ _. ⌜ ((p : ℕ) → p < np → rowIn (now (sorted .exit)) (now (starts .exit)) p ≡ trisIn (now (of .entry)) m p) ⌝ }
 {
     let k = patch_words(of, m, np, words);
@@ -289,7 +289,7 @@ fn link_row(row: &[u32], words: &mut [u64], from: usize) -> usize
 // Links the patches of each vertex.
 fn link_rows(sorted: &[u32], starts: &[u32], rows: usize, words: &mut [u64]) -> usize
     requires { ⌜ rows < length (now starts) ⌝ }
-    requires { ⌜ Fenced rows (now sorted) (now starts) ⌝ }
+    requires { ⌜ RowBounds rows (now sorted) (now starts) ⌝ }
     requires { ⌜ 8 * length (now sorted) ≤ length (now words) ⌝ }
     ensures { λ r. ⌜ r ≤ 8 * length (now (sorted .entry)) ⌝ }
     ensures { λ r. ⌜ ((a b : ℕ) → b < mostTriangles → has (wordOf a b) (uppers (now (words .exit)) r) ≡ anyBy (λ v. isLinked (rowIn (now (sorted .entry)) (now (starts .entry)) v) a b) (upTo rows)) ⌝ }
@@ -333,7 +333,7 @@ pub fn adjacency(
     requires { ⌜ 24 * m ≤ length (now scratch) ⌝ }
     requires { ⌜ 24 * m ≤ length (now sorted) ⌝ }
     requires { ⌜ np < length (now starts) ⌝ }
-    ensures { λ _. ⌜ Fenced np (now (sorted .exit)) (now (starts .exit)) ⌝ }
+    ensures { λ _. ⌜ RowBounds np (now (sorted .exit)) (now (starts .exit)) ⌝ }
     ensures { λ _. ⌜ ((p : ℕ) → p < np → rowIn (now (sorted .exit)) (now (starts .exit)) p ≡ filterBy (isJoined (now (id .entry)) n vertices (now (of .entry)) m np p) (upTo np)) ⌝ }
 {
     let k = vertex_words(id, n, of, m, np, words);

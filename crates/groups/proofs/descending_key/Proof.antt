@@ -1,14 +1,9 @@
-use borrow.Author.Needs.{needs}
-use mathlib.Core.Path.{_≡_, refl, sym, ap, _∙_}
-use mathlib.Core.Bool.{Bool, true, false, not, _&&_}
-use Prim.Native.Nat.{ℕ, _+_, _-_, _*_, _%_, _≤_, _<_}
+-- `groups::descending_key` meets its contract: from that of `rank`.
+use Prim.Native.Nat.{_-_}
 use native.Mathlib.Omega.{arith}
-use lib.ListN.{length, getD, take, drop, length-set}
-use Rattle.groups.specs.Groups.{rankOf, descendingKey, isTilted, isNear}
+use Rattle.groups.specs.Groups.{descendingKey}
 use Rattle.groups.proofs.descending_key.Statement.{statement}
 use Rattle.groups.proofs.descending_key.Tie as tie
-
--- `groups::descending_key` meets its contract: from that of `rank`.
 
 returns : tie.Need-returns
 unfolding descendingKey

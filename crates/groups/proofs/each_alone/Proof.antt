@@ -1,16 +1,12 @@
-use borrow.Author.Needs.{needs}
-use mathlib.Core.Path.{_≡_, refl, sym, ap, _∙_}
-use mathlib.Core.Bool.{Bool, true, false, not, _&&_}
-use mathlib.Core.List.{List, [], _∷_, map}
-use Prim.Native.Nat.{ℕ, _+_, _-_, _*_, _%_, _≤_, _<_}
+-- `groups::each_alone` meets its contract: the loop keeps `Alone`.
+use mathlib.Core.Path.{_≡_, refl, _∙_}
+use Prim.Native.Nat.{_+_, _-_, _≤_, _<_}
 use native.Mathlib.Omega.{arith}
-use lib.ListN.{length, getD, take, drop, set, length-set}
+use lib.ListN.{length, getD, set, length-set}
 use lib.Seq.{getD-set-same}
-use Rattle.groups.proofs.Grouping.{Alone, alone-none, alone-more}
+use Rattle.groups.proofs.Grouping.{Alone, alone-none, alone-more, alone-grouped}
 use Rattle.groups.proofs.each_alone.Statement.{statement}
 use Rattle.groups.proofs.each_alone.Tie as tie
-
--- `groups::each_alone` meets its contract: the loop keeps `Alone`.
 
 abbrev Inv-loop : tie.InvT-loop
 Inv-loop order np queue₀ starts₀ i₀ queue starts i = (i ≤ np) × (length queue ≡ length queue₀) × (length starts ≡ length starts₀) × Alone order queue starts i
@@ -22,7 +18,15 @@ slice-write-starts : tie.Need-slice-write-starts Inv-loop μ-loop
 slice-write-starts c = omega (arith, c .pre .1 .1 .1)
 
 loop-holds : tie.Need-loop-holds Inv-loop μ-loop
-loop-holds c = let room : 0 < length (c .args .starts .now) = omega (arith, c .pre .1 .1 .1) in (omega arith, refl, refl, alone-none (c .args .order .now) (c .args .queue .now) (set (c .args .starts .now) 0 0) (getD-set-same (c .args .starts .now) 0 0 0 room))
+loop-holds c =
+    let st = c in
+    let room : 0 < length (st .args .starts .now) = omega (arith, st .pre .1 .1 .1) in (omega arith, refl, refl, alone-none (st .args .order .now) (st .args .queue .now) (set (st .args .starts .now) 0 0) (getD-set-same (st .args .starts .now) 0 0 0 room))
+
+mul-queue : tie.Need-mul-queue Inv-loop μ-loop
+mul-queue c = omega (arith, c .before .before .pre .1 .0 .0)
+
+shared-slice-read-queue : tie.Need-shared-slice-read-queue Inv-loop μ-loop
+shared-slice-read-queue c = omega (arith, c .before .before .before .pre .1 .0 .0)
 
 mul-queue-2 : tie.Need-mul-queue-2 Inv-loop μ-loop
 mul-queue-2 c = omega (arith, c .before .before .loop .inv .1, c .before .before .before .pre .1 .1 .0)
@@ -31,18 +35,23 @@ slice-write-queue : tie.Need-slice-write-queue Inv-loop μ-loop
 slice-write-queue c = omega (arith, c .before .before .loop .inv .1, c .before .before .before .pre .1 .1 .0)
 
 mul-starts : tie.Need-mul-starts Inv-loop μ-loop
-mul-starts c = omega (arith, c .before .before .loop .inv .2 ∙ length-set (c .before .before .before .args .starts .now) 0 0, c .before .before .before .pre .1 .1 .1, c .before .before .before .pre .0)
+mul-starts c =
+    let st = c .before .before .before in
+    omega (arith, c .before .before .loop .inv .2 ∙ length-set (st .args .starts .now) 0 0, st .pre .1 .1 .1, st .pre .0)
 
 slice-write-starts-2 : tie.Need-slice-write-starts-2 Inv-loop μ-loop
-slice-write-starts-2 c = omega (arith, c .before .before .loop .inv .2 ∙ length-set (c .before .before .before .args .starts .now) 0 0, c .before .before .before .pre .1 .1 .1, c .before .loop-test .taken)
+slice-write-starts-2 c =
+    let st = c .before .before .before in
+    omega (arith, c .before .before .loop .inv .2 ∙ length-set (st .args .starts .now) 0 0, st .pre .1 .1 .1, c .before .loop-test .taken)
 
 loop-again : tie.Need-loop-again Inv-loop μ-loop
-loop-again c = (
-  omega arith,
-  length-set (c .before .before .loop .queue) (c .before .before .loop .i) (getD (c .before .before .before .args .order .now) (c .before .before .loop .i) 0) ∙ c .before .before .loop .inv .1,
-  length-set (c .before .before .loop .starts) (c .before .before .loop .i + 1) (c .before .before .loop .i + 1) ∙ c .before .before .loop .inv .2,
-  alone-more (c .before .before .before .args .order .now) (c .before .before .loop .queue) (c .before .before .loop .starts) (c .before .before .loop .i) (omega (arith, c .before .before .before .pre .1 .0, c .before .loop-test .taken)) (omega (arith, c .before .before .loop .inv .1, c .before .before .before .pre .1 .1 .0, c .before .loop-test .taken)) (omega (arith, c .before .before .loop .inv .2 ∙ length-set (c .before .before .before .args .starts .now) 0 0, c .before .before .before .pre .1 .1 .1, c .before .loop-test .taken)) (c .before .before .loop .inv .3),
-)
+loop-again c =
+    let st = c .before .before .before in let lp = c .before .before .loop in (
+      omega arith,
+      length-set (lp .queue) (lp .i) (getD (st .args .order .now) (lp .i) 0) ∙ lp .inv .1,
+      length-set (lp .starts) (lp .i + 1) (lp .i + 1) ∙ lp .inv .2,
+      alone-more (st .args .order .now) (lp .queue) (lp .starts) (lp .i) (omega (arith, st .pre .1 .0 .0, c .before .loop-test .taken)) (omega (arith, lp .inv .1, st .pre .1 .1 .0, c .before .loop-test .taken)) (omega (arith, lp .inv .2 ∙ length-set (st .args .starts .now) 0 0, st .pre .1 .1 .1, c .before .loop-test .taken)) (lp .inv .3),
+    )
 
 same-length : tie.Need-same-length Inv-loop μ-loop
 same-length c = c .before .loop .inv .1
@@ -51,7 +60,11 @@ same-length-2 : tie.Need-same-length-2 Inv-loop μ-loop
 same-length-2 c = c .before .loop .inv .2 ∙ length-set (c .before .before .args .starts .now) 0 0
 
 returns : tie.Need-returns Inv-loop μ-loop
-returns c = let e : c .before .loop .i ≡ c .before .before .args .np = omega arith in rw e at (c .before .loop .inv .3 .is)
+returns c =
+    let st = c .before .before in let lp = c .before .loop in
+    let e : lp .i ≡ st .args .np = omega arith in
+    let m : Alone (st .args .order .now) (lp .queue) (lp .starts) (st .args .np) = rw e at (lp .inv .3) in
+    (alone-grouped (st .args .order .now) (lp .queue) (lp .starts) (st .args .np) (st .pre .1 .0 .1) m, m .is)
 
 pub each-alone-spec : {M : Type 1} → statement M
 each-alone-spec =
@@ -61,8 +74,8 @@ each-alone-spec =
     μ-loop
     slice-write-starts
     loop-holds
-    (λ c. omega arith)
-    (λ c. omega arith)
+    mul-queue
+    shared-slice-read-queue
     mul-queue-2
     slice-write-queue
     (λ c. omega arith)

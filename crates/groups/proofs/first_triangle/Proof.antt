@@ -1,14 +1,9 @@
-use borrow.Author.Needs.{needs}
-use mathlib.Core.Path.{_≡_, refl, sym, ap, _∙_}
-use mathlib.Core.Bool.{Bool, true, false, not, _&&_}
-use Prim.Native.Nat.{ℕ, _+_, _-_, _*_, _%_, _≤_, _<_}
+-- `groups::first_triangle` meets its contract: the row has a first triangle, or none (`head-some`, `head-none`).
+use Prim.Native.Nat.{_+_, _-_}
 use native.Mathlib.Omega.{arith}
-use lib.ListN.{length, getD, take, drop, length-set}
 use Rattle.groups.proofs.Seeding.{head-some, head-none}
 use Rattle.groups.proofs.first_triangle.Statement.{statement}
 use Rattle.groups.proofs.first_triangle.Tie as tie
-
--- `groups::first_triangle` meets its contract: the row has a first triangle, or none (`head-some`, `head-none`).
 
 mul-from : tie.Need-mul-from
 mul-from c = let t = c .pre .0 .long in omega (arith, t)
@@ -32,16 +27,24 @@ cast-to : tie.Need-cast-to
 cast-to c = omega (arith, c .shared-slice-known2 .given (c .before .before .args .p + 1) .fits)
 
 mul-result : tie.Need-mul-result
-mul-result c = let e = c .before .before .before .pre .0 .fenced .ends (c .before .before .before .args .p + 1) (omega (arith, c .before .before .before .pre .1)) in omega (arith, e, c .if1 .taken)
+mul-result c =
+    let st = c .before .before .before in
+    let e = st .pre .0 .bounds .ends (st .args .p + 1) (omega (arith, st .pre .1)) in omega (arith, e, c .if1 .taken)
 
 shared-slice-read-result : tie.Need-shared-slice-read-result
-shared-slice-read-result c = let e = c .before .before .before .before .pre .0 .fenced .ends (c .before .before .before .before .args .p + 1) (omega (arith, c .before .before .before .before .pre .1)) in omega (arith, e, c .before .if1 .taken)
+shared-slice-read-result c =
+    let st = c .before .before .before .before in
+    let e = st .pre .0 .bounds .ends (st .args .p + 1) (omega (arith, st .pre .1)) in omega (arith, e, c .before .if1 .taken)
 
 returns : tie.Need-returns
-returns c = head-some (c .before .before .before .before .args .tsorted .now) (c .before .before .before .before .args .tstarts .now) (c .before .before .before .before .args .p) (c .before .if1 .taken)
+returns c =
+    let st = c .before .before .before .before in
+    head-some (st .args .tsorted .now) (st .args .tstarts .now) (st .args .p) (c .before .if1 .taken)
 
 returns-2 : tie.Need-returns-2
-returns-2 c = head-none (c .before .before .before .args .tsorted .now) (c .before .before .before .args .tstarts .now) (c .before .before .before .args .p) (c .if1 .left)
+returns-2 c =
+    let st = c .before .before .before in
+    head-none (st .args .tsorted .now) (st .args .tstarts .now) (st .args .p) (c .if1 .left)
 
 pub first-triangle-spec : {M : Type 1} → statement M
 first-triangle-spec =

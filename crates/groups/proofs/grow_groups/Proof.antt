@@ -1,17 +1,13 @@
-use borrow.Author.Needs.{needs}
+-- `groups::grow_groups` meets its contract: the loop keeps `Grouping`.
 use mathlib.Core.Path.{_≡_, refl, sym, ap, _∙_}
-use mathlib.Core.Bool.{Bool, true, false, not, _&&_}
-use mathlib.Core.List.{List, [], _∷_}
-use Prim.Native.Nat.{ℕ, _+_, _-_, _*_, _%_, _≤_, _<_}
+use Prim.Native.Nat.{ℕ, _+_, _-_, _≤_, _<_}
 use native.Mathlib.Omega.{arith}
-use lib.ListN.{length, getD, take, drop, set, length-set}
+use lib.ListN.{length, getD, take, set, length-set}
 use lib.Seq.{getD-set-same, length-take-le}
 use Rattle.groups.specs.Rows.{takesIn}
-use Rattle.groups.proofs.Grouping.{Grouping, group-none, group-skip, group-more, group-free, group-done, seed-below, seed-at}
+use Rattle.groups.proofs.Grouping.{Grouping, group-none, group-skip, group-more, group-free, group-done, group-grouped, seed-below, seed-at}
 use Rattle.groups.proofs.grow_groups.Statement.{statement}
 use Rattle.groups.proofs.grow_groups.Tie as tie
-
--- `groups::grow_groups` meets its contract: the loop keeps `Grouping`.
 
 abbrev Inv-loop : tie.InvT-loop
 Inv-loop area handles n rows np tsorted tstarts least most asorted astarts order assigned₀ queue₀ starts₀ ng₀ tail₀ i₀ assigned queue starts ng tail i = (i ≤ np) × (ng ≤ i) × (length assigned ≡ length assigned₀) × (length queue ≡ length queue₀) × (length starts ≡ length starts₀) × Grouping np (takesIn area handles n rows tsorted tstarts least most) asorted astarts (take np order) assigned₀ assigned queue starts ng tail i
@@ -96,7 +92,7 @@ same-length-3 c = c .before .loop .inv .4 ∙ length-set (c .before .before .bef
 returns : tie.Need-returns Inv-loop μ-loop
 returns c =
     let long = length-take-le (c .before .before .before .before .before .before .before .before .before .before .before .before .before .args .np) (c .before .before .before .before .before .before .before .before .before .before .before .before .before .args .order .now) (c .before .before .before .before .before .before .before .before .before .before .before .before .before .pre .1 .1 .1 .1 .1 .0 .0) in
-    (omega arith, group-done (c .before .before .before .before .before .before .before .before .before .before .before .before .before .args .np) (takesIn (c .before .before .before .before .before .before .before .before .before .before .before .before .before .args .area .now) (c .before .before .before .before .before .before .before .before .before .before .before .before .before .args .handles .now) (c .before .before .before .before .before .before .before .before .before .before .before .before .before .args .n) (c .before .before .before .before .before .before .before .before .before .before .before .before .before .args .rows .now) (c .before .before .before .before .before .before .before .before .before .before .before .before .before .args .tsorted .now) (c .before .before .before .before .before .before .before .before .before .before .before .before .before .args .tstarts .now) (c .before .before .before .before .before .before .before .before .before .before .before .before .before .args .least) (c .before .before .before .before .before .before .before .before .before .before .before .before .before .args .most)) (c .before .before .before .before .before .before .before .before .before .before .before .before .before .args .asorted .now) (c .before .before .before .before .before .before .before .before .before .before .before .before .before .args .astarts .now) (take (c .before .before .before .before .before .before .before .before .before .before .before .before .before .args .np) (c .before .before .before .before .before .before .before .before .before .before .before .before .before .args .order .now)) (c .before .before .before .before .before .before .before .before .before .before .before .before .before .args .assigned .now) (c .before .loop .assigned) (c .before .loop .queue) (c .before .loop .starts) (c .before .loop .ng) (c .before .loop .tail) (c .before .loop .i) (c .before .loop .inv .5) (omega (arith, long, c .loop-test .left)))
+    (omega arith, (group-grouped (c .before .before .before .before .before .before .before .before .before .before .before .before .before .args .np) (takesIn (c .before .before .before .before .before .before .before .before .before .before .before .before .before .args .area .now) (c .before .before .before .before .before .before .before .before .before .before .before .before .before .args .handles .now) (c .before .before .before .before .before .before .before .before .before .before .before .before .before .args .n) (c .before .before .before .before .before .before .before .before .before .before .before .before .before .args .rows .now) (c .before .before .before .before .before .before .before .before .before .before .before .before .before .args .tsorted .now) (c .before .before .before .before .before .before .before .before .before .before .before .before .before .args .tstarts .now) (c .before .before .before .before .before .before .before .before .before .before .before .before .before .args .least) (c .before .before .before .before .before .before .before .before .before .before .before .before .before .args .most)) (c .before .before .before .before .before .before .before .before .before .before .before .before .before .args .asorted .now) (c .before .before .before .before .before .before .before .before .before .before .before .before .before .args .astarts .now) (take (c .before .before .before .before .before .before .before .before .before .before .before .before .before .args .np) (c .before .before .before .before .before .before .before .before .before .before .before .before .before .args .order .now)) (c .before .before .before .before .before .before .before .before .before .before .before .before .before .args .assigned .now) (c .before .loop .assigned) (c .before .loop .queue) (c .before .loop .starts) (c .before .loop .ng) (c .before .loop .tail) (c .before .loop .i) (c .before .loop .inv .5), group-done (c .before .before .before .before .before .before .before .before .before .before .before .before .before .args .np) (takesIn (c .before .before .before .before .before .before .before .before .before .before .before .before .before .args .area .now) (c .before .before .before .before .before .before .before .before .before .before .before .before .before .args .handles .now) (c .before .before .before .before .before .before .before .before .before .before .before .before .before .args .n) (c .before .before .before .before .before .before .before .before .before .before .before .before .before .args .rows .now) (c .before .before .before .before .before .before .before .before .before .before .before .before .before .args .tsorted .now) (c .before .before .before .before .before .before .before .before .before .before .before .before .before .args .tstarts .now) (c .before .before .before .before .before .before .before .before .before .before .before .before .before .args .least) (c .before .before .before .before .before .before .before .before .before .before .before .before .before .args .most)) (c .before .before .before .before .before .before .before .before .before .before .before .before .before .args .asorted .now) (c .before .before .before .before .before .before .before .before .before .before .before .before .before .args .astarts .now) (take (c .before .before .before .before .before .before .before .before .before .before .before .before .before .args .np) (c .before .before .before .before .before .before .before .before .before .before .before .before .before .args .order .now)) (c .before .before .before .before .before .before .before .before .before .before .before .before .before .args .assigned .now) (c .before .loop .assigned) (c .before .loop .queue) (c .before .loop .starts) (c .before .loop .ng) (c .before .loop .tail) (c .before .loop .i) (c .before .loop .inv .5) (omega (arith, long, c .loop-test .left))))
 
 pub grow-groups-spec : {M : Type 1} → statement M
 grow-groups-spec =

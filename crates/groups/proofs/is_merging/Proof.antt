@@ -1,16 +1,7 @@
-use borrow.Author.Needs.{needs}
-use mathlib.Core.Path.{_≡_, refl, sym, ap, _∙_}
-use mathlib.Core.Bool.{Bool, true, false, not, _&&_}
-use mathlib.Core.List.{List, [], _∷_, map}
-use Prim.Native.Nat.{ℕ, _+_, _-_, _*_, _%_, _≤_, _<_}
-use native.Mathlib.Omega.{arith}
-use lib.ListN.{length, getD, take, drop, set, length-set}
-use lib.Dec.{ltb}
-use lib.Ieee.{lt}
+-- `groups::is_merging` meets its contract: by the three tests.
+use Prim.Native.Nat.{_-_}
 use Rattle.groups.proofs.is_merging.Statement.{statement}
 use Rattle.groups.proofs.is_merging.Tie as tie
-
--- `groups::is_merging` meets its contract: by the three tests.
 
 returns : tie.Need-returns
 returns c = rw (c .before .if1 .taken, c .if2 .taken)

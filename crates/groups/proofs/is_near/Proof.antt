@@ -1,14 +1,7 @@
-use borrow.Author.Needs.{needs}
-use mathlib.Core.Path.{_≡_, refl, sym, ap, _∙_}
-use mathlib.Core.Bool.{Bool, true, false, not, _&&_}
-use Prim.Native.Nat.{ℕ, _+_, _-_, _*_, _%_, _≤_, _<_}
-use native.Mathlib.Omega.{arith}
-use lib.ListN.{length, getD, take, drop, length-set}
-use Rattle.groups.specs.Groups.{rankOf, descendingKey, isTilted, isNear}
+-- `groups::is_near` meets its contract: from those of its calls.
+use Prim.Native.Nat.{_-_}
 use Rattle.groups.proofs.is_near.Statement.{statement}
 use Rattle.groups.proofs.is_near.Tie as tie
-
--- `groups::is_near` meets its contract: from those of its calls.
 
 returns : tie.Need-returns
 returns c = rw (← c .before .dot3 .ensures, ← c .abs .ensures)

@@ -1,17 +1,10 @@
-use borrow.Author.Needs.{needs}
-use mathlib.Core.Path.{_≡_, refl, sym, ap, _∙_}
-use mathlib.Core.Bool.{Bool, true, false, not, _&&_}
-use Prim.Native.Nat.{ℕ, _+_, _-_, _*_, _%_, _≤_, _<_}
-use native.Mathlib.Omega.{arith}
-use lib.ListN.{length, getD, take, drop, length-set}
-use Rattle.groups.specs.Groups.{rankOf, descendingKey, isTilted, isNear}
+-- `groups::is_triangle_near` meets its contract: corner by corner.
+use Prim.Native.Nat.{_-_}
 use Rattle.patches.specs.Lists.{allBy}
 use Rattle.patches.specs.Triangles.{cornersOf}
 use Rattle.groups.proofs.Taking.{and-one}
 use Rattle.groups.proofs.is_triangle_near.Statement.{statement}
 use Rattle.groups.proofs.is_triangle_near.Tie as tie
-
--- `groups::is_triangle_near` meets its contract: corner by corner.
 
 returns : tie.Need-returns
 unfolding allBy cornersOf

@@ -1,18 +1,14 @@
-use borrow.Author.Needs.{needs}
-use mathlib.Core.Path.{_≡_, refl, sym, ap, _∙_}
-use mathlib.Core.Bool.{Bool, true, false, not, _&&_}
-use mathlib.Core.List.{List, [], _∷_}
-use Prim.Native.Nat.{ℕ, _+_, _-_, _*_, _%_, _≤_, _<_}
+-- `groups::let_in` meets its contract: the loop keeps `Letting`.
+use mathlib.Core.Path.{_≡_, refl, sym, _∙_}
+use Prim.Native.Nat.{_-_, _%_, _≤_}
 use native.Mathlib.Omega.{arith}
-use lib.ListN.{length, getD, take, drop, set, length-set}
+use lib.ListN.{length, getD, length-set}
 use Rattle.links.specs.Words.{lows}
 use Rattle.groups.specs.Rows.{takesIn}
 use Rattle.groups.proofs.Taking.{low-below}
 use Rattle.groups.proofs.Letting.{Letting, let-none, let-taken, let-unfit, let-room, let-more, let-done}
 use Rattle.groups.proofs.let_in.Statement.{statement}
 use Rattle.groups.proofs.let_in.Tie as tie
-
--- `groups::let_in` meets its contract: the loop keeps `Letting`.
 
 abbrev Inv-loop : tie.InvT-loop
 Inv-loop area handles n rows np tsorted tstarts least most seed mark row assigned₀ queue₀ from count tail₀ i₀ assigned queue tail i = (i ≤ length row) × (length assigned ≡ length assigned₀) × (length queue ≡ length queue₀) × Letting np (takesIn area handles n rows tsorted tstarts least most seed) mark (lows row) assigned₀ queue₀ from assigned queue tail i
@@ -21,45 +17,68 @@ abbrev μ-loop : tie.MeasureT-loop
 μ-loop area handles n rows np tsorted tstarts least most seed mark row assigned₀ queue₀ from count tail₀ i₀ assigned queue tail i = length row - i
 
 loop-holds : tie.Need-loop-holds Inv-loop μ-loop
-loop-holds c = (omega arith, refl, refl, let-none (c .before .before .before .before .before .before .before .before .args .np) (takesIn (c .before .before .before .before .before .before .before .before .args .area .now) (c .before .before .before .before .before .before .before .before .args .handles .now) (c .before .before .before .before .before .before .before .before .args .n) (c .before .before .before .before .before .before .before .before .args .rows .now) (c .before .before .before .before .before .before .before .before .args .tsorted .now) (c .before .before .before .before .before .before .before .before .args .tstarts .now) (c .before .before .before .before .before .before .before .before .args .least) (c .before .before .before .before .before .before .before .before .args .most) (c .before .before .before .before .before .before .before .before .args .seed)) (c .before .before .before .before .before .before .before .before .args .mark) (lows (c .before .before .before .before .before .before .before .before .args .row .now)) (c .before .before .before .before .before .before .before .before .args .assigned .now) (c .before .before .before .before .before .before .before .before .args .queue .now) (c .before .before .before .before .before .before .before .before .args .from) (c .before .before .before .before .before .before .before .before .pre .1 .1 .1 .1 .1))
+loop-holds c =
+    let st = c .before .before .before .before .before .before .before .before in
+    (omega arith, refl, refl, let-none (st .args .np) (takesIn (st .args .area .now) (st .args .handles .now) (st .args .n) (st .args .rows .now) (st .args .tsorted .now) (st .args .tstarts .now) (st .args .least) (st .args .most) (st .args .seed)) (st .args .mark) (lows (st .args .row .now)) (st .args .assigned .now) (st .args .queue .now) (st .args .from) (st .pre .1 .1 .1 .1 .1))
 
 shared-slice-read-q : tie.Need-shared-slice-read-q Inv-loop μ-loop
 shared-slice-read-q c = c .before .loop-test .taken
 
 mul-if1 : tie.Need-mul-if1 Inv-loop μ-loop
-mul-if1 c = let b = low-below (c .before .before .before .before .before .before .before .before .before .before .before .args .np) (c .before .before .before .before .before .before .before .before .before .before .before .args .row .now) (c .before .before .loop .i) (c .before .before .before .before .before .before .before .before .before .before .before .pre .1 .1 .1 .1 .0) (c .before .loop-test .taken) in let w = c .before .before .loop .inv .3 .queue-is .column in omega (arith, b, w)
+mul-if1 c =
+    let st = c .before .before .before .before .before .before .before .before .before .before .before in let lp = c .before .before .loop in
+    let b = low-below (st .args .np) (st .args .row .now) (lp .i) (st .pre .1 .1 .1 .1 .0) (c .before .loop-test .taken) in let w = lp .inv .3 .queue-is .column in omega (arith, b, w)
 
 slice-read-if1 : tie.Need-slice-read-if1 Inv-loop μ-loop
-slice-read-if1 c = let b = low-below (c .before .before .before .before .before .before .before .before .before .before .before .before .args .np) (c .before .before .before .before .before .before .before .before .before .before .before .before .args .row .now) (c .before .before .before .loop .i) (c .before .before .before .before .before .before .before .before .before .before .before .before .pre .1 .1 .1 .1 .0) (c .before .before .loop-test .taken) in let w = c .before .before .before .loop .inv .3 .queue-is .column in omega (arith, b, w)
+slice-read-if1 c =
+    let st = c .before .before .before .before .before .before .before .before .before .before .before .before in let lp = c .before .before .before .loop in
+    let b = low-below (st .args .np) (st .args .row .now) (lp .i) (st .pre .1 .1 .1 .1 .0) (c .before .before .loop-test .taken) in let w = lp .inv .3 .queue-is .column in omega (arith, b, w)
 
 loop-again : tie.Need-loop-again Inv-loop μ-loop
-loop-again c = (omega arith, c .before .before .before .before .loop .inv .1, c .before .before .before .before .loop .inv .2, let-taken (c .before .before .before .before .before .before .before .before .before .before .before .before .before .args .np) (takesIn (c .before .before .before .before .before .before .before .before .before .before .before .before .before .args .area .now) (c .before .before .before .before .before .before .before .before .before .before .before .before .before .args .handles .now) (c .before .before .before .before .before .before .before .before .before .before .before .before .before .args .n) (c .before .before .before .before .before .before .before .before .before .before .before .before .before .args .rows .now) (c .before .before .before .before .before .before .before .before .before .before .before .before .before .args .tsorted .now) (c .before .before .before .before .before .before .before .before .before .before .before .before .before .args .tstarts .now) (c .before .before .before .before .before .before .before .before .before .before .before .before .before .args .least) (c .before .before .before .before .before .before .before .before .before .before .before .before .before .args .most) (c .before .before .before .before .before .before .before .before .before .before .before .before .before .args .seed)) (c .before .before .before .before .before .before .before .before .before .before .before .before .before .args .mark) (c .before .before .before .before .before .before .before .before .before .before .before .before .before .pre .1 .1 .1 .0 .1) (c .before .before .before .before .before .before .before .before .before .before .before .before .before .args .row .now) (c .before .before .before .before .before .before .before .before .before .before .before .before .before .args .assigned .now) (c .before .before .before .before .before .before .before .before .before .before .before .before .before .args .queue .now) (c .before .before .before .before .before .before .before .before .before .before .before .before .before .args .from) (c .before .before .before .before .loop .assigned) (c .before .before .before .before .loop .queue) (c .before .before .before .before .loop .tail) (c .before .before .before .before .loop .i) (c .before .before .before .before .loop .inv .3) (c .before .before .before .loop-test .taken) (c .if1 .taken))
+loop-again c =
+    let st = c .before .before .before .before .before .before .before .before .before .before .before .before .before in let lp = c .before .before .before .before .loop in
+    (omega arith, lp .inv .1, lp .inv .2, let-taken (st .args .np) (takesIn (st .args .area .now) (st .args .handles .now) (st .args .n) (st .args .rows .now) (st .args .tsorted .now) (st .args .tstarts .now) (st .args .least) (st .args .most) (st .args .seed)) (st .args .mark) (st .pre .1 .1 .1 .0 .1) (st .args .row .now) (st .args .assigned .now) (st .args .queue .now) (st .args .from) (lp .assigned) (lp .queue) (lp .tail) (lp .i) (lp .inv .3) (c .before .before .before .loop-test .taken) (c .if1 .taken))
 
 takes-requires : tie.Need-takes-requires Inv-loop μ-loop
-takes-requires c κs = (c .before .before .before .before .before .before .before .before .before .before .before .before .before .pre .0, (c .before .before .before .before .before .before .before .before .before .before .before .before .before .pre .1 .0, (c .before .before .before .before .before .before .before .before .before .before .before .before .before .pre .1 .1 .0, (c .before .before .before .before .before .before .before .before .before .before .before .before .before .pre .1 .1 .1 .0 .0, low-below (c .before .before .before .before .before .before .before .before .before .before .before .before .before .args .np) (c .before .before .before .before .before .before .before .before .before .before .before .before .before .args .row .now) (c .before .before .before .before .loop .i) (c .before .before .before .before .before .before .before .before .before .before .before .before .before .pre .1 .1 .1 .1 .0) (c .before .before .before .loop-test .taken)))))
+takes-requires c κs =
+    let st = c .before .before .before .before .before .before .before .before .before .before .before .before .before in
+    (st .pre .0, (st .pre .1 .0, (st .pre .1 .1 .0, (st .pre .1 .1 .1 .0 .0, low-below (st .args .np) (st .args .row .now) (c .before .before .before .before .loop .i) (st .pre .1 .1 .1 .1 .0) (c .before .before .before .loop-test .taken)))))
 
 mul-assigned : tie.Need-mul-assigned Inv-loop μ-loop
-mul-assigned c = let b = low-below (c .before .before .before .before .before .before .before .before .before .before .before .before .before .before .before .args .np) (c .before .before .before .before .before .before .before .before .before .before .before .before .before .before .before .args .row .now) (c .before .before .before .before .before .before .loop .i) (c .before .before .before .before .before .before .before .before .before .before .before .before .before .before .before .pre .1 .1 .1 .1 .0) (c .before .before .before .before .before .loop-test .taken) in let w = c .before .before .before .before .before .before .loop .inv .3 .queue-is .column in omega (arith, b, w)
+mul-assigned c =
+    let st = c .before .before .before .before .before .before .before .before .before .before .before .before .before .before .before in let lp = c .before .before .before .before .before .before .loop in
+    let b = low-below (st .args .np) (st .args .row .now) (lp .i) (st .pre .1 .1 .1 .1 .0) (c .before .before .before .before .before .loop-test .taken) in let w = lp .inv .3 .queue-is .column in omega (arith, b, w)
 
 slice-write-assigned : tie.Need-slice-write-assigned Inv-loop μ-loop
-slice-write-assigned c = let b = low-below (c .before .before .before .before .before .before .before .before .before .before .before .before .before .before .before .args .np) (c .before .before .before .before .before .before .before .before .before .before .before .before .before .before .before .args .row .now) (c .before .before .before .before .before .before .loop .i) (c .before .before .before .before .before .before .before .before .before .before .before .before .before .before .before .pre .1 .1 .1 .1 .0) (c .before .before .before .before .before .loop-test .taken) in let w = c .before .before .before .before .before .before .loop .inv .3 .queue-is .column in omega (arith, b, w)
+slice-write-assigned c =
+    let st = c .before .before .before .before .before .before .before .before .before .before .before .before .before .before .before in let lp = c .before .before .before .before .before .before .loop in
+    let b = low-below (st .args .np) (st .args .row .now) (lp .i) (st .pre .1 .1 .1 .1 .0) (c .before .before .before .before .before .loop-test .taken) in let w = lp .inv .3 .queue-is .column in omega (arith, b, w)
 
 mul-queue : tie.Need-mul-queue Inv-loop μ-loop
-mul-queue c = let b = low-below (c .before .before .before .before .before .before .before .before .before .before .before .before .before .before .before .args .np) (c .before .before .before .before .before .before .before .before .before .before .before .before .before .before .before .args .row .now) (c .before .before .before .before .before .before .loop .i) (c .before .before .before .before .before .before .before .before .before .before .before .before .before .before .before .pre .1 .1 .1 .1 .0) (c .before .before .before .before .before .loop-test .taken) in let r = let-room (c .before .before .before .before .before .before .before .before .before .before .before .before .before .before .before .args .np) (takesIn (c .before .before .before .before .before .before .before .before .before .before .before .before .before .before .before .args .area .now) (c .before .before .before .before .before .before .before .before .before .before .before .before .before .before .before .args .handles .now) (c .before .before .before .before .before .before .before .before .before .before .before .before .before .before .before .args .n) (c .before .before .before .before .before .before .before .before .before .before .before .before .before .before .before .args .rows .now) (c .before .before .before .before .before .before .before .before .before .before .before .before .before .before .before .args .tsorted .now) (c .before .before .before .before .before .before .before .before .before .before .before .before .before .before .before .args .tstarts .now) (c .before .before .before .before .before .before .before .before .before .before .before .before .before .before .before .args .least) (c .before .before .before .before .before .before .before .before .before .before .before .before .before .before .before .args .most) (c .before .before .before .before .before .before .before .before .before .before .before .before .before .before .before .args .seed)) (c .before .before .before .before .before .before .before .before .before .before .before .before .before .before .before .args .mark) (c .before .before .before .before .before .before .before .before .before .before .before .before .before .before .before .pre .1 .1 .1 .0 .1) (c .before .before .before .before .before .before .before .before .before .before .before .before .before .before .before .args .row .now) (c .before .before .before .before .before .before .before .before .before .before .before .before .before .before .before .args .assigned .now) (c .before .before .before .before .before .before .before .before .before .before .before .before .before .before .before .args .queue .now) (c .before .before .before .before .before .before .before .before .before .before .before .before .before .before .before .args .from) (c .before .before .before .before .before .before .loop .assigned) (c .before .before .before .before .before .before .loop .queue) (c .before .before .before .before .before .before .loop .tail) (c .before .before .before .before .before .before .loop .i) (c .before .before .before .before .before .before .loop .inv .3) (c .before .before .before .before .before .loop-test .taken) b (c .before .before .if1 .left) in let w = c .before .before .before .before .before .before .loop .inv .3 .queue-is .room in omega (arith, r, w, c .before .before .before .before .before .before .loop .inv .2)
+mul-queue c =
+    let st = c .before .before .before .before .before .before .before .before .before .before .before .before .before .before .before in let lp = c .before .before .before .before .before .before .loop in
+    let b = low-below (st .args .np) (st .args .row .now) (lp .i) (st .pre .1 .1 .1 .1 .0) (c .before .before .before .before .before .loop-test .taken) in let r = let-room (st .args .np) (takesIn (st .args .area .now) (st .args .handles .now) (st .args .n) (st .args .rows .now) (st .args .tsorted .now) (st .args .tstarts .now) (st .args .least) (st .args .most) (st .args .seed)) (st .args .mark) (st .pre .1 .1 .1 .0 .1) (st .args .row .now) (st .args .assigned .now) (st .args .queue .now) (st .args .from) (lp .assigned) (lp .queue) (lp .tail) (lp .i) (lp .inv .3) (c .before .before .before .before .before .loop-test .taken) b (c .before .before .if1 .left) in let w = lp .inv .3 .queue-is .room in omega (arith, r, w, lp .inv .2)
 
 slice-write-queue : tie.Need-slice-write-queue Inv-loop μ-loop
-slice-write-queue c = let b = low-below (c .before .before .before .before .before .before .before .before .before .before .before .before .before .before .before .args .np) (c .before .before .before .before .before .before .before .before .before .before .before .before .before .before .before .args .row .now) (c .before .before .before .before .before .before .loop .i) (c .before .before .before .before .before .before .before .before .before .before .before .before .before .before .before .pre .1 .1 .1 .1 .0) (c .before .before .before .before .before .loop-test .taken) in let r = let-room (c .before .before .before .before .before .before .before .before .before .before .before .before .before .before .before .args .np) (takesIn (c .before .before .before .before .before .before .before .before .before .before .before .before .before .before .before .args .area .now) (c .before .before .before .before .before .before .before .before .before .before .before .before .before .before .before .args .handles .now) (c .before .before .before .before .before .before .before .before .before .before .before .before .before .before .before .args .n) (c .before .before .before .before .before .before .before .before .before .before .before .before .before .before .before .args .rows .now) (c .before .before .before .before .before .before .before .before .before .before .before .before .before .before .before .args .tsorted .now) (c .before .before .before .before .before .before .before .before .before .before .before .before .before .before .before .args .tstarts .now) (c .before .before .before .before .before .before .before .before .before .before .before .before .before .before .before .args .least) (c .before .before .before .before .before .before .before .before .before .before .before .before .before .before .before .args .most) (c .before .before .before .before .before .before .before .before .before .before .before .before .before .before .before .args .seed)) (c .before .before .before .before .before .before .before .before .before .before .before .before .before .before .before .args .mark) (c .before .before .before .before .before .before .before .before .before .before .before .before .before .before .before .pre .1 .1 .1 .0 .1) (c .before .before .before .before .before .before .before .before .before .before .before .before .before .before .before .args .row .now) (c .before .before .before .before .before .before .before .before .before .before .before .before .before .before .before .args .assigned .now) (c .before .before .before .before .before .before .before .before .before .before .before .before .before .before .before .args .queue .now) (c .before .before .before .before .before .before .before .before .before .before .before .before .before .before .before .args .from) (c .before .before .before .before .before .before .loop .assigned) (c .before .before .before .before .before .before .loop .queue) (c .before .before .before .before .before .before .loop .tail) (c .before .before .before .before .before .before .loop .i) (c .before .before .before .before .before .before .loop .inv .3) (c .before .before .before .before .before .loop-test .taken) b (c .before .before .if1 .left) in let w = c .before .before .before .before .before .before .loop .inv .3 .queue-is .room in omega (arith, r, w)
+slice-write-queue c =
+    let st = c .before .before .before .before .before .before .before .before .before .before .before .before .before .before .before in let lp = c .before .before .before .before .before .before .loop in
+    let b = low-below (st .args .np) (st .args .row .now) (lp .i) (st .pre .1 .1 .1 .1 .0) (c .before .before .before .before .before .loop-test .taken) in let r = let-room (st .args .np) (takesIn (st .args .area .now) (st .args .handles .now) (st .args .n) (st .args .rows .now) (st .args .tsorted .now) (st .args .tstarts .now) (st .args .least) (st .args .most) (st .args .seed)) (st .args .mark) (st .pre .1 .1 .1 .0 .1) (st .args .row .now) (st .args .assigned .now) (st .args .queue .now) (st .args .from) (lp .assigned) (lp .queue) (lp .tail) (lp .i) (lp .inv .3) (c .before .before .before .before .before .loop-test .taken) b (c .before .before .if1 .left) in let w = lp .inv .3 .queue-is .room in omega (arith, r, w)
 
 add-tail : tie.Need-add-tail Inv-loop μ-loop
-add-tail c = let b = low-below (c .before .before .before .before .before .before .before .before .before .before .before .before .before .before .before .args .np) (c .before .before .before .before .before .before .before .before .before .before .before .before .before .before .before .args .row .now) (c .before .before .before .before .before .before .loop .i) (c .before .before .before .before .before .before .before .before .before .before .before .before .before .before .before .pre .1 .1 .1 .1 .0) (c .before .before .before .before .before .loop-test .taken) in let r = let-room (c .before .before .before .before .before .before .before .before .before .before .before .before .before .before .before .args .np) (takesIn (c .before .before .before .before .before .before .before .before .before .before .before .before .before .before .before .args .area .now) (c .before .before .before .before .before .before .before .before .before .before .before .before .before .before .before .args .handles .now) (c .before .before .before .before .before .before .before .before .before .before .before .before .before .before .before .args .n) (c .before .before .before .before .before .before .before .before .before .before .before .before .before .before .before .args .rows .now) (c .before .before .before .before .before .before .before .before .before .before .before .before .before .before .before .args .tsorted .now) (c .before .before .before .before .before .before .before .before .before .before .before .before .before .before .before .args .tstarts .now) (c .before .before .before .before .before .before .before .before .before .before .before .before .before .before .before .args .least) (c .before .before .before .before .before .before .before .before .before .before .before .before .before .before .before .args .most) (c .before .before .before .before .before .before .before .before .before .before .before .before .before .before .before .args .seed)) (c .before .before .before .before .before .before .before .before .before .before .before .before .before .before .before .args .mark) (c .before .before .before .before .before .before .before .before .before .before .before .before .before .before .before .pre .1 .1 .1 .0 .1) (c .before .before .before .before .before .before .before .before .before .before .before .before .before .before .before .args .row .now) (c .before .before .before .before .before .before .before .before .before .before .before .before .before .before .before .args .assigned .now) (c .before .before .before .before .before .before .before .before .before .before .before .before .before .before .before .args .queue .now) (c .before .before .before .before .before .before .before .before .before .before .before .before .before .before .before .args .from) (c .before .before .before .before .before .before .loop .assigned) (c .before .before .before .before .before .before .loop .queue) (c .before .before .before .before .before .before .loop .tail) (c .before .before .before .before .before .before .loop .i) (c .before .before .before .before .before .before .loop .inv .3) (c .before .before .before .before .before .loop-test .taken) b (c .before .before .if1 .left) in omega (arith, r)
+add-tail c =
+    let st = c .before .before .before .before .before .before .before .before .before .before .before .before .before .before .before in let lp = c .before .before .before .before .before .before .loop in
+    let b = low-below (st .args .np) (st .args .row .now) (lp .i) (st .pre .1 .1 .1 .1 .0) (c .before .before .before .before .before .loop-test .taken) in let r = let-room (st .args .np) (takesIn (st .args .area .now) (st .args .handles .now) (st .args .n) (st .args .rows .now) (st .args .tsorted .now) (st .args .tstarts .now) (st .args .least) (st .args .most) (st .args .seed)) (st .args .mark) (st .pre .1 .1 .1 .0 .1) (st .args .row .now) (st .args .assigned .now) (st .args .queue .now) (st .args .from) (lp .assigned) (lp .queue) (lp .tail) (lp .i) (lp .inv .3) (c .before .before .before .before .before .loop-test .taken) b (c .before .before .if1 .left) in omega (arith, r)
 
 loop-again-2 : tie.Need-loop-again-2 Inv-loop μ-loop
 loop-again-2 c =
-    let b = low-below (c .before .before .before .before .before .before .before .before .before .before .before .before .before .before .before .args .np) (c .before .before .before .before .before .before .before .before .before .before .before .before .before .before .before .args .row .now) (c .before .before .before .before .before .before .loop .i) (c .before .before .before .before .before .before .before .before .before .before .before .before .before .before .before .pre .1 .1 .1 .1 .0) (c .before .before .before .before .before .loop-test .taken) in
-    (omega arith, length-set (c .before .before .before .before .before .before .loop .assigned) (getD (c .before .before .before .before .before .before .before .before .before .before .before .before .before .before .before .args .row .now) (c .before .before .before .before .before .before .loop .i) 0 % 4096) (c .before .before .before .before .before .before .before .before .before .before .before .before .before .before .before .args .mark) ∙ c .before .before .before .before .before .before .loop .inv .1, length-set (c .before .before .before .before .before .before .loop .queue) (c .before .before .before .before .before .before .loop .tail) (getD (c .before .before .before .before .before .before .before .before .before .before .before .before .before .before .before .args .row .now) (c .before .before .before .before .before .before .loop .i) 0 % 4096) ∙ c .before .before .before .before .before .before .loop .inv .2, let-more (c .before .before .before .before .before .before .before .before .before .before .before .before .before .before .before .args .np) (takesIn (c .before .before .before .before .before .before .before .before .before .before .before .before .before .before .before .args .area .now) (c .before .before .before .before .before .before .before .before .before .before .before .before .before .before .before .args .handles .now) (c .before .before .before .before .before .before .before .before .before .before .before .before .before .before .before .args .n) (c .before .before .before .before .before .before .before .before .before .before .before .before .before .before .before .args .rows .now) (c .before .before .before .before .before .before .before .before .before .before .before .before .before .before .before .args .tsorted .now) (c .before .before .before .before .before .before .before .before .before .before .before .before .before .before .before .args .tstarts .now) (c .before .before .before .before .before .before .before .before .before .before .before .before .before .before .before .args .least) (c .before .before .before .before .before .before .before .before .before .before .before .before .before .before .before .args .most) (c .before .before .before .before .before .before .before .before .before .before .before .before .before .before .before .args .seed)) (c .before .before .before .before .before .before .before .before .before .before .before .before .before .before .before .args .mark) (c .before .before .before .before .before .before .before .before .before .before .before .before .before .before .before .pre .1 .1 .1 .0 .1) (c .before .before .before .before .before .before .before .before .before .before .before .before .before .before .before .args .row .now) (c .before .before .before .before .before .before .before .before .before .before .before .before .before .before .before .args .assigned .now) (c .before .before .before .before .before .before .before .before .before .before .before .before .before .before .before .args .queue .now) (c .before .before .before .before .before .before .before .before .before .before .before .before .before .before .before .args .from) (c .before .before .before .before .before .before .loop .assigned) (c .before .before .before .before .before .before .loop .queue) (c .before .before .before .before .before .before .loop .tail) (c .before .before .before .before .before .before .loop .i) (c .before .before .before .before .before .before .loop .inv .3) (c .before .before .before .before .before .loop-test .taken) b (c .before .before .if1 .left) (sym (c .before .takes .ensures) ∙ c .if2 .taken))
+    let st = c .before .before .before .before .before .before .before .before .before .before .before .before .before .before .before in let lp = c .before .before .before .before .before .before .loop in
+    let b = low-below (st .args .np) (st .args .row .now) (lp .i) (st .pre .1 .1 .1 .1 .0) (c .before .before .before .before .before .loop-test .taken) in
+    (omega arith, length-set (lp .assigned) (getD (st .args .row .now) (lp .i) 0 % 4096) (st .args .mark) ∙ lp .inv .1, length-set (lp .queue) (lp .tail) (getD (st .args .row .now) (lp .i) 0 % 4096) ∙ lp .inv .2, let-more (st .args .np) (takesIn (st .args .area .now) (st .args .handles .now) (st .args .n) (st .args .rows .now) (st .args .tsorted .now) (st .args .tstarts .now) (st .args .least) (st .args .most) (st .args .seed)) (st .args .mark) (st .pre .1 .1 .1 .0 .1) (st .args .row .now) (st .args .assigned .now) (st .args .queue .now) (st .args .from) (lp .assigned) (lp .queue) (lp .tail) (lp .i) (lp .inv .3) (c .before .before .before .before .before .loop-test .taken) b (c .before .before .if1 .left) (sym (c .before .takes .ensures) ∙ c .if2 .taken))
 
 loop-again-3 : tie.Need-loop-again-3 Inv-loop μ-loop
-loop-again-3 c = (omega arith, c .before .before .before .before .before .before .loop .inv .1, c .before .before .before .before .before .before .loop .inv .2, let-unfit (c .before .before .before .before .before .before .before .before .before .before .before .before .before .before .before .args .np) (takesIn (c .before .before .before .before .before .before .before .before .before .before .before .before .before .before .before .args .area .now) (c .before .before .before .before .before .before .before .before .before .before .before .before .before .before .before .args .handles .now) (c .before .before .before .before .before .before .before .before .before .before .before .before .before .before .before .args .n) (c .before .before .before .before .before .before .before .before .before .before .before .before .before .before .before .args .rows .now) (c .before .before .before .before .before .before .before .before .before .before .before .before .before .before .before .args .tsorted .now) (c .before .before .before .before .before .before .before .before .before .before .before .before .before .before .before .args .tstarts .now) (c .before .before .before .before .before .before .before .before .before .before .before .before .before .before .before .args .least) (c .before .before .before .before .before .before .before .before .before .before .before .before .before .before .before .args .most) (c .before .before .before .before .before .before .before .before .before .before .before .before .before .before .before .args .seed)) (c .before .before .before .before .before .before .before .before .before .before .before .before .before .before .before .args .mark) (c .before .before .before .before .before .before .before .before .before .before .before .before .before .before .before .pre .1 .1 .1 .0 .1) (c .before .before .before .before .before .before .before .before .before .before .before .before .before .before .before .args .row .now) (c .before .before .before .before .before .before .before .before .before .before .before .before .before .before .before .args .assigned .now) (c .before .before .before .before .before .before .before .before .before .before .before .before .before .before .before .args .queue .now) (c .before .before .before .before .before .before .before .before .before .before .before .before .before .before .before .args .from) (c .before .before .before .before .before .before .loop .assigned) (c .before .before .before .before .before .before .loop .queue) (c .before .before .before .before .before .before .loop .tail) (c .before .before .before .before .before .before .loop .i) (c .before .before .before .before .before .before .loop .inv .3) (c .before .before .before .before .before .loop-test .taken) (sym (c .before .takes .ensures) ∙ c .if2 .left))
+loop-again-3 c =
+    let st = c .before .before .before .before .before .before .before .before .before .before .before .before .before .before .before in let lp = c .before .before .before .before .before .before .loop in
+    (omega arith, lp .inv .1, lp .inv .2, let-unfit (st .args .np) (takesIn (st .args .area .now) (st .args .handles .now) (st .args .n) (st .args .rows .now) (st .args .tsorted .now) (st .args .tstarts .now) (st .args .least) (st .args .most) (st .args .seed)) (st .args .mark) (st .pre .1 .1 .1 .0 .1) (st .args .row .now) (st .args .assigned .now) (st .args .queue .now) (st .args .from) (lp .assigned) (lp .queue) (lp .tail) (lp .i) (lp .inv .3) (c .before .before .before .before .before .loop-test .taken) (sym (c .before .takes .ensures) ∙ c .if2 .left))
 
 same-length : tie.Need-same-length Inv-loop μ-loop
 same-length c = c .before .loop .inv .1
@@ -69,8 +88,9 @@ same-length-2 c = c .before .loop .inv .2
 
 returns : tie.Need-returns Inv-loop μ-loop
 returns c =
-    let m = c .before .loop .inv .3 in
-    (m .rise, (m .queue-is, let-done (c .before .before .before .before .before .before .before .before .before .before .args .np) (takesIn (c .before .before .before .before .before .before .before .before .before .before .args .area .now) (c .before .before .before .before .before .before .before .before .before .before .args .handles .now) (c .before .before .before .before .before .before .before .before .before .before .args .n) (c .before .before .before .before .before .before .before .before .before .before .args .rows .now) (c .before .before .before .before .before .before .before .before .before .before .args .tsorted .now) (c .before .before .before .before .before .before .before .before .before .before .args .tstarts .now) (c .before .before .before .before .before .before .before .before .before .before .args .least) (c .before .before .before .before .before .before .before .before .before .before .args .most) (c .before .before .before .before .before .before .before .before .before .before .args .seed)) (c .before .before .before .before .before .before .before .before .before .before .args .mark) (c .before .before .before .before .before .before .before .before .before .before .pre .1 .1 .1 .0 .1) (c .before .before .before .before .before .before .before .before .before .before .args .row .now) (c .before .before .before .before .before .before .before .before .before .before .args .assigned .now) (c .before .before .before .before .before .before .before .before .before .before .args .queue .now) (c .before .before .before .before .before .before .before .before .before .before .args .from) (c .before .loop .assigned) (c .before .loop .queue) (c .before .loop .tail) (c .before .loop .i) m (c .loop-test .left) (c .before .before .before .before .before .before .before .before .before .before .pre .1 .1 .1 .1 .1 .column)))
+    let st = c .before .before .before .before .before .before .before .before .before .before in let lp = c .before .loop in
+    let m = lp .inv .3 in
+    (m .rise, (m .queue-is, let-done (st .args .np) (takesIn (st .args .area .now) (st .args .handles .now) (st .args .n) (st .args .rows .now) (st .args .tsorted .now) (st .args .tstarts .now) (st .args .least) (st .args .most) (st .args .seed)) (st .args .mark) (st .pre .1 .1 .1 .0 .1) (st .args .row .now) (st .args .assigned .now) (st .args .queue .now) (st .args .from) (lp .assigned) (lp .queue) (lp .tail) (lp .i) m (c .loop-test .left) (st .pre .1 .1 .1 .1 .1 .column)))
 
 pub let-in-spec : {M : Type 1} → statement M
 let-in-spec =

@@ -1,43 +1,42 @@
-use borrow.Author.Needs.{needs}
-use mathlib.Core.Path.{_≡_, refl, sym, ap, _∙_}
-use mathlib.Core.Bool.{Bool, true, false, not, _&&_}
-use mathlib.Core.List.{List, [], _∷_, map}
-use Prim.Native.Nat.{ℕ, _+_, _-_, _*_, _%_, _≤_, _<_}
+-- `groups::merge` meets its contract: adjacency, and the groups that grow over it.
+use mathlib.Core.Path.{ap, _∙_}
+use mathlib.Core.Bool.{Bool}
+use Prim.Native.Nat.{ℕ, _-_}
 use native.Mathlib.Omega.{arith}
-use lib.ListN.{length, getD, take, drop, set, length-set}
+use lib.ListN.{length, take}
 use Rattle.links.specs.Links.{isJoined}
 use Rattle.groups.specs.Groups.{groupsFrom}
-use Rattle.groups.specs.Rows.{groupsIn, takesIn, freeOf}
+use Rattle.groups.specs.Rows.{takesIn, freeOf}
 use Rattle.groups.proofs.Reading.{table-is, queue-none, free-all, rows-adjacent}
 use Rattle.groups.proofs.merge.Statement.{statement}
 use Rattle.groups.proofs.merge.Tie as tie
-
--- `groups::merge` meets its contract: adjacency, and the groups that grow over it.
 
 cast-adjacency : tie.Need-cast-adjacency
 cast-adjacency c = omega (arith, c .before .before .before .before .before .before .before .before .before .before .before .before .before .before .before .before .before .pre .1 .1 .1 .0 .2)
 
 adjacency-requires : tie.Need-adjacency-requires
 adjacency-requires c κs =
-    let s = c .before .before .before .before .before .before .before .before .before .before .before .before .before .before .before .before .before .before .before .before .before .before .before .pre .1 .1 .1 .0 in
-    let d = c .before .before .before .before .before .before .before .before .before .before .before .before .before .before .before .before .before .before .before .before .before .before .before .pre .1 .1 .1 .1 .0 in
-    (s .2, (s .0, (s .1, (d .0, (d .1, (d .2, (s .3, (c .before .before .before .before .before .before .before .before .before .before .before .before .before .before .before .before .before .before .before .before .before .before .before .pre .1 .1 .1 .1 .1 .1 .1 .0 .0, (c .before .before .before .before .before .before .before .before .before .before .before .before .before .before .before .before .before .before .before .before .before .before .before .pre .1 .1 .1 .1 .1 .1 .1 .0 .1, (c .before .before .before .before .before .before .before .before .before .before .before .before .before .before .before .before .before .before .before .before .before .before .before .pre .1 .1 .1 .1 .1 .1 .0 .0, (c .before .before .before .before .before .before .before .before .before .before .before .before .before .before .before .before .before .before .before .before .before .before .before .pre .1 .1 .1 .1 .1 .1 .0 .1, (c .before .before .before .before .before .before .before .before .before .before .before .before .before .before .before .before .before .before .before .before .before .before .before .pre .1 .1 .1 .1 .1 .1 .1 .1 .0 .0, c .before .before .before .before .before .before .before .before .before .before .before .before .before .before .before .before .before .before .before .before .before .before .before .pre .1 .1 .1 .1 .1 .1 .1 .1 .0 .1))))))))))))
+    let st = c .before .before .before .before .before .before .before .before .before .before .before .before .before .before .before .before .before .before .before .before .before .before .before in
+    let s = st .pre .1 .1 .1 .0 in
+    let d = st .pre .1 .1 .1 .1 .0 in
+    (s .2, (s .0, (s .1, (d .0, (d .1, (d .2, (s .3, (st .pre .1 .1 .1 .1 .1 .1 .1 .0 .0, (st .pre .1 .1 .1 .1 .1 .1 .1 .0 .1, (st .pre .1 .1 .1 .1 .1 .1 .0 .0, (st .pre .1 .1 .1 .1 .1 .1 .0 .1, (st .pre .1 .1 .1 .1 .1 .1 .1 .1 .0 .0, st .pre .1 .1 .1 .1 .1 .1 .1 .1 .0 .1))))))))))))
 
 grow-groups-requires : tie.Need-grow-groups-requires
 grow-groups-requires c κs =
-    let a = c .before .before .before .before .before .before .before .before .before .before .before .before .before .before .before .before .before .before .before .before .before .before .before .before .before .before .before .before .before .before .before .before .before .before .before .before .before .before .before .before .before .before .before .before .before .args in
-    let w = c .before .before .before .before .before .before .before .before .before .before .before .before .before .before .before .before .before .before .before .before .before .before .before .before .before .before .before .before .before .before .before .before .before .before .before .before .before .before .before .before .before .before .before .before .before .pre .1 .1 .1 .1 .1 .1 .1 .1 .1 in
+    let st = c .before .before .before .before .before .before .before .before .before .before .before .before .before .before .before .before .before .before .before .before .before .before .before .before .before .before .before .before .before .before .before .before .before .before .before .before .before .before .before .before .before .before .before .before .before in let ad = c .before .before .before .before .before .before .before .before .before .before .before .before .before .before .before .before .before .before .before .before .before .adjacency in
+    let a = st .args in
+    let w = st .pre .1 .1 .1 .1 .1 .1 .1 .1 .1 in
     let e = c .before .before .before .before .before .before .before .clear-u32 .ensures in (
-      c .before .before .before .before .before .before .before .before .before .before .before .before .before .before .before .before .before .before .before .before .before .before .before .before .before .before .before .before .before .before .before .before .before .before .before .before .before .before .before .before .before .before .before .before .before .pre .0,
+      st .pre .0,
       (
-        c .before .before .before .before .before .before .before .before .before .before .before .before .before .before .before .before .before .before .before .before .before .before .before .before .before .before .before .before .before .before .before .before .before .before .before .before .before .before .before .before .before .before .before .before .before .pre .1 .0,
+        st .pre .1 .0,
         (
-          c .before .before .before .before .before .before .before .before .before .before .before .before .before .before .before .before .before .before .before .before .before .before .before .before .before .before .before .before .before .before .before .before .before .before .before .before .before .before .before .before .before .before .before .before .before .pre .1 .1 .0,
+          st .pre .1 .1 .0,
           (
-            c .before .before .before .before .before .before .before .before .before .before .before .before .before .before .before .before .before .before .before .before .before .before .before .before .before .before .before .before .before .before .before .before .before .before .before .before .before .before .before .before .before .before .before .before .before .pre .1 .1 .1 .0 .2,
+            st .pre .1 .1 .1 .0 .2,
             (
-              table-is (a .np) (a .np) (a .np) (c .before .before .before .before .before .before .before .before .before .before .before .before .before .before .before .before .before .before .before .before .before .adjacency .last .1 .1 .1 .1 .1 .1 .1 .1 .1 .1 .0) (c .before .before .before .before .before .before .before .before .before .before .before .before .before .before .before .before .before .before .before .before .before .adjacency .last .1 .1 .1 .1 .1 .1 .1 .1 .1 .1 .1 .0) (isJoined (a .id .now) (a .n) (a .vertices) (a .of .now) (a .m) (a .np)) (c .before .before .before .before .before .before .before .before .before .before .before .before .before .before .before .before .before .before .before .before .before .adjacency .ensures .0) (omega (arith, c .before .before .before .before .before .before .before .before .before .before .before .before .before .before .before .before .before .before .before .before .before .adjacency .kept .1 .1 .1 .1 .1 .1 .1 .1 .1 .1 .1 .0, c .before .before .before .before .before .before .before .before .before .before .before .before .before .before .before .before .before .before .before .before .before .before .before .before .before .before .before .before .before .before .before .before .before .before .before .before .before .before .before .before .before .before .before .before .before .pre .1 .1 .1 .1 .1 .1 .1 .1 .0 .1)) (c .before .before .before .before .before .before .before .before .before .before .before .before .before .before .before .before .before .before .before .before .before .adjacency .ensures .1) (omega arith),
-              (c .before .before .before .before .before .before .before .before .before .before .before .before .before .before .before .before .before .before .before .before .before .before .before .before .before .before .before .before .before .before .before .before .before .before .before .before .before .before .before .before .before .before .before .before .before .pre .1 .1 .1 .1 .1 .0, (rw e (queue-none (a .np) (length (a .assigned .now)) (a .queue .now) (w .0) (w .1)), w .2)),
+              table-is (a .np) (a .np) (a .np) (ad .last .1 .1 .1 .1 .1 .1 .1 .1 .1 .1 .0) (ad .last .1 .1 .1 .1 .1 .1 .1 .1 .1 .1 .1 .0) (isJoined (a .id .now) (a .n) (a .vertices) (a .of .now) (a .m) (a .np)) (ad .ensures .0) (omega (arith, ad .kept .1 .1 .1 .1 .1 .1 .1 .1 .1 .1 .1 .0, st .pre .1 .1 .1 .1 .1 .1 .1 .1 .0 .1)) (ad .ensures .1) (omega arith),
+              (st .pre .1 .1 .1 .1 .1 .0, (rw e (queue-none (a .np) (length (a .assigned .now)) (a .queue .now) (w .0) (w .1)), w .2)),
             ),
           ),
         ),
@@ -73,13 +72,17 @@ same-length-9 c = c .before .before .before .before .before .before .grow-groups
 
 returns : tie.Need-returns
 returns c =
-    let a = c .before .before .before .before .before .before .before .before .before .before .before .before .before .before .before .before .before .before .before .before .before .before .before .before .before .before .before .before .before .before .before .before .before .before .before .before .before .before .before .before .before .before .before .before .before .before .before .before .before .before .before .before .args in
+    let st = c .before .before .before .before .before .before .before .before .before .before .before .before .before .before .before .before .before .before .before .before .before .before .before .before .before .before .before .before .before .before .before .before .before .before .before .before .before .before .before .before .before .before .before .before .before .before .before .before .before .before .before .before in let ad = c .before .before .before .before .before .before .before .before .before .before .before .before .before .before .before .before .before .before .before .before .before .before .before .before .before .before .before .before .adjacency in let gg = c .before .before .before .before .before .before .grow-groups in
+    let a = st .args in
     let e = c .before .before .before .before .before .before .before .before .before .before .before .before .before .before .clear-u32 .ensures in
     let f : ℕ → ℕ → Bool = takesIn (a .area .now) (a .handles .now) (a .n) (a .rows .now) (a .tsorted .now) (a .tstarts .now) (a .least) (a .most) in (
-      c .before .before .before .before .before .before .grow-groups .ensures .0,
-      λ adj same.
-          c .before .before .before .before .before .before .grow-groups .ensures .1 adj (rows-adjacent (a .np) (c .before .before .before .before .before .before .before .before .before .before .before .before .before .before .before .before .before .before .before .before .before .before .before .before .before .before .before .before .adjacency .last .1 .1 .1 .1 .1 .1 .1 .1 .1 .1 .0) (c .before .before .before .before .before .before .before .before .before .before .before .before .before .before .before .before .before .before .before .before .before .before .before .before .before .before .before .before .adjacency .last .1 .1 .1 .1 .1 .1 .1 .1 .1 .1 .1 .0) (isJoined (a .id .now) (a .n) (a .vertices) (a .of .now) (a .m) (a .np)) adj (c .before .before .before .before .before .before .before .before .before .before .before .before .before .before .before .before .before .before .before .before .before .before .before .before .before .before .before .before .adjacency .ensures .1) same)
-          ∙ ap (groupsFrom (a .np) adj f (take (a .np) (a .order .now))) (ap (freeOf (a .np)) e ∙ free-all (a .np) (length (a .assigned .now)) (c .before .before .before .before .before .before .before .before .before .before .before .before .before .before .before .before .before .before .before .before .before .before .before .before .before .before .before .before .before .before .before .before .before .before .before .before .before .before .before .before .before .before .before .before .before .before .before .before .before .before .before .before .pre .1 .1 .1 .1 .1 .1 .1 .1 .1 .0)),
+      gg .ensures .0,
+      (
+        gg .ensures .1 .0,
+        λ adj same.
+            gg .ensures .1 .1 adj (rows-adjacent (a .np) (ad .last .1 .1 .1 .1 .1 .1 .1 .1 .1 .1 .0) (ad .last .1 .1 .1 .1 .1 .1 .1 .1 .1 .1 .1 .0) (isJoined (a .id .now) (a .n) (a .vertices) (a .of .now) (a .m) (a .np)) adj (ad .ensures .1) same)
+            ∙ ap (groupsFrom (a .np) adj f (take (a .np) (a .order .now))) (ap (freeOf (a .np)) e ∙ free-all (a .np) (length (a .assigned .now)) (st .pre .1 .1 .1 .1 .1 .1 .1 .1 .1 .0)),
+      ),
     )
 
 pub merge-spec : {M : Type 1} → statement M

@@ -1,14 +1,10 @@
-use borrow.Author.Needs.{needs}
-use mathlib.Core.Path.{_≡_, refl, sym, ap, _∙_}
-use mathlib.Core.Bool.{Bool, true, false, not, _&&_}
-use Prim.Native.Nat.{ℕ, _+_, _-_, _*_, _%_, _≤_, _<_}
+-- `groups::normal_of` meets its contract: as it reads.
+use mathlib.Core.Path.{refl}
+use Prim.Native.Nat.{_-_}
 use native.Mathlib.Omega.{arith}
-use lib.ListN.{length, getD, take, drop, length-set}
 use Rattle.patches.specs.Rows.{vecIn}
 use Rattle.groups.proofs.normal_of.Statement.{statement}
 use Rattle.groups.proofs.normal_of.Tie as tie
-
--- `groups::normal_of` meets its contract: as it reads.
 
 returns : tie.Need-returns
 unfolding vecIn

@@ -1,14 +1,8 @@
-use borrow.Author.Needs.{needs}
-use mathlib.Core.Path.{_≡_, refl, sym, ap, _∙_}
-use mathlib.Core.Bool.{Bool, true, false, not, _&&_}
-use Prim.Native.Nat.{ℕ, _+_, _-_, _*_, _%_, _≤_, _<_}
-use native.Mathlib.Omega.{arith}
-use lib.ListN.{length, getD, take, drop, length-set}
-use Rattle.groups.specs.Groups.{rankOf, descendingKey, isTilted, isNear}
+-- `groups::rank` meets its contract: by the test for NaN.
+use Prim.Native.Nat.{_-_}
+use Rattle.groups.specs.Groups.{rankOf}
 use Rattle.groups.proofs.rank.Statement.{statement}
 use Rattle.groups.proofs.rank.Tie as tie
-
--- `groups::rank` meets its contract: by the test for NaN.
 
 returns : tie.Need-returns
 unfolding rankOf

@@ -1,9 +1,8 @@
-use borrow.Author.Needs.{needs}
-use mathlib.Core.Path.{_≡_, refl, sym, ap, _∙_}
-use mathlib.Core.Bool.{Bool, true, false, not, _&&_}
-use Prim.Native.Nat.{ℕ, _+_, _-_, _*_, _%_, _≤_, _<_}
+-- `groups::seed_keys` meets its contract: the loop holds that the keys of the first patches are there.
+use mathlib.Core.Path.{_≡_, refl, ap, _∙_}
+use Prim.Native.Nat.{ℕ, _+_, _-_, _*_, _≤_, _<_}
 use native.Mathlib.Omega.{arith}
-use lib.ListN.{length, getD, take, drop, length-set}
+use lib.ListN.{length, getD, take, length-set}
 use lib.Ieee.{nan}
 use Rattle.order.specs.Runs.{headOr, upTo}
 use Rattle.links.specs.Words.{rowIn}
@@ -11,8 +10,6 @@ use Rattle.groups.specs.Groups.{descendingKey}
 use Rattle.groups.proofs.Seeding.{counted-more, keys-more}
 use Rattle.groups.proofs.seed_keys.Statement.{statement}
 use Rattle.groups.proofs.seed_keys.Tie as tie
-
--- `groups::seed_keys` meets its contract: the loop holds that the keys of the first patches are there.
 
 abbrev Inv-loop : tie.InvT-loop
 Inv-loop rows np tsorted tstarts keys₀ order₀ p₀ keys order p = (p ≤ np) × (length keys ≡ length keys₀) × (length order ≡ length order₀) × (take p order ≡ upTo p) × ((q : ℕ) → q < p → getD keys q 0 ≡ descendingKey (getD rows (11 * q + 4) nan) (headOr 0 (rowIn tsorted tstarts q)))
@@ -41,14 +38,15 @@ slice-write-order c = omega (arith, c .before .before .before .before .loop .inv
 
 loop-again : tie.Need-loop-again Inv-loop μ-loop
 loop-again c =
-    let f : ℕ → ℕ = λ q. descendingKey (getD (c .before .before .before .before .before .before .before .before .before .before .args .rows .now) (11 * q + 4) nan) (headOr 0 (rowIn (c .before .before .before .before .before .before .before .before .before .before .args .tsorted .now) (c .before .before .before .before .before .before .before .before .before .before .args .tstarts .now) q)) in
+    let st = c .before .before .before .before .before .before .before .before .before .before in let lp = c .before .before .before .before .loop in
+    let f : ℕ → ℕ = λ q. descendingKey (getD (st .args .rows .now) (11 * q + 4) nan) (headOr 0 (rowIn (st .args .tsorted .now) (st .args .tstarts .now) q)) in
     let v = c .descending-key .result in (
       omega arith,
-      length-set (c .before .before .before .before .loop .keys) (c .before .before .before .before .loop .p) v ∙ c .before .before .before .before .loop .inv .1,
-      length-set (c .before .before .before .before .loop .order) (c .before .before .before .before .loop .p) (c .before .before .before .before .loop .p) ∙ c .before .before .before .before .loop .inv .2,
-      counted-more (c .before .before .before .before .loop .order) (c .before .before .before .before .loop .p) (omega (arith, c .before .before .before .before .loop .inv .2, c .before .before .before .before .before .before .before .before .before .before .pre .1 .1 .1 .1)) (c .before .before .before .before .loop .inv .3),
-      keys-more f (c .before .before .before .before .loop .keys) (c .before .before .before .before .loop .p) (omega (arith, c .before .before .before .before .loop .inv .1, c .before .before .before .before .before .before .before .before .before .before .pre .1 .1 .1 .0)) (c .before .before .before .before .loop .inv .4) v
-          (c .descending-key .ensures ∙ ap (λ (t : ℕ). descendingKey (getD (c .before .before .before .before .before .before .before .before .before .before .args .rows .now) (11 * c .before .before .before .before .loop .p + 4) nan) t) (c .before .before .first-triangle .ensures)),
+      length-set (lp .keys) (lp .p) v ∙ lp .inv .1,
+      length-set (lp .order) (lp .p) (lp .p) ∙ lp .inv .2,
+      counted-more (lp .order) (lp .p) (omega (arith, lp .inv .2, st .pre .1 .1 .1 .1)) (lp .inv .3),
+      keys-more f (lp .keys) (lp .p) (omega (arith, lp .inv .1, st .pre .1 .1 .1 .0)) (lp .inv .4) v
+          (c .descending-key .ensures ∙ ap (λ (t : ℕ). descendingKey (getD (st .args .rows .now) (11 * lp .p + 4) nan) t) (c .before .before .first-triangle .ensures)),
     )
 
 same-length : tie.Need-same-length Inv-loop μ-loop
@@ -58,7 +56,9 @@ same-length-2 : tie.Need-same-length-2 Inv-loop μ-loop
 same-length-2 c = c .before .loop .inv .2
 
 returns : tie.Need-returns Inv-loop μ-loop
-returns c = let e : c .before .loop .p ≡ c .before .before .before .before .before .before .before .args .np = omega arith in (rw e at (c .before .loop .inv .3), (λ q h. c .before .loop .inv .4 q (omega (arith, e, h))))
+returns c =
+    let lp = c .before .loop in
+    let e : lp .p ≡ c .before .before .before .before .before .before .before .args .np = omega arith in (rw e at (lp .inv .3), (λ q h. lp .inv .4 q (omega (arith, e, h))))
 
 pub seed-keys-spec : {M : Type 1} → statement M
 seed-keys-spec =

@@ -1,37 +1,43 @@
+-- `groups::seeds` meets its contract: the sort of the patches by their keys (`seeds-sorted`).
 use borrow.Author.Needs.{needs}
-use mathlib.Core.Path.{_≡_, refl, sym, ap, _∙_}
-use mathlib.Core.Bool.{Bool, true, false, not, _&&_}
-use mathlib.Core.List.{List, [], _∷_, map}
-use Prim.Native.Nat.{ℕ, _+_, _-_, _*_, _%_, _≤_, _<_}
+use mathlib.Core.Path.{sym, _∙_}
+use Prim.Native.Nat.{_-_}
 use native.Mathlib.Omega.{arith}
-use lib.ListN.{length, getD, take, drop, set, length-set}
+use lib.ListN.{length, take}
 use lib.Seq.{length-take-le, length-front}
 use Rattle.groups.specs.Rows.{seedKeyIn}
 use Rattle.groups.proofs.Reading.{seeds-sorted, positions}
 use Rattle.groups.proofs.seeds.Statement.{statement}
 use Rattle.groups.proofs.seeds.Tie as tie
 
--- `groups::seeds` meets its contract: the sort of the patches by their keys (`seeds-sorted`).
-
 seed-keys-requires : tie.Need-seed-keys-requires
-seed-keys-requires c κs = (c .before .before .before .before .before .before .before .before .before .pre .0, (c .before .before .before .before .before .before .before .before .before .pre .1 .0, (c .before .before .before .before .before .before .before .before .before .pre .1 .1 .0, (c .before .before .before .before .before .before .before .before .before .pre .1 .1 .1 .0, c .before .before .before .before .before .before .before .before .before .pre .1 .1 .1 .1 .1 .1))))
+seed-keys-requires c κs =
+    let st = c .before .before .before .before .before .before .before .before .before in
+    (st .pre .0, (st .pre .1 .0, (st .pre .1 .1 .0, (st .pre .1 .1 .1 .0, st .pre .1 .1 .1 .1 .1 .1))))
 
 slice-relend-prefix-sort-by-key : tie.Need-slice-relend-prefix-sort-by-key
 slice-relend-prefix-sort-by-key c = omega (arith, c .before .before .before .before .before .seed-keys .kept .1 .1 .1 .1 .1 .0, c .before .before .before .before .before .before .before .before .before .before .before .before .before .before .before .pre .1 .1 .1 .1 .1 .1)
 
 slice-aggregate-sort-by-key : tie.Need-slice-aggregate-sort-by-key
-slice-aggregate-sort-by-key c = sym (length-take-le (c .before .before .before .before .before .before .before .before .before .before .before .before .before .before .before .before .args .np) (c .before .before .before .before .before .before .seed-keys .last .1 .1 .1 .1 .1 .0) (omega (arith, c .before .before .before .before .before .before .seed-keys .kept .1 .1 .1 .1 .1 .0, c .before .before .before .before .before .before .before .before .before .before .before .before .before .before .before .before .pre .1 .1 .1 .1 .1 .1)))
+slice-aggregate-sort-by-key c =
+    let st = c .before .before .before .before .before .before .before .before .before .before .before .before .before .before .before .before in let sk = c .before .before .before .before .before .before .seed-keys in
+    sym (length-take-le (st .args .np) (sk .last .1 .1 .1 .1 .1 .0) (omega (arith, sk .kept .1 .1 .1 .1 .1 .0, st .pre .1 .1 .1 .1 .1 .1)))
 
 sort-by-key-requires : tie.Need-sort-by-key-requires
 sort-by-key-requires c κs =
-    let l = length-take-le (c .before .before .before .before .before .before .before .before .before .before .before .before .before .before .before .before .before .before .args .np) (c .before .before .before .before .before .before .before .before .seed-keys .last .1 .1 .1 .1 .1 .0) (omega (arith, c .before .before .before .before .before .before .before .before .seed-keys .kept .1 .1 .1 .1 .1 .0, c .before .before .before .before .before .before .before .before .before .before .before .before .before .before .before .before .before .before .pre .1 .1 .1 .1 .1 .1)) in
-    (omega (arith, l, c .before .before .before .before .before .before .before .before .before .before .before .before .before .before .before .before .before .before .pre .1 .1 .1 .1 .0), (omega (arith, l, c .before .before .before .before .before .before .before .before .before .before .before .before .before .before .before .before .before .before .pre .1 .1 .1 .1 .1 .0), positions (c .before .before .before .before .before .before .before .before .before .before .before .before .before .before .before .before .before .before .args .np) (length (c .before .before .before .before .before .before .before .before .seed-keys .last .1 .1 .1 .1 .0)) (take (c .before .before .before .before .before .before .before .before .before .before .before .before .before .before .before .before .before .before .args .np) (c .before .before .before .before .before .before .before .before .seed-keys .last .1 .1 .1 .1 .1 .0)) (c .before .before .before .before .before .before .before .before .seed-keys .ensures .0) (omega (arith, c .before .before .before .before .before .before .before .before .seed-keys .kept .1 .1 .1 .1 .0, c .before .before .before .before .before .before .before .before .before .before .before .before .before .before .before .before .before .before .pre .1 .1 .1 .0))))
+    let st = c .before .before .before .before .before .before .before .before .before .before .before .before .before .before .before .before .before .before in let sk = c .before .before .before .before .before .before .before .before .seed-keys in
+    let l = length-take-le (st .args .np) (sk .last .1 .1 .1 .1 .1 .0) (omega (arith, sk .kept .1 .1 .1 .1 .1 .0, st .pre .1 .1 .1 .1 .1 .1)) in
+    (omega (arith, l, st .pre .1 .1 .1 .1 .0), (omega (arith, l, st .pre .1 .1 .1 .1 .1 .0), positions (st .args .np) (length (sk .last .1 .1 .1 .1 .0)) (take (st .args .np) (sk .last .1 .1 .1 .1 .1 .0)) (sk .ensures .0) (omega (arith, sk .kept .1 .1 .1 .1 .0, st .pre .1 .1 .1 .0))))
 
 same-length-4 : tie.Need-same-length-4
-same-length-4 c = length-front (c .before .before .before .before .before .before .before .before .before .before .before .before .before .before .before .seed-keys .last .1 .1 .1 .1 .1 .0) (c .before .before .before .before .before .before .sort-by-key .last .1 .0) (c .before .before .before .before .before .before .before .before .before .before .before .before .before .before .before .before .before .before .before .before .before .before .before .before .before .args .np) (c .before .before .before .before .before .before .sort-by-key .kept .1 .0) ∙ c .before .before .before .before .before .before .before .before .before .before .before .before .before .before .before .seed-keys .kept .1 .1 .1 .1 .1 .0
+same-length-4 c =
+    let sk = c .before .before .before .before .before .before .before .before .before .before .before .before .before .before .before .seed-keys in
+    length-front (sk .last .1 .1 .1 .1 .1 .0) (c .before .before .before .before .before .before .sort-by-key .last .1 .0) (c .before .before .before .before .before .before .before .before .before .before .before .before .before .before .before .before .before .before .before .before .before .before .before .before .before .args .np) (c .before .before .before .before .before .before .sort-by-key .kept .1 .0) ∙ sk .kept .1 .1 .1 .1 .1 .0
 
 returns : tie.Need-returns
-returns c = seeds-sorted (c .before .before .before .before .before .before .before .before .before .before .before .before .before .before .before .seed-keys .last .1 .1 .1 .1 .0) (c .before .before .before .before .before .before .before .before .before .before .before .before .before .before .before .seed-keys .last .1 .1 .1 .1 .1 .0) (c .before .before .before .before .before .before .sort-by-key .last .1 .0) (seedKeyIn (c .before .before .before .before .before .before .before .before .before .before .before .before .before .before .before .before .before .before .before .before .before .before .before .before .before .args .rows .now) (c .before .before .before .before .before .before .before .before .before .before .before .before .before .before .before .before .before .before .before .before .before .before .before .before .before .args .tsorted .now) (c .before .before .before .before .before .before .before .before .before .before .before .before .before .before .before .before .before .before .before .before .before .before .before .before .before .args .tstarts .now)) (c .before .before .before .before .before .before .before .before .before .before .before .before .before .before .before .before .before .before .before .before .before .before .before .before .before .args .np) (c .before .before .before .before .before .before .before .before .before .before .before .before .before .before .before .seed-keys .ensures .0) (c .before .before .before .before .before .before .before .before .before .before .before .before .before .before .before .seed-keys .ensures .1) (c .before .before .before .before .before .before .sort-by-key .ensures)
+returns c =
+    let st = c .before .before .before .before .before .before .before .before .before .before .before .before .before .before .before .before .before .before .before .before .before .before .before .before .before in let sk = c .before .before .before .before .before .before .before .before .before .before .before .before .before .before .before .seed-keys in
+    seeds-sorted (sk .last .1 .1 .1 .1 .0) (sk .last .1 .1 .1 .1 .1 .0) (c .before .before .before .before .before .before .sort-by-key .last .1 .0) (seedKeyIn (st .args .rows .now) (st .args .tsorted .now) (st .args .tstarts .now)) (st .args .np) (sk .ensures .0) (sk .ensures .1) (c .before .before .before .before .before .before .sort-by-key .ensures)
 
 pub seeds-spec : {M : Type 1} → statement M
 seeds-spec =

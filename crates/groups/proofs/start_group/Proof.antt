@@ -1,52 +1,65 @@
-use borrow.Author.Needs.{needs}
-use mathlib.Core.Path.{_≡_, refl, sym, ap, _∙_}
-use mathlib.Core.Bool.{Bool, true, false, not, _&&_}
-use mathlib.Core.List.{List, [], _∷_}
-use Prim.Native.Nat.{ℕ, _+_, _-_, _*_, _%_, _≤_, _<_}
+-- `groups::start_group` meets its contract: the seed marked and appended (`queue-push`), and its group grown (`seed-grown`).
+use mathlib.Core.Path.{_∙_}
+use Prim.Native.Nat.{_-_}
 use native.Mathlib.Omega.{arith}
-use lib.ListN.{length, getD, take, drop, set, length-set}
+use lib.ListN.{length-set}
 use Rattle.groups.specs.Rows.{takesIn}
 use Rattle.groups.proofs.Queueing.{queue-room, queue-push}
 use Rattle.groups.proofs.Breadth.{seed-grown}
 use Rattle.groups.proofs.start_group.Statement.{statement}
 use Rattle.groups.proofs.start_group.Tie as tie
 
--- `groups::start_group` meets its contract: the seed marked and appended (`queue-push`), and its group grown (`seed-grown`).
-
 mul-assigned : tie.Need-mul-assigned
-mul-assigned c = let w = c .before .before .before .before .before .before .before .before .before .pre .1 .1 .1 .1 .1 .0 .column in omega (arith, w, c .before .before .before .before .before .before .before .before .before .pre .1 .1 .1 .0 .0)
+mul-assigned c =
+    let st = c .before .before .before .before .before .before .before .before .before in
+    let w = st .pre .1 .1 .1 .1 .1 .0 .column in omega (arith, w, st .pre .1 .1 .1 .0 .0)
 
 slice-write-assigned : tie.Need-slice-write-assigned
-slice-write-assigned c = let w = c .before .before .before .before .before .before .before .before .before .pre .1 .1 .1 .1 .1 .0 .column in omega (arith, w, c .before .before .before .before .before .before .before .before .before .pre .1 .1 .1 .0 .0)
+slice-write-assigned c =
+    let st = c .before .before .before .before .before .before .before .before .before in
+    let w = st .pre .1 .1 .1 .1 .1 .0 .column in omega (arith, w, st .pre .1 .1 .1 .0 .0)
 
 mul-queue : tie.Need-mul-queue
-mul-queue c = let w = c .before .before .before .before .before .before .before .before .before .pre .1 .1 .1 .1 .1 .0 .room in let r = queue-room (c .before .before .before .before .before .before .before .before .before .args .np) (c .before .before .before .before .before .before .before .before .before .args .mark) (c .before .before .before .before .before .before .before .before .before .pre .1 .1 .1 .0 .1) (c .before .before .before .before .before .before .before .before .before .args .assigned .now) (c .before .before .before .before .before .before .before .before .before .args .queue .now) (c .before .before .before .before .before .before .before .before .before .args .from) (c .before .before .before .before .before .before .before .before .before .args .seed) (c .before .before .before .before .before .before .before .before .before .pre .1 .1 .1 .1 .1 .0) (c .before .before .before .before .before .before .before .before .before .pre .1 .1 .1 .0 .0) (c .before .before .before .before .before .before .before .before .before .pre .1 .1 .1 .1 .1 .1) in omega (arith, w, r)
+mul-queue c =
+    let st = c .before .before .before .before .before .before .before .before .before in
+    let w = st .pre .1 .1 .1 .1 .1 .0 .room in let r = queue-room (st .args .np) (st .args .mark) (st .pre .1 .1 .1 .0 .1) (st .args .assigned .now) (st .args .queue .now) (st .args .from) (st .args .seed) (st .pre .1 .1 .1 .1 .1 .0) (st .pre .1 .1 .1 .0 .0) (st .pre .1 .1 .1 .1 .1 .1) in omega (arith, w, r)
 
 slice-write-queue : tie.Need-slice-write-queue
-slice-write-queue c = let w = c .before .before .before .before .before .before .before .before .before .pre .1 .1 .1 .1 .1 .0 .room in let r = queue-room (c .before .before .before .before .before .before .before .before .before .args .np) (c .before .before .before .before .before .before .before .before .before .args .mark) (c .before .before .before .before .before .before .before .before .before .pre .1 .1 .1 .0 .1) (c .before .before .before .before .before .before .before .before .before .args .assigned .now) (c .before .before .before .before .before .before .before .before .before .args .queue .now) (c .before .before .before .before .before .before .before .before .before .args .from) (c .before .before .before .before .before .before .before .before .before .args .seed) (c .before .before .before .before .before .before .before .before .before .pre .1 .1 .1 .1 .1 .0) (c .before .before .before .before .before .before .before .before .before .pre .1 .1 .1 .0 .0) (c .before .before .before .before .before .before .before .before .before .pre .1 .1 .1 .1 .1 .1) in omega (arith, w, r)
+slice-write-queue c =
+    let st = c .before .before .before .before .before .before .before .before .before in
+    let w = st .pre .1 .1 .1 .1 .1 .0 .room in let r = queue-room (st .args .np) (st .args .mark) (st .pre .1 .1 .1 .0 .1) (st .args .assigned .now) (st .args .queue .now) (st .args .from) (st .args .seed) (st .pre .1 .1 .1 .1 .1 .0) (st .pre .1 .1 .1 .0 .0) (st .pre .1 .1 .1 .1 .1 .1) in omega (arith, w, r)
 
 add-grow : tie.Need-add-grow
-add-grow c = let r = queue-room (c .before .before .before .before .before .before .before .before .before .before .before .args .np) (c .before .before .before .before .before .before .before .before .before .before .before .args .mark) (c .before .before .before .before .before .before .before .before .before .before .before .pre .1 .1 .1 .0 .1) (c .before .before .before .before .before .before .before .before .before .before .before .args .assigned .now) (c .before .before .before .before .before .before .before .before .before .before .before .args .queue .now) (c .before .before .before .before .before .before .before .before .before .before .before .args .from) (c .before .before .before .before .before .before .before .before .before .before .before .args .seed) (c .before .before .before .before .before .before .before .before .before .before .before .pre .1 .1 .1 .1 .1 .0) (c .before .before .before .before .before .before .before .before .before .before .before .pre .1 .1 .1 .0 .0) (c .before .before .before .before .before .before .before .before .before .before .before .pre .1 .1 .1 .1 .1 .1) in omega (arith, r)
+add-grow c =
+    let st = c .before .before .before .before .before .before .before .before .before .before .before in
+    let r = queue-room (st .args .np) (st .args .mark) (st .pre .1 .1 .1 .0 .1) (st .args .assigned .now) (st .args .queue .now) (st .args .from) (st .args .seed) (st .pre .1 .1 .1 .1 .1 .0) (st .pre .1 .1 .1 .0 .0) (st .pre .1 .1 .1 .1 .1 .1) in omega (arith, r)
 
 grow-requires : tie.Need-grow-requires
-grow-requires c κs = (c .before .before .before .before .before .before .before .before .before .before .before .pre .0, (c .before .before .before .before .before .before .before .before .before .before .before .pre .1 .0, (c .before .before .before .before .before .before .before .before .before .before .before .pre .1 .1 .0, (c .before .before .before .before .before .before .before .before .before .before .before .pre .1 .1 .1 .0, (c .before .before .before .before .before .before .before .before .before .before .before .pre .1 .1 .1 .1 .0, (omega arith, queue-push (c .before .before .before .before .before .before .before .before .before .before .before .args .np) (c .before .before .before .before .before .before .before .before .before .before .before .args .mark) (c .before .before .before .before .before .before .before .before .before .before .before .pre .1 .1 .1 .0 .1) (c .before .before .before .before .before .before .before .before .before .before .before .args .assigned .now) (c .before .before .before .before .before .before .before .before .before .before .before .args .queue .now) (c .before .before .before .before .before .before .before .before .before .before .before .args .from) (c .before .before .before .before .before .before .before .before .before .before .before .args .seed) (c .before .before .before .before .before .before .before .before .before .before .before .pre .1 .1 .1 .1 .1 .0) (c .before .before .before .before .before .before .before .before .before .before .before .pre .1 .1 .1 .0 .0) (c .before .before .before .before .before .before .before .before .before .before .before .pre .1 .1 .1 .1 .1 .1)))))))
+grow-requires c κs =
+    let st = c .before .before .before .before .before .before .before .before .before .before .before in
+    (st .pre .0, (st .pre .1 .0, (st .pre .1 .1 .0, (st .pre .1 .1 .1 .0, (st .pre .1 .1 .1 .1 .0, (omega arith, queue-push (st .args .np) (st .args .mark) (st .pre .1 .1 .1 .0 .1) (st .args .assigned .now) (st .args .queue .now) (st .args .from) (st .args .seed) (st .pre .1 .1 .1 .1 .1 .0) (st .pre .1 .1 .1 .0 .0) (st .pre .1 .1 .1 .1 .1 .1)))))))
 
 same-length : tie.Need-same-length
-same-length c = c .before .before .before .before .grow .kept .1 .1 .1 .1 .1 .1 .1 .1 .1 .1 .1 .1 .1 .0 ∙ length-set (c .before .before .before .before .before .before .before .before .before .before .before .before .before .before .before .before .args .assigned .now) (c .before .before .before .before .before .before .before .before .before .before .before .before .before .before .before .before .args .seed) (c .before .before .before .before .before .before .before .before .before .before .before .before .before .before .before .before .args .mark)
+same-length c =
+    let st = c .before .before .before .before .before .before .before .before .before .before .before .before .before .before .before .before in
+    c .before .before .before .before .grow .kept .1 .1 .1 .1 .1 .1 .1 .1 .1 .1 .1 .1 .1 .0 ∙ length-set (st .args .assigned .now) (st .args .seed) (st .args .mark)
 
 same-length-2 : tie.Need-same-length-2
-same-length-2 c = c .before .before .before .before .grow .kept .1 .1 .1 .1 .1 .1 .1 .1 .1 .1 .1 .1 .1 .1 .0 ∙ length-set (c .before .before .before .before .before .before .before .before .before .before .before .before .before .before .before .before .args .queue .now) (c .before .before .before .before .before .before .before .before .before .before .before .before .before .before .before .before .args .from) (c .before .before .before .before .before .before .before .before .before .before .before .before .before .before .before .before .args .seed)
+same-length-2 c =
+    let st = c .before .before .before .before .before .before .before .before .before .before .before .before .before .before .before .before in
+    c .before .before .before .before .grow .kept .1 .1 .1 .1 .1 .1 .1 .1 .1 .1 .1 .1 .1 .1 .0 ∙ length-set (st .args .queue .now) (st .args .from) (st .args .seed)
 
 returns : tie.Need-returns
-returns c = (
-  omega (arith, c .before .before .before .before .grow .ensures .0),
-  (
-    c .before .before .before .before .grow .ensures .1 .0,
-    λ adj rows.
-        seed-grown (c .before .before .before .before .before .before .before .before .before .before .before .before .before .before .before .before .args .np) adj (takesIn (c .before .before .before .before .before .before .before .before .before .before .before .before .before .before .before .before .args .area .now) (c .before .before .before .before .before .before .before .before .before .before .before .before .before .before .before .before .args .handles .now) (c .before .before .before .before .before .before .before .before .before .before .before .before .before .before .before .before .args .n) (c .before .before .before .before .before .before .before .before .before .before .before .before .before .before .before .before .args .rows .now) (c .before .before .before .before .before .before .before .before .before .before .before .before .before .before .before .before .args .tsorted .now) (c .before .before .before .before .before .before .before .before .before .before .before .before .before .before .before .before .args .tstarts .now) (c .before .before .before .before .before .before .before .before .before .before .before .before .before .before .before .before .args .least) (c .before .before .before .before .before .before .before .before .before .before .before .before .before .before .before .before .args .most) (c .before .before .before .before .before .before .before .before .before .before .before .before .before .before .before .before .args .seed)) (c .before .before .before .before .before .before .before .before .before .before .before .before .before .before .before .before .args .mark) (c .before .before .before .before .before .before .before .before .before .before .before .before .before .before .before .before .pre .1 .1 .1 .0 .1) (c .before .before .before .before .before .before .before .before .before .before .before .before .before .before .before .before .args .assigned .now) (c .before .before .before .before .before .before .before .before .before .before .before .before .before .before .before .before .args .queue .now) (c .before .before .before .before .before .before .before .before .before .before .before .before .before .before .before .before .args .from) (c .before .before .before .before .before .before .before .before .before .before .before .before .before .before .before .before .args .seed) (c .before .before .before .before .before .before .before .before .before .before .before .before .before .before .before .before .pre .1 .1 .1 .1 .1 .0) (c .before .before .before .before .before .before .before .before .before .before .before .before .before .before .before .before .pre .1 .1 .1 .0 .0) (c .before .before .before .before .before .before .before .before .before .before .before .before .before .before .before .before .pre .1 .1 .1 .1 .1 .1)
-        (c .before .before .before .before .grow .last .1 .1 .1 .1 .1 .1 .1 .1 .1 .1 .1 .1 .1 .0) (c .before .before .before .before .grow .last .1 .1 .1 .1 .1 .1 .1 .1 .1 .1 .1 .1 .1 .1 .0) (c .before .before .before .before .grow .result) (c .before .before .before .before .grow .ensures .1 .1 adj rows),
-  ),
-)
+returns c =
+    let st = c .before .before .before .before .before .before .before .before .before .before .before .before .before .before .before .before in (
+      omega (arith, c .before .before .before .before .grow .ensures .0),
+      (
+        c .before .before .before .before .grow .ensures .1 .0,
+        λ adj rows.
+            seed-grown (st .args .np) adj (takesIn (st .args .area .now) (st .args .handles .now) (st .args .n) (st .args .rows .now) (st .args .tsorted .now) (st .args .tstarts .now) (st .args .least) (st .args .most) (st .args .seed)) (st .args .mark) (st .pre .1 .1 .1 .0 .1) (st .args .assigned .now) (st .args .queue .now) (st .args .from) (st .args .seed) (st .pre .1 .1 .1 .1 .1 .0) (st .pre .1 .1 .1 .0 .0) (st .pre .1 .1 .1 .1 .1 .1)
+            (c .before .before .before .before .grow .last .1 .1 .1 .1 .1 .1 .1 .1 .1 .1 .1 .1 .1 .0) (c .before .before .before .before .grow .last .1 .1 .1 .1 .1 .1 .1 .1 .1 .1 .1 .1 .1 .1 .0) (c .before .before .before .before .grow .result) (c .before .before .before .before .grow .ensures .1 .1 adj rows),
+      ),
+    )
 
 pub start-group-spec : {M : Type 1} → statement M
 start-group-spec =

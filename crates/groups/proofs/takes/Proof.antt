@@ -1,72 +1,97 @@
-use borrow.Author.Needs.{needs}
-use mathlib.Core.Path.{_≡_, refl, sym, ap, _∙_}
-use mathlib.Core.Bool.{Bool, true, false, not, _&&_}
-use Prim.Native.Nat.{ℕ, _+_, _-_, _*_, _%_, _≤_, _<_}
+-- `groups::takes` meets its contract: from those of its calls.
+use Prim.Native.Nat.{_+_, _-_}
 use native.Mathlib.Omega.{arith}
-use lib.ListN.{length, getD, take, drop, length-set}
-use lib.Ieee.{nan}
-use Rattle.patches.specs.Rows.{vecIn}
 use Rattle.links.specs.Words.{rowIn}
 use Rattle.groups.specs.Rows.{takesIn}
 use Rattle.groups.proofs.Seeding.{table-part}
 use Rattle.groups.proofs.takes.Statement.{statement}
 use Rattle.groups.proofs.takes.Tie as tie
 
--- `groups::takes` meets its contract: from those of its calls.
-
 normal-of-requires : tie.Need-normal-of-requires
-normal-of-requires c κs = omega (arith, c .before .before .before .before .before .pre .1 .0, c .before .before .before .before .before .pre .1 .1 .1)
+normal-of-requires c κs =
+    let st = c .before .before .before .before .before in
+    omega (arith, st .pre .1 .0, st .pre .1 .1 .1)
 
 normal-of-requires-2 : tie.Need-normal-of-requires-2
-normal-of-requires-2 c κs = omega (arith, c .before .before .before .before .before .before .pre .1 .0, c .before .before .before .before .before .before .pre .1 .1 .1)
+normal-of-requires-2 c κs =
+    let st = c .before .before .before .before .before .before in
+    omega (arith, st .pre .1 .0, st .pre .1 .1 .1)
 
 mul-offset : tie.Need-mul-offset
-mul-offset c = omega (arith, c .before .before .before .before .before .before .before .before .before .pre .1 .0, c .before .before .before .before .before .before .before .before .before .pre .1 .1 .1)
+mul-offset c =
+    let st = c .before .before .before .before .before .before .before .before .before in
+    omega (arith, st .pre .1 .0, st .pre .1 .1 .1)
 
 add-offset : tie.Need-add-offset
-add-offset c = omega (arith, c .before .before .before .before .before .before .before .before .before .pre .1 .0, c .before .before .before .before .before .before .before .before .before .pre .1 .1 .1)
+add-offset c =
+    let st = c .before .before .before .before .before .before .before .before .before in
+    omega (arith, st .pre .1 .0, st .pre .1 .1 .1)
 
 mul-offset-2 : tie.Need-mul-offset-2
-mul-offset-2 c = omega (arith, c .before .before .before .before .before .before .before .before .before .pre .1 .0, c .before .before .before .before .before .before .before .before .before .pre .1 .1 .1)
+mul-offset-2 c =
+    let st = c .before .before .before .before .before .before .before .before .before in
+    omega (arith, st .pre .1 .0, st .pre .1 .1 .1)
 
 shared-slice-read-offset : tie.Need-shared-slice-read-offset
-shared-slice-read-offset c = omega (arith, c .before .before .before .before .before .before .before .before .before .before .pre .1 .0, c .before .before .before .before .before .before .before .before .before .before .pre .1 .1 .1)
+shared-slice-read-offset c =
+    let st = c .before .before .before .before .before .before .before .before .before .before in
+    omega (arith, st .pre .1 .0, st .pre .1 .1 .1)
 
 mul-from : tie.Need-mul-from
-mul-from c = let t = c .before .before .before .before .before .before .before .before .before .before .pre .1 .1 .0 .long in omega (arith, t, c .before .before .before .before .before .before .before .before .before .before .pre .1 .1 .1)
+mul-from c =
+    let st = c .before .before .before .before .before .before .before .before .before .before in
+    let t = st .pre .1 .1 .0 .long in omega (arith, t, st .pre .1 .1 .1)
 
 shared-slice-read-from : tie.Need-shared-slice-read-from
-shared-slice-read-from c = let t = c .before .before .before .before .before .before .before .before .before .before .before .pre .1 .1 .0 .long in omega (arith, t, c .before .before .before .before .before .before .before .before .before .before .before .pre .1 .1 .1)
+shared-slice-read-from c =
+    let st = c .before .before .before .before .before .before .before .before .before .before .before in
+    let t = st .pre .1 .1 .0 .long in omega (arith, t, st .pre .1 .1 .1)
 
 cast-from : tie.Need-cast-from
 cast-from c = omega (arith, c .shared-slice-known7 .given (c .before .before .before .before .before .before .before .before .before .before .before .args .b) .fits)
 
 add-to : tie.Need-add-to
-add-to c = let t = c .before .before .before .before .before .before .before .before .before .before .before .pre .1 .1 .0 .long in omega (arith, t, c .before .before .before .before .before .before .before .before .before .before .before .pre .1 .1 .1)
+add-to c =
+    let st = c .before .before .before .before .before .before .before .before .before .before .before in
+    let t = st .pre .1 .1 .0 .long in omega (arith, t, st .pre .1 .1 .1)
 
 mul-to : tie.Need-mul-to
-mul-to c = let t = c .before .before .before .before .before .before .before .before .before .before .before .pre .1 .1 .0 .long in omega (arith, t, c .before .before .before .before .before .before .before .before .before .before .before .pre .1 .1 .1)
+mul-to c =
+    let st = c .before .before .before .before .before .before .before .before .before .before .before in
+    let t = st .pre .1 .1 .0 .long in omega (arith, t, st .pre .1 .1 .1)
 
 shared-slice-read-to : tie.Need-shared-slice-read-to
-shared-slice-read-to c = let t = c .before .before .before .before .before .before .before .before .before .before .before .before .pre .1 .1 .0 .long in omega (arith, t, c .before .before .before .before .before .before .before .before .before .before .before .before .pre .1 .1 .1)
+shared-slice-read-to c =
+    let st = c .before .before .before .before .before .before .before .before .before .before .before .before in
+    let t = st .pre .1 .1 .0 .long in omega (arith, t, st .pre .1 .1 .1)
 
 cast-to : tie.Need-cast-to
 cast-to c = omega (arith, c .shared-slice-known8 .given (c .before .before .before .before .before .before .before .before .before .before .before .before .args .b + 1) .fits)
 
 mul-is-within : tie.Need-mul-is-within
-mul-is-within c = let f = c .before .before .before .before .before .before .before .before .before .before .before .before .pre .1 .1 .0 .fenced in let r = f .rise (c .before .before .before .before .before .before .before .before .before .before .before .before .args .b) (c .before .before .before .before .before .before .before .before .before .before .before .before .pre .1 .1 .1 .1) in let e = f .ends (c .before .before .before .before .before .before .before .before .before .before .before .before .args .b + 1) (omega (arith, c .before .before .before .before .before .before .before .before .before .before .before .before .pre .1 .1 .1 .1)) in omega (arith, r, e)
+mul-is-within c =
+    let st = c .before .before .before .before .before .before .before .before .before .before .before .before in
+    let f = st .pre .1 .1 .0 .bounds in let r = f .rise (st .args .b) (st .pre .1 .1 .1 .1) in let e = f .ends (st .args .b + 1) (omega (arith, st .pre .1 .1 .1 .1)) in omega (arith, r, e)
 
 sub-is-within : tie.Need-sub-is-within
-sub-is-within c = let f = c .before .before .before .before .before .before .before .before .before .before .before .before .pre .1 .1 .0 .fenced in let r = f .rise (c .before .before .before .before .before .before .before .before .before .before .before .before .args .b) (c .before .before .before .before .before .before .before .before .before .before .before .before .pre .1 .1 .1 .1) in let e = f .ends (c .before .before .before .before .before .before .before .before .before .before .before .before .args .b + 1) (omega (arith, c .before .before .before .before .before .before .before .before .before .before .before .before .pre .1 .1 .1 .1)) in omega (arith, r, e)
+sub-is-within c =
+    let st = c .before .before .before .before .before .before .before .before .before .before .before .before in
+    let f = st .pre .1 .1 .0 .bounds in let r = f .rise (st .args .b) (st .pre .1 .1 .1 .1) in let e = f .ends (st .args .b + 1) (omega (arith, st .pre .1 .1 .1 .1)) in omega (arith, r, e)
 
 part-is-within-start : tie.Need-part-is-within-start
-part-is-within-start c = let f = c .before .before .before .before .before .before .before .before .before .before .before .before .pre .1 .1 .0 .fenced in let r = f .rise (c .before .before .before .before .before .before .before .before .before .before .before .before .args .b) (c .before .before .before .before .before .before .before .before .before .before .before .before .pre .1 .1 .1 .1) in let e = f .ends (c .before .before .before .before .before .before .before .before .before .before .before .before .args .b + 1) (omega (arith, c .before .before .before .before .before .before .before .before .before .before .before .before .pre .1 .1 .1 .1)) in omega (arith, r, e)
+part-is-within-start c =
+    let st = c .before .before .before .before .before .before .before .before .before .before .before .before in
+    let f = st .pre .1 .1 .0 .bounds in let r = f .rise (st .args .b) (st .pre .1 .1 .1 .1) in let e = f .ends (st .args .b + 1) (omega (arith, st .pre .1 .1 .1 .1)) in omega (arith, r, e)
 
 part-is-within-end : tie.Need-part-is-within-end
-part-is-within-end c = let f = c .before .before .before .before .before .before .before .before .before .before .before .before .pre .1 .1 .0 .fenced in let r = f .rise (c .before .before .before .before .before .before .before .before .before .before .before .before .args .b) (c .before .before .before .before .before .before .before .before .before .before .before .before .pre .1 .1 .1 .1) in let e = f .ends (c .before .before .before .before .before .before .before .before .before .before .before .before .args .b + 1) (omega (arith, c .before .before .before .before .before .before .before .before .before .before .before .before .pre .1 .1 .1 .1)) in omega (arith, r, e)
+part-is-within-end c =
+    let st = c .before .before .before .before .before .before .before .before .before .before .before .before in
+    let f = st .pre .1 .1 .0 .bounds in let r = f .rise (st .args .b) (st .pre .1 .1 .1 .1) in let e = f .ends (st .args .b + 1) (omega (arith, st .pre .1 .1 .1 .1)) in omega (arith, r, e)
 
 is-within-requires : tie.Need-is-within-requires
-is-within-requires c κs = (c .before .before .before .before .before .before .before .before .before .before .before .before .before .pre .0, table-part (c .before .before .before .before .before .before .before .before .before .before .before .before .before .args .np) (c .before .before .before .before .before .before .before .before .before .before .before .before .before .args .n) (c .before .before .before .before .before .before .before .before .before .before .before .before .before .args .tsorted .now) (c .before .before .before .before .before .before .before .before .before .before .before .before .before .args .tstarts .now) (c .before .before .before .before .before .before .before .before .before .before .before .before .before .args .b) (c .before .before .before .before .before .before .before .before .before .before .before .before .before .pre .1 .1 .0) (c .before .before .before .before .before .before .before .before .before .before .before .before .before .pre .1 .1 .1 .1))
+is-within-requires c κs =
+    let st = c .before .before .before .before .before .before .before .before .before .before .before .before .before in
+    (st .pre .0, table-part (st .args .np) (st .args .n) (st .args .tsorted .now) (st .args .tstarts .now) (st .args .b) (st .pre .1 .1 .0) (st .pre .1 .1 .1 .1))
 
 returns : tie.Need-returns
 unfolding takesIn rowIn

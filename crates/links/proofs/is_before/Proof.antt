@@ -1,12 +1,10 @@
+-- `links::is_before` meets its contract, case by case.
 use borrow.Author.Needs.{needs}
-use mathlib.Core.Path.{_≡_, refl, sym, ap, _∙_}
-use mathlib.Core.Bool.{Bool, true, false}
+use mathlib.Core.Path.{refl}
 use native.Mathlib.Omega.{arith}
 use Rattle.links.proofs.Rising.{clash}
 use Rattle.links.proofs.is_before.Statement.{statement}
 use Rattle.links.proofs.is_before.Tie as tie
-
--- `links::is_before` meets its contract, case by case.
 
 cast-if2 : tie.Need-cast-if2
 cast-if2 c = omega (arith, c .shared-slice-known .given (c .before .before .args .i) .fits)

@@ -1,29 +1,28 @@
+-- `links::link_row` meets its contract: by the number of patches.
 use borrow.Author.Needs.{needs}
-use mathlib.Core.Path.{_≡_, refl, sym, ap, _∙_}
-use mathlib.Core.Bool.{Bool, _&&_, _||_}
-use Prim.Native.Nat.{ℕ, _+_, _-_, _*_, _%_, _≤_, _<_}
+use mathlib.Core.Path.{ap, _∙_}
+use mathlib.Core.Bool.{Bool, _||_}
+use Prim.Native.Nat.{_-_}
 use native.Mathlib.Omega.{arith}
-use lib.Dec.{eqb}
-use lib.ListN.{length, getD, take, drop}
 use Rattle.links.specs.Words.{has, wordOf, uppers, lows}
 use Rattle.links.proofs.Linking.{lows-length, row-all, row-next}
 use Rattle.links.proofs.link_row.Statement.{statement}
 use Rattle.links.proofs.link_row.Tie as tie
-
--- `links::link_row` meets its contract: by the number of patches.
 
 link-all-requires : tie.Need-link-all-requires
 link-all-requires c κs = (omega arith, omega arith)
 
 returns : tie.Need-returns
 returns c =
-    let row = c .before .before .before .before .before .before .before .args .row .now in
-    (c .before .before .link-all .ensures .0, λ a b h. c .before .before .link-all .ensures .1 a b h ∙ ap (λ (t : Bool). has (wordOf a b) (uppers (c .before .before .before .before .before .before .before .args .words .now) (c .before .before .before .before .before .before .before .args .from)) || t) (row-all (lows row) a b (rw (lows-length row) (c .before .before .before .before .if1 .taken))))
+    let st = c .before .before .before .before .before .before .before in
+    let row = st .args .row .now in
+    (c .before .before .link-all .ensures .0, λ a b h. c .before .before .link-all .ensures .1 a b h ∙ ap (λ (t : Bool). has (wordOf a b) (uppers (st .args .words .now) (st .args .from)) || t) (row-all (lows row) a b (rw (lows-length row) (c .before .before .before .before .if1 .taken))))
 
 returns-2 : tie.Need-returns-2
 returns-2 c =
-    let row = c .before .before .before .before .before .before .before .args .row .now in
-    (c .before .before .link-neighbours .ensures .0, λ a b h. c .before .before .link-neighbours .ensures .1 a b h ∙ ap (λ (t : Bool). has (wordOf a b) (uppers (c .before .before .before .before .before .before .before .args .words .now) (c .before .before .before .before .before .before .before .args .from)) || t) (row-next (lows row) a b (rw (lows-length row) (c .before .before .before .before .if1 .left))))
+    let st = c .before .before .before .before .before .before .before in
+    let row = st .args .row .now in
+    (c .before .before .link-neighbours .ensures .0, λ a b h. c .before .before .link-neighbours .ensures .1 a b h ∙ ap (λ (t : Bool). has (wordOf a b) (uppers (st .args .words .now) (st .args .from)) || t) (row-next (lows row) a b (rw (lows-length row) (c .before .before .before .before .if1 .left))))
 
 pub link-row-spec : {M : Type 1} → statement M
 link-row-spec =

@@ -1,26 +1,29 @@
+-- `links::make_rows` meets its contract: `sort_rows` of the first k words.
 use borrow.Author.Needs.{needs}
-use mathlib.Core.Path.{_≡_, refl, sym, ap, _∙_}
-use Prim.Native.Nat.{ℕ, _+_, _-_, _*_, _≤_, _<_}
+use mathlib.Core.Path.{sym, _∙_}
+use Prim.Native.Nat.{_-_}
 use native.Mathlib.Omega.{arith}
-use lib.ListN.{length, getD, take, drop}
-use lib.Seq.{length-take-le, length-front}
+use lib.Seq.{length-take-le}
 use Rattle.links.specs.Words.{uppers}
 use Rattle.links.proofs.make_rows.Statement.{statement}
 use Rattle.links.proofs.make_rows.Tie as tie
 
--- `links::make_rows` meets its contract: `sort_rows` of the first k words.
-
 slice-aggregate-sort-rows : tie.Need-slice-aggregate-sort-rows
-slice-aggregate-sort-rows c = sym (length-take-le (c .before .before .before .before .before .args .k) (c .before .before .before .before .before .args .words .now) (c .before .before .before .before .before .pre .0))
+slice-aggregate-sort-rows c =
+    let st = c .before .before .before .before .before in
+    sym (length-take-le (st .args .k) (st .args .words .now) (st .pre .0))
 
 slice-aggregate-sort-rows-2 : tie.Need-slice-aggregate-sort-rows-2
-slice-aggregate-sort-rows-2 c = sym (length-take-le (c .before .before .before .before .before .before .args .k) (c .before .before .before .before .before .before .args .scratch .now) (c .before .before .before .before .before .before .pre .1 .0))
+slice-aggregate-sort-rows-2 c =
+    let st = c .before .before .before .before .before .before in
+    sym (length-take-le (st .args .k) (st .args .scratch .now) (st .pre .1 .0))
 
 sort-rows-requires : tie.Need-sort-rows-requires
 sort-rows-requires c κs =
-    let w = length-take-le (c .before .before .before .before .before .before .before .before .args .k) (c .before .before .before .before .before .before .before .before .args .words .now) (c .before .before .before .before .before .before .before .before .pre .0) in
-    let s = length-take-le (c .before .before .before .before .before .before .before .before .args .k) (c .before .before .before .before .before .before .before .before .args .scratch .now) (c .before .before .before .before .before .before .before .before .pre .1 .0) in
-    let p = c .before .before .before .before .before .before .before .before .pre .1 .1 in
+    let st = c .before .before .before .before .before .before .before .before in
+    let w = length-take-le (st .args .k) (st .args .words .now) (st .pre .0) in
+    let s = length-take-le (st .args .k) (st .args .scratch .now) (st .pre .1 .0) in
+    let p = st .pre .1 .1 in
     (s ∙ sym w, (omega (arith, w, p .0), (omega (arith, w, p .1 .0), (p .1 .1 .0, p .1 .1 .1))))
 
 returns : tie.Need-returns

@@ -1,26 +1,28 @@
+-- `links::patch_rows` meets its contract: the words, and their rows (`patch-row`).
 use borrow.Author.Needs.{needs}
-use mathlib.Core.Path.{_≡_, refl, sym, ap, _∙_}
-use Prim.Native.Nat.{ℕ, _+_, _-_, _*_, _≤_, _<_}
+use mathlib.Core.Path.{_∙_}
+use Prim.Native.Nat.{_-_}
 use native.Mathlib.Omega.{arith}
-use lib.ListN.{length, getD, take, drop}
-use lib.Seq.{length-take-le, length-front}
 use Rattle.links.proofs.Pushing.{patch-row}
 use Rattle.links.proofs.patch_rows.Statement.{statement}
 use Rattle.links.proofs.patch_rows.Tie as tie
 
--- `links::patch_rows` meets its contract: the words, and their rows (`patch-row`).
-
 patch-words-requires : tie.Need-patch-words-requires
-patch-words-requires c κs = (c .before .before .before .before .before .before .pre .0, (c .before .before .before .before .before .before .pre .1 .0, (c .before .before .before .before .before .before .pre .1 .1 .0, c .before .before .before .before .before .before .pre .1 .1 .1 .0)))
+patch-words-requires c κs =
+    let st = c .before .before .before .before .before .before in
+    (st .pre .0, (st .pre .1 .0, (st .pre .1 .1 .0, st .pre .1 .1 .1 .0)))
 
 make-rows-requires : tie.Need-make-rows-requires
 make-rows-requires c κs =
-    let p = c .before .before .before .before .before .before .before .before .before .before .before .before .before .pre .1 .1 .1 in
+    let st = c .before .before .before .before .before .before .before .before .before .before .before .before .before in
+    let p = st .pre .1 .1 .1 in
     let k = c .before .before .before .before .before .before .patch-words .ensures .0 in
-    (omega (arith, p .0, k, c .before .before .before .before .before .before .patch-words .kept .1 .1 .1 .0), (omega (arith, p .1 .0, k), (omega (arith, p .1 .1 .0, k), (omega (arith, k, c .before .before .before .before .before .before .before .before .before .before .before .before .before .pre .0), (omega (arith, c .before .before .before .before .before .before .before .before .before .before .before .before .before .pre .1 .0), p .1 .1 .1)))))
+    (omega (arith, p .0, k, c .before .before .before .before .before .before .patch-words .kept .1 .1 .1 .0), (omega (arith, p .1 .0, k), (omega (arith, p .1 .1 .0, k), (omega (arith, k, st .pre .0), (omega (arith, st .pre .1 .0), p .1 .1 .1)))))
 
 returns : tie.Need-returns
-returns c = (c .before .before .before .before .before .before .before .before .make-rows .ensures .fenced, λ p h. c .before .before .before .before .before .before .before .before .make-rows .ensures .are p h ∙ patch-row (c .before .before .before .before .before .before .before .before .before .before .before .before .before .before .before .before .before .before .before .before .before .before .args .of .now) (c .before .before .before .before .before .before .before .before .before .before .before .before .before .before .before .patch-words .last .1 .1 .1 .0) (c .before .before .before .before .before .before .before .before .before .before .before .before .before .before .before .patch-words .result) (c .before .before .before .before .before .before .before .before .before .before .before .before .before .before .before .before .before .before .before .before .before .before .args .m) (c .before .before .before .before .before .before .before .before .before .before .before .before .before .before .before .before .before .before .before .before .before .before .args .np) p (c .before .before .before .before .before .before .before .before .before .before .before .before .before .before .before .patch-words .ensures .1) (c .before .before .before .before .before .before .before .before .before .before .before .before .before .before .before .before .before .before .before .before .before .before .pre .0) (c .before .before .before .before .before .before .before .before .before .before .before .before .before .before .before .before .before .before .before .before .before .before .pre .1 .1 .0) h)
+returns c =
+    let st = c .before .before .before .before .before .before .before .before .before .before .before .before .before .before .before .before .before .before .before .before .before .before in let mr = c .before .before .before .before .before .before .before .before .make-rows in
+    (mr .ensures .bounds, λ p h. mr .ensures .are p h ∙ patch-row (st .args .of .now) (c .before .before .before .before .before .before .before .before .before .before .before .before .before .before .before .patch-words .last .1 .1 .1 .0) (c .before .before .before .before .before .before .before .before .before .before .before .before .before .before .before .patch-words .result) (st .args .m) (st .args .np) p (c .before .before .before .before .before .before .before .before .before .before .before .before .before .before .before .patch-words .ensures .1) (st .pre .0) (st .pre .1 .1 .0) h)
 
 pub patch-rows-spec : {M : Type 1} → statement M
 patch-rows-spec =

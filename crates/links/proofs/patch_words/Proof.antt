@@ -1,15 +1,11 @@
-use borrow.Author.Needs.{needs}
-use mathlib.Core.Path.{_≡_, refl, sym, ap, _∙_}
-use mathlib.Core.Bool.{Bool, _&&_, _||_}
-use Prim.Native.Nat.{ℕ, _+_, _-_, _*_, _%_, _≤_, _<_}
+-- `links::patch_words` meets its contract: the loop keeps `Told`.
+use mathlib.Core.Path.{_≡_, refl, _∙_}
+use Prim.Native.Nat.{_-_, _≤_}
 use native.Mathlib.Omega.{arith}
-use lib.Dec.{eqb}
-use lib.ListN.{length, getD, take, drop}
+use lib.ListN.{length}
 use Rattle.links.proofs.Pushing.{Told, told-none, patchTest, patch-skip, patch-more}
 use Rattle.links.proofs.patch_words.Statement.{statement}
 use Rattle.links.proofs.patch_words.Tie as tie
-
--- `links::patch_words` meets its contract: the loop keeps `Told`.
 
 abbrev Inv-loop : tie.InvT-loop
 Inv-loop of m np words₀ k₀ i₀ words k i = (i ≤ m) × (k ≤ i) × (length words ≡ length words₀) × Told (patchTest of np) words k i
@@ -18,22 +14,30 @@ abbrev μ-loop : tie.MeasureT-loop
 μ-loop of m np words₀ k₀ i₀ words k i = m - i
 
 loop-holds : tie.Need-loop-holds Inv-loop μ-loop
-loop-holds c = (omega arith, omega arith, refl, told-none (patchTest (c .before .before .args .of .now) (c .before .before .args .np)) (c .before .before .args .words .now))
+loop-holds c =
+    let st = c .before .before in
+    (omega arith, omega arith, refl, told-none (patchTest (st .args .of .now) (st .args .np)) (st .args .words .now))
 
 loop-again : tie.Need-loop-again Inv-loop μ-loop
-loop-again c = (omega arith, omega arith, c .before .before .before .loop .inv .2, patch-skip (c .before .before .before .before .before .before .args .of .now) (c .before .before .before .before .before .before .args .np) (c .before .before .before .loop .words) (c .before .before .before .loop .k) (c .before .before .before .loop .i) (c .before .before .before .loop .inv .3) (c .if1 .taken))
+loop-again c =
+    let st = c .before .before .before .before .before .before in let lp = c .before .before .before .loop in
+    (omega arith, omega arith, lp .inv .2, patch-skip (st .args .of .now) (st .args .np) (lp .words) (lp .k) (lp .i) (lp .inv .3) (c .if1 .taken))
 
 push-requires : tie.Need-push-requires Inv-loop μ-loop
 push-requires c κs = (omega (arith, c .before .before .before .before .loop .inv .2), (omega (arith, c .before .if1 .left), omega arith))
 
 loop-again-2 : tie.Need-loop-again-2 Inv-loop μ-loop
-loop-again-2 c = (omega arith, omega (arith, c .before .before .push .ensures .0), c .before .before .push .kept .0 ∙ c .before .before .before .before .before .before .before .loop .inv .2, patch-more (c .before .before .before .before .before .before .before .before .before .before .args .of .now) (c .before .before .before .before .before .before .before .before .before .before .args .np) (c .before .before .before .before .before .before .before .loop .words) (c .before .before .before .before .before .before .before .loop .k) (c .before .before .before .before .before .before .before .loop .i) (c .before .before .before .before .before .before .before .loop .inv .3) (c .before .before .push .last .0) (c .before .before .push .result) (c .before .before .before .before .if1 .left) (omega arith) (c .before .before .push .ensures .1))
+loop-again-2 c =
+    let st = c .before .before .before .before .before .before .before .before .before .before in let lp = c .before .before .before .before .before .before .before .loop in
+    (omega arith, omega (arith, c .before .before .push .ensures .0), c .before .before .push .kept .0 ∙ lp .inv .2, patch-more (st .args .of .now) (st .args .np) (lp .words) (lp .k) (lp .i) (lp .inv .3) (c .before .before .push .last .0) (c .before .before .push .result) (c .before .before .before .before .if1 .left) (omega arith) (c .before .before .push .ensures .1))
 
 same-length : tie.Need-same-length Inv-loop μ-loop
 same-length c = c .before .loop .inv .2
 
 returns : tie.Need-returns Inv-loop μ-loop
-returns c = let e : c .before .loop .i ≡ c .before .before .before .before .args .m = omega arith in (omega arith, rw e at (c .before .loop .inv .3))
+returns c =
+    let lp = c .before .loop in
+    let e : lp .i ≡ c .before .before .before .before .args .m = omega arith in (omega arith, rw e at (lp .inv .3))
 
 pub patch-words-spec : {M : Type 1} → statement M
 patch-words-spec =

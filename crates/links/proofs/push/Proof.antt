@@ -1,16 +1,16 @@
+-- `links::push` meets its contract: the word's upper half is the word of p and q (`pushed`).
 use borrow.Author.Needs.{needs}
-use mathlib.Core.Path.{_≡_, refl, sym, ap, _∙_}
-use Prim.Native.Nat.{ℕ, _+_, _*_}
+use mathlib.Core.Path.{refl}
 use native.Mathlib.Omega.{arith}
 use Rattle.links.specs.Words.{wordOf}
 use Rattle.links.proofs.Compacting.{pushed}
 use Rattle.links.proofs.push.Statement.{statement}
 use Rattle.links.proofs.push.Tie as tie
 
--- `links::push` meets its contract: the word's upper half is the word of p and q (`pushed`).
-
 returns : tie.Need-returns
-returns c = (refl, pushed (c .args .words .now) (c .args .k) (wordOf (c .args .p) (c .args .q)) (c .pre .0))
+returns c =
+    let st = c in
+    (refl, pushed (st .args .words .now) (st .args .k) (wordOf (st .args .p) (st .args .q)) (st .pre .0))
 
 pub push-spec : {M : Type 1} → statement M
 push-spec =

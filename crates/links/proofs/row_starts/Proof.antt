@@ -1,13 +1,11 @@
-use borrow.Author.Needs.{needs}
-use mathlib.Core.Path.{_≡_, refl, sym, ap, _∙_}
-use Prim.Native.Nat.{ℕ, _+_, _-_, _*_, _≤_, _<_}
+-- `links::row_starts` meets its contract: the loop keeps `Starting`, and either passes a word or ends a row.
+use mathlib.Core.Path.{_≡_, refl, _∙_}
+use Prim.Native.Nat.{_+_, _-_, _≤_}
 use native.Mathlib.Omega.{arith}
 use lib.ListN.{length, length-set}
 use Rattle.links.proofs.Cutting.{Starting, start-none, start-pass, start-row}
 use Rattle.links.proofs.row_starts.Statement.{statement}
 use Rattle.links.proofs.row_starts.Tie as tie
-
--- `links::row_starts` meets its contract: the loop keeps `Starting`, and either passes a word or ends a row.
 
 abbrev Inv-loop : tie.InvT-loop
 Inv-loop sorted rows starts₀ r₀ i₀ starts r i = (r ≤ rows + 1) × (i ≤ length sorted) × (length starts ≡ length starts₀) × Starting sorted starts r i
@@ -16,7 +14,9 @@ abbrev μ-loop : tie.MeasureT-loop
 μ-loop sorted rows starts₀ r₀ i₀ starts r i = (rows + 1 - r) + (length sorted - i)
 
 loop-holds : tie.Need-loop-holds Inv-loop μ-loop
-loop-holds c = (omega arith, omega arith, refl, start-none (c .before .before .args .sorted .now) (c .before .before .args .starts .now))
+loop-holds c =
+    let st = c .before .before in
+    (omega arith, omega arith, refl, start-none (st .args .sorted .now) (st .args .starts .now))
 
 add-i : tie.Need-add-i Inv-loop μ-loop
 add-i c = let b = c .before .is-before .ensures .0 (c .if1 .taken) in omega (arith, b .0)
@@ -26,8 +26,9 @@ loop-less c = let b = c .before .is-before .ensures .0 (c .if1 .taken) in omega 
 
 loop-again : tie.Need-loop-again Inv-loop μ-loop
 loop-again c =
+    let lp = c .before .before .before .loop in
     let b = c .before .is-before .ensures .0 (c .if1 .taken) in
-    (omega arith, omega (arith, b .0), c .before .before .before .loop .inv .2, start-pass (c .before .before .before .before .before .before .args .sorted .now) (c .before .before .before .loop .starts) (c .before .before .before .loop .r) (c .before .before .before .loop .i) (c .before .before .before .loop .inv .3) (b .0) (b .1))
+    (omega arith, omega (arith, b .0), lp .inv .2, start-pass (c .before .before .before .before .before .before .args .sorted .now) (lp .starts) (lp .r) (lp .i) (lp .inv .3) (b .0) (b .1))
 
 mul-starts : tie.Need-mul-starts Inv-loop μ-loop
 mul-starts c = omega (arith, c .before .before .before .loop .inv .2, c .before .before .before .before .before .before .pre .1 .0)
@@ -36,12 +37,13 @@ slice-write-starts : tie.Need-slice-write-starts Inv-loop μ-loop
 slice-write-starts c = omega (arith, c .before .before .before .loop .inv .2, c .before .before .before .before .before .before .pre .1 .0)
 
 loop-again-2 : tie.Need-loop-again-2 Inv-loop μ-loop
-loop-again-2 c = (
-  omega arith,
-  omega arith,
-  length-set (c .before .before .before .loop .starts) (c .before .before .before .loop .r) (c .before .before .before .loop .i) ∙ c .before .before .before .loop .inv .2,
-  start-row (c .before .before .before .before .before .before .args .sorted .now) (c .before .before .before .loop .starts) (c .before .before .before .loop .r) (c .before .before .before .loop .i) (c .before .before .before .loop .inv .3) (c .before .before .before .before .before .before .pre .1 .1 .1) (omega (arith, c .before .before .before .loop .inv .2, c .before .before .before .before .before .before .pre .1 .0)) (c .before .is-before .ensures .1 (c .if1 .left)),
-)
+loop-again-2 c =
+    let st = c .before .before .before .before .before .before in let lp = c .before .before .before .loop in (
+      omega arith,
+      omega arith,
+      length-set (lp .starts) (lp .r) (lp .i) ∙ lp .inv .2,
+      start-row (st .args .sorted .now) (lp .starts) (lp .r) (lp .i) (lp .inv .3) (st .pre .1 .1 .1) (omega (arith, lp .inv .2, st .pre .1 .0)) (c .before .is-before .ensures .1 (c .if1 .left)),
+    )
 
 same-length : tie.Need-same-length Inv-loop μ-loop
 same-length c = c .before .loop .inv .2

@@ -1,14 +1,12 @@
+-- `links::sort_rows` meets its contract: the words sorted, without repeats, and cut into rows (`rows-are`).
 use borrow.Author.Needs.{needs}
-use mathlib.Core.Path.{_≡_, refl, sym, ap, _∙_}
-use Prim.Native.Nat.{ℕ, _+_, _-_, _*_, _≤_, _<_}
+use mathlib.Core.Path.{sym}
+use Prim.Native.Nat.{_-_}
 use native.Mathlib.Omega.{arith}
-use lib.ListN.{length, take}
 use lib.Seq.{length-take-le}
 use Rattle.links.proofs.Cutting.{set-sorted, rows-are}
 use Rattle.links.proofs.sort_rows.Statement.{statement}
 use Rattle.links.proofs.sort_rows.Tie as tie
-
--- `links::sort_rows` meets its contract: the words sorted, without repeats, and cut into rows (`rows-are`).
 
 sort-words-requires : tie.Need-sort-words-requires
 sort-words-requires c κs = c .before .before .before .before .before .before .pre .0
@@ -17,28 +15,34 @@ compact-requires : tie.Need-compact-requires
 compact-requires c κs = omega (arith, c .before .before .before .before .before .before .sort-words .kept .0, c .before .before .before .before .before .before .before .before .before .before .before .before .before .pre .1 .0)
 
 slice-reshare-prefix-row-starts : tie.Need-slice-reshare-prefix-row-starts
-slice-reshare-prefix-row-starts c = omega (arith, c .before .before .compact .ensures .0, c .before .before .compact .kept .1 .0, c .before .before .before .before .before .before .before .before .before .sort-words .kept .0, c .before .before .before .before .before .before .before .before .before .before .before .before .before .before .before .before .pre .1 .0)
+slice-reshare-prefix-row-starts c =
+    let cp = c .before .before .compact in
+    omega (arith, cp .ensures .0, cp .kept .1 .0, c .before .before .before .before .before .before .before .before .before .sort-words .kept .0, c .before .before .before .before .before .before .before .before .before .before .before .before .before .before .before .before .pre .1 .0)
 
 slice-aggregate-row-starts : tie.Need-slice-aggregate-row-starts
-slice-aggregate-row-starts c = sym (length-take-le (c .before .before .before .compact .result) (c .before .before .before .compact .last .1 .0) (omega (arith, c .before .before .before .compact .ensures .0, c .before .before .before .compact .kept .1 .0, c .before .before .before .before .before .before .before .before .before .before .sort-words .kept .0, c .before .before .before .before .before .before .before .before .before .before .before .before .before .before .before .before .before .pre .1 .0)))
+slice-aggregate-row-starts c =
+    let cp = c .before .before .before .compact in
+    sym (length-take-le (cp .result) (cp .last .1 .0) (omega (arith, cp .ensures .0, cp .kept .1 .0, c .before .before .before .before .before .before .before .before .before .before .sort-words .kept .0, c .before .before .before .before .before .before .before .before .before .before .before .before .before .before .before .before .before .pre .1 .0)))
 
 row-starts-requires : tie.Need-row-starts-requires
 row-starts-requires c κs =
-    let t = length-take-le (c .before .before .before .before .compact .result) (c .before .before .before .before .compact .last .1 .0) (omega (arith, c .before .before .before .before .compact .ensures .0, c .before .before .before .before .compact .kept .1 .0, c .before .before .before .before .before .before .before .before .before .before .before .sort-words .kept .0, c .before .before .before .before .before .before .before .before .before .before .before .before .before .before .before .before .before .before .pre .1 .0)) in (
-      c .before .before .before .before .before .before .before .before .before .before .before .before .before .before .before .before .before .before .pre .1 .1 .1 .0,
+    let st = c .before .before .before .before .before .before .before .before .before .before .before .before .before .before .before .before .before .before in let sw = c .before .before .before .before .before .before .before .before .before .before .before .sort-words in let cp = c .before .before .before .before .compact in
+    let t = length-take-le (cp .result) (cp .last .1 .0) (omega (arith, cp .ensures .0, cp .kept .1 .0, sw .kept .0, st .pre .1 .0)) in (
+      st .pre .1 .1 .1 .0,
       (
-        c .before .before .before .before .before .before .before .before .before .before .before .before .before .before .before .before .before .before .pre .1 .1 .1 .1,
+        st .pre .1 .1 .1 .1,
         (
-          omega (arith, t, c .before .before .before .before .compact .ensures .0, c .before .before .before .before .before .before .before .before .before .before .before .sort-words .kept .0, c .before .before .before .before .before .before .before .before .before .before .before .before .before .before .before .before .before .before .pre .1 .1 .0),
-          set-sorted (c .before .before .before .before .before .before .before .before .before .before .before .before .before .before .before .before .before .before .args .words .now) (c .before .before .before .before .before .before .before .before .before .before .before .sort-words .last .0) (c .before .before .before .before .compact .last .1 .0) (c .before .before .before .before .compact .result) (c .before .before .before .before .before .before .before .before .before .before .before .sort-words .ensures) (c .before .before .before .before .compact .ensures .1),
+          omega (arith, t, cp .ensures .0, sw .kept .0, st .pre .1 .1 .0),
+          set-sorted (st .args .words .now) (sw .last .0) (cp .last .1 .0) (cp .result) (sw .ensures) (cp .ensures .1),
         ),
       ),
     )
 
 returns : tie.Need-returns
 returns c =
-    rows-are (c .before .before .before .before .before .before .before .before .before .before .before .before .before .before .before .before .before .before .before .before .before .args .words .now) (c .before .before .before .before .before .before .before .before .before .before .before .before .before .before .sort-words .last .0) (c .before .before .before .before .before .before .before .compact .last .1 .0) (c .before .before .before .before .before .before .before .compact .result) (c .before .before .before .before .before .before .before .before .before .before .before .before .before .before .sort-words .ensures) (c .before .before .before .before .before .before .before .compact .ensures .1)
-    (c .before .before .row-starts .last .1 .1 .0) (c .before .before .before .before .before .before .before .before .before .before .before .before .before .before .before .before .before .before .before .before .before .args .rows) (omega (arith, c .before .before .before .before .before .before .before .compact .ensures .0, c .before .before .before .before .before .before .before .compact .kept .1 .0, c .before .before .before .before .before .before .before .before .before .before .before .before .before .before .sort-words .kept .0, c .before .before .before .before .before .before .before .before .before .before .before .before .before .before .before .before .before .before .before .before .before .pre .1 .0)) (c .before .before .row-starts .ensures)
+    let st = c .before .before .before .before .before .before .before .before .before .before .before .before .before .before .before .before .before .before .before .before .before in let sw = c .before .before .before .before .before .before .before .before .before .before .before .before .before .before .sort-words in let cp = c .before .before .before .before .before .before .before .compact in
+    rows-are (st .args .words .now) (sw .last .0) (cp .last .1 .0) (cp .result) (sw .ensures) (cp .ensures .1)
+    (c .before .before .row-starts .last .1 .1 .0) (st .args .rows) (omega (arith, cp .ensures .0, cp .kept .1 .0, sw .kept .0, st .pre .1 .0)) (c .before .before .row-starts .ensures)
 
 pub sort-rows-spec : {M : Type 1} → statement M
 sort-rows-spec =
