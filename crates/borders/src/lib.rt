@@ -17,6 +17,25 @@ ghost use Rattle.borders.specs.Uses.{sideNumber, countIn, isOnceIn, Once
 
 // ---- which edges are used once
 
+// The corners of n triangles by number: equal numbers where `key` has them equal, at 0.1 mm.
+pub fn edge_numbers(
+    area: &[f32],
+    n: usize,
+    hi: &mut [u64],
+    lo: &mut [u64],
+    index: &mut [u32],
+    words: &mut [u64],
+    scratch: &mut [u64],
+    id: &mut [u32],
+)
+    requires { ⌜ (3 * n ≤ 4294967296) × (9 * n ≤ length (now area)) ⌝ }
+    requires { ⌜ (length (now hi) ≡ 3 * n) × (length (now lo) ≡ 3 * n) × (length (now index) ≡ 3 * n) ⌝ }
+    requires { ⌜ (length (now words) ≡ 3 * n) × (length (now scratch) ≡ 3 * n) × (length (now id) ≡ 3 * n) ⌝ }
+    ensures { λ _. ⌜ Numbered edgeKey (now (area .entry)) n n (now (id .exit)) ⌝ }
+{
+    faces::corner_numbers(area, n, 10000.0, hi, lo, index, words, scratch, id);
+}
+
 // Stores the key of an edge between the corners p and q of a plane.
 fn put_key(hi: &mut [u64], lo: &mut [u64], e: usize, plane: u32, p: u32, q: u32)
     requires { ⌜ (e < length (now hi)) × (e < length (now lo)) ⌝ }
