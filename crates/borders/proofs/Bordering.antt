@@ -3,7 +3,7 @@
 use mathlib.Core.Path.{_≡_, refl, sym, ap, _∙_}
 use mathlib.Core.Bool.{Bool, true, false}
 use mathlib.Core.List.{List, [], _∷_, _++_, map, flatMap}
-use Prim.Native.Nat.{ℕ, zero, suc, _+_, _*_, _-_, _<_, _≤_}
+use Prim.Native.Nat.{ℕ, zero, suc, _+_, _*_, _-_, _/_, _<_}
 use native.Mathlib.Nat.{add-zero}
 use native.Mathlib.Omega.{arith}
 use lib.Dec.{eqb}
@@ -11,13 +11,15 @@ use lib.Ieee.{Float}
 use lib.ListN.{length, getD}
 use borrow.Author.Tests.{eqb-true}
 use Rattle.columns.specs.Columns.{triangleAtOf}
+use Rattle.order.specs.Sort.{Below}
 use Rattle.order.specs.Runs.{upTo}
+use Rattle.order.proofs.Laws.{below-none, below-cons}
 use Rattle.faces.specs.Key.{keyBy}
 use Rattle.faces.specs.Numbers.{Numbered, cornerIn}
 use Rattle.patches.specs.Lists.{keepIf, filterBy, countBy}
 use Rattle.patches.specs.Rows.{noneOf, trisIn}
 use Rattle.patches.specs.Triangles.{triangleAt, trianglesIn}
-use Rattle.patches.proofs.Lists.{filter-more}
+use Rattle.patches.proofs.Lists.{Under, filter-more, under-filter, under-upTo}
 use Rattle.patches.proofs.Filling.{triangle-in}
 use Rattle.mirror.specs.Plane.{Edge}
 use Rattle.mirror.specs.Rows.{edgesIn}
@@ -113,6 +115,24 @@ pub edge-numbered : (area : List Float) (n m : ℕ) (id : List ℕ) → Numbered
 unfolding edgeKey
 edge-numbered area n m id h = h
 
--- the run of edges
-pub border-stored : (old new : List Float) (k r : ℕ) (es : List Edge) → Appended old new k r es → edgesIn new k (r - k) ≡ es
-border-stored old new k r es a = let c = a .count in let e : r - k ≡ length es = omega arith in ap (edgesIn new k) e ∙ a .stored
+-- ---- for the caller
+
+pub border-stored : (area : List Float) (handles : List ℕ) (n m : ℕ) (of first uses : List ℕ) (g : ℕ) (old new : List Float) (k r : ℕ) → OnceCounted area n of m first uses
+    → Appended old new k r (borderIn area n first uses (trisIn of m g)) → edgesIn new k (r - k) ≡ borderOf (trianglesIn area handles n m) (trisIn of m g)
+border-stored area handles n m of first uses g old new k r once a =
+    let es = borderIn area n first uses (trisIn of m g) in
+    let c = a .count in
+    let e : r - k ≡ length es = omega arith in
+    ap (edgesIn new k) e ∙ a .stored ∙ border-is area handles n m of first uses g once
+
+below-under : (n : ℕ) (xs : List ℕ) → Under n xs → Below n xs
+unfolding Under
+below-under n [] u = below-none n
+below-under n (x ∷ xs) u = below-cons n x xs (u .0) (below-under n xs (u .1))
+
+-- what `put_border` asks of a plane's triangles
+pub tris-below : (of first : List ℕ) (m g : ℕ) → length first ≡ 3 * m → Below (length first / 3) (trisIn of m g)
+unfolding trisIn
+tris-below of first m g len =
+    let e : length first / 3 ≡ m = omega arith in
+    rw e (below-under m (filterBy (λ i. eqb (getD of i noneOf) g) (upTo m)) (under-filter m (λ i. eqb (getD of i noneOf) g) (upTo m) (under-upTo m)))

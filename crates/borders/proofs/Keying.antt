@@ -1,6 +1,6 @@
 -- The loop of `edge_keys`: the keys of the sides of the triangles before t are there (`Keyed`). Three stores after one another.
-use mathlib.Core.Path.{_≡_, refl, sym, ap, _∙_}
-use mathlib.Core.Logic.{⊎-elim, _⊎_, inl, inr}
+use mathlib.Core.Path.{_≡_, refl, _∙_}
+use mathlib.Core.Logic.{⊎-elim, _⊎_, inl}
 use mathlib.Core.List.{List}
 use Prim.Native.Nat.{ℕ, zero, suc, _+_, _*_, _-_, _<_, _≤_}
 use native.Mathlib.Nat.{not-suc-le-zero, add-zero}
@@ -8,11 +8,10 @@ use native.Mathlib.Omega.{arith}
 use lib.ListN.{length, getD, set, length-set}
 use lib.Seq.{getD-set-same, getD-set-other}
 use Rattle.order.specs.Sort.{Below}
-use Rattle.order.proofs.Stable.{by-eq}
 use Rattle.float.proofs.Numbers.{by-order}
 use Rattle.faces.specs.Triples.{lesser, greater}
-use Rattle.faces.specs.Numbers.{keyAt, placeIn, numberIn}
-use Rattle.borders.specs.Uses.{nextOf, edgeNumber, sideNumber}
+use Rattle.faces.specs.Numbers.{keyAt, placeIn}
+use Rattle.borders.specs.Uses.{edgeNumber, sideNumber}
 
 -- ---- three stores
 

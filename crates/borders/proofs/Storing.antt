@@ -1,9 +1,9 @@
 -- Storing edges: a point, an edge, and runs of edges after one another (`Appended`).
 use mathlib.Core.Path.{_≡_, refl, sym, ap, _∙_}
-use mathlib.Core.Logic.{_⊎_, inl, inr}
+use mathlib.Core.Logic.{inl}
 use mathlib.Core.Bool.{Bool, true, false}
 use mathlib.Core.List.{List, [], _∷_, _++_, flatMap, append-nil}
-use Prim.Native.Nat.{ℕ, zero, suc, _+_, _*_, _-_, _<_, _≤_}
+use Prim.Native.Nat.{ℕ, zero, suc, _+_, _*_, _<_, _≤_}
 use native.Mathlib.Nat.{add-zero}
 use native.Mathlib.Omega.{arith}
 use native.Mathlib.Numerals.{add-one}
@@ -12,7 +12,6 @@ use lib.ListN.{length, getD, set, take, length-append}
 use lib.Seq.{take-suc, take-all}
 use Rattle.vector.specs.declared.Vec3.{Vec3}
 use Rattle.vector.specs.Vector.{vec}
-use Rattle.columns.specs.Columns.{vecAtOf}
 use Rattle.patches.specs.Lists.{keepIf}
 use Rattle.patches.specs.Rows.{Beside}
 use Rattle.mirror.specs.Plane.{Edge}
@@ -56,7 +55,8 @@ unfolding edgeIn vecIn
 edge-same old new k e f h =
     rw (f (6 * e) (omega arith), f (6 * e + 1) (omega arith), f (6 * e + 2) (omega arith), f (6 * e + 3) (omega arith), f (6 * e + 3 + 1) (omega arith), f (6 * e + 3 + 2) (omega arith))
 
-edges-same : (old new : List Float) (k e n : ℕ) → ((q : ℕ) → q < edgeFloats * k → getD new q nan ≡ getD old q nan) → e + n ≤ k → edgesIn new e n ≡ edgesIn old e n
+-- a run of edges below edge number k stays where what is below k does
+pub edges-same : (old new : List Float) (k e n : ℕ) → ((q : ℕ) → q < edgeFloats * k → getD new q nan ≡ getD old q nan) → e + n ≤ k → edgesIn new e n ≡ edgesIn old e n
 unfolding edgesIn
 edges-same old new k e zero f h = refl
 edges-same old new k e (suc n) f h =
