@@ -1,2 +1,3 @@
 -- The borders of planes.
 pub mod Border
+pub mod Uses

@@ -1,0 +1,24 @@
+-- `borders::edge_numbers` meets its contract: the numbers of `faces`, at the scale of edges.
+use borrow.Author.Needs.{needs}
+use Rattle.borders.proofs.Bordering.{edge-numbered}
+use Rattle.borders.proofs.edge_numbers.Statement.{statement}
+use Rattle.borders.proofs.edge_numbers.Tie as tie
+
+corner-numbers-requires : tie.Need-corner-numbers-requires
+corner-numbers-requires c κs = let p = c .before .before .before .before .before .before .before .before .before .before .before .before .before .pre .0 in let a = c .before .before .before .before .before .before .before .before .before .before .before .before .before .pre .1 .0 in let b = c .before .before .before .before .before .before .before .before .before .before .before .before .before .pre .1 .1 in (p .0, (p .1, (a .0, (a .1, (a .2, (b .0, (b .1, b .2)))))))
+
+returns : tie.Need-returns
+returns c = let a = c .before .before .before .before .before .before .before .before .before .before .before .before .before .before .before .before .before .before .before .before .before .before .before .before .before .before .args in edge-numbered (a .area .now) (a .n) (a .n) (c .before .before .before .before .before .before .before .before .before .before .before .before .corner-numbers .last .1 .1 .1 .1 .1 .1 .1 .1 .0) (c .before .before .before .before .before .before .before .before .before .before .before .before .corner-numbers .ensures)
+
+pub edge-numbers-spec : {M : Type 1} → statement M
+edge-numbers-spec =
+    tie.close
+    (tie.spec
+    corner-numbers-requires
+    (λ c. search needs)
+    (λ c. search needs)
+    (λ c. search needs)
+    (λ c. search needs)
+    (λ c. search needs)
+    (λ c. search needs)
+    returns)
