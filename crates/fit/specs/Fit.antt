@@ -19,21 +19,26 @@ use Rattle.patches.specs.Triangles.{triangleAt, cornersOf}
 use Rattle.patches.specs.Normal.{canonicalOf}
 use Rattle.patches.specs.Patch.{Patch, patchAt, noPatch}
 use Rattle.mirror.specs.Plane.{Plane}
+use Rattle.fit.specs.declared.Heights.{Heights}
 
 -- a patch alone
 unfoldable pub aloneOf : Patch → Plane
 aloneOf p =
     record { normal = p .normal; offset = p .offset; area = p .area; box = p .box; tris = p .tris; border = []; fitted = false; spread = zero32 }
 
--- `nsum`: a patch's normal, turned to the seed's side, times its area
-unfoldable pub weightedOf : Vec3 → Vec3 → Patch → Vec3
-weightedOf seed sum p =
-    let w = mul binary32 (cond (le zero32 (dot3Of seed (p .normal))) one32 (neg one32)) (p .area) in
-    add3Of sum (vec (mul binary32 w (p .normal .x)) (mul binary32 w (p .normal .y)) (mul binary32 w (p .normal .z)))
+-- 1 where a normal is on the seed's side, else -1
+unfoldable pub sideOf : Vec3 → Vec3 → Float
+sideOf seed n = cond (le zero32 (dot3Of seed n)) one32 (neg one32)
+
+-- `nsum` with one patch more: its normal, turned to the seed's side, times its area
+unfoldable pub weightedOf : Vec3 → Vec3 → Vec3 → Float → Vec3
+weightedOf seed sum n area =
+    let w = mul binary32 (sideOf seed n) area in
+    add3Of sum (vec (mul binary32 w (n .x)) (mul binary32 w (n .y)) (mul binary32 w (n .z)))
 
 -- `n`: the weighted mean, canonical
 unfoldable pub meanNormalOf : List Patch → Vec3
-meanNormalOf g = canonicalOf (normalize3Of (foldl (weightedOf (headOr noPatch g .normal)) (vec zero32 zero32 zero32) g))
+meanNormalOf g = canonicalOf (normalize3Of (foldl (λ s p. weightedOf (headOr noPatch g .normal) s (p .normal) (p .area)) (vec zero32 zero32 zero32) g))
 
 -- `area`
 unfoldable pub totalAreaOf : List Patch → Float
@@ -48,29 +53,37 @@ groupBoxOf (p ∷ g) = foldl (λ b q. unionOf b (q .box)) (p .box) g
 unfoldable pub groupTrisOf : List Patch → List ℕ
 groupTrisOf g = sortBy (λ i. i) (flatMap (λ p. p .tris) g)
 
--- the sum of the areas times the centroids' heights, and `wsum`
-unfoldable pub heightsOf : List Triangle → Vec3 → Float × Float → ℕ → Float × Float
-heightsOf ts n s i =
-    let t = triangleAt ts i in
+-- the heights of no triangle
+abbrev pub noHeights : Heights
+noHeights = record { sum = zero32; weight = zero32 }
+
+-- with one triangle more: its area times its centroid's height, and `wsum`, its area
+unfoldable pub heightsOf : Vec3 → Heights → Triangle → Heights
+heightsOf n s t =
     let a = triangleAreaOf t in
-    (add binary32 (s .0) (mul binary32 a (dot3Of n (centroidOf t))), add binary32 (s .1) a)
+    record { sum = add binary32 (s .sum) (mul binary32 a (dot3Of n (centroidOf t))); weight = add binary32 (s .weight) a }
 
 -- `offset`: the weighted mean height
-unfoldable pub meanOffsetOf : List Triangle → Vec3 → List ℕ → Float
-meanOffsetOf ts n is = let s = foldl (heightsOf ts n) (zero32, zero32) is in div binary32 (s .0) (maxOf (s .1) tiny)
+unfoldable pub meanOffsetOf : (ℕ → Triangle) → Vec3 → List ℕ → Float
+meanOffsetOf tri n is =
+    let s = foldl (λ s i. heightsOf n s (tri i)) noHeights is in
+    div binary32 (s .sum) (maxOf (s .weight) tiny)
+
+-- the larger of a distance and those of a triangle's vertices from the plane
+unfoldable pub reachOf : Vec3 → Float → Float → Triangle → Float
+reachOf n d s t = foldl (λ s v. maxOf s (absOf (sub binary32 (dot3Of n v) d))) s (cornersOf t)
 
 -- `spread`: the largest distance of a vertex from the plane
-unfoldable pub spreadOf : List Triangle → Vec3 → Float → List ℕ → Float
-spreadOf ts n d is =
-    foldl (λ s i. foldl (λ s v. maxOf s (absOf (sub binary32 (dot3Of n v) d))) s (cornersOf (triangleAt ts i))) zero32 is
+unfoldable pub spreadOf : (ℕ → Triangle) → Vec3 → Float → List ℕ → Float
+spreadOf tri n d is = foldl (λ s i. reachOf n d s (tri i)) zero32 is
 
 -- several patches
 unfoldable pub fittedOf : List Triangle → List Patch → Plane
 fittedOf ts g =
     let n = meanNormalOf g in
     let is = groupTrisOf g in
-    let d = meanOffsetOf ts n is in
-    record { normal = n; offset = d; area = totalAreaOf g; box = groupBoxOf g; tris = is; border = []; fitted = true; spread = spreadOf ts n d is }
+    let d = meanOffsetOf (triangleAt ts) n is in
+    record { normal = n; offset = d; area = totalAreaOf g; box = groupBoxOf g; tris = is; border = []; fitted = true; spread = spreadOf (triangleAt ts) n d is }
 
 -- one group's plane
 unfoldable pub planeOf : List Triangle → List Patch → List ℕ → Plane
