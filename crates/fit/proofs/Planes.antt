@@ -18,7 +18,7 @@ use Rattle.columns.specs.Columns.{triangleAtOf}
 use Rattle.patches.specs.Triangles.{trianglesIn}
 use Rattle.patches.specs.Rows.{noneOf, trisIn, patchesIn}
 use Rattle.patches.proofs.Lists.{map-under}
-use Rattle.links.specs.Words.{has, itself, mostTriangles, lows, partOf, rowIn, Fenced}
+use Rattle.links.specs.Words.{has, itself, mostTriangles, lows, partOf, rowIn, RowBounds}
 use Rattle.groups.specs.Rows.{groupsIn}
 use Rattle.mirror.specs.Plane.{Plane, Edge}
 use Rattle.mirror.specs.declared.PlaneRow.{PlaneRow}
@@ -70,7 +70,7 @@ run-is planes sorted mstarts members m ng g are e h =
     ap (λ (l : List ℕ). partOf l (getD mstarts g 0) (getD mstarts (g + 1) 0)) e ∙ part-lows sorted (getD mstarts g 0) (getD mstarts (g + 1) 0) ∙ are g h
 
 pub runs-are :
-    (planes sorted mstarts members : List ℕ) (m n ng : ℕ) → Fenced ng sorted mstarts → ((p : ℕ) → p < ng → rowIn sorted mstarts p ≡ trisIn planes m p) → members ≡ lows sorted → m ≤ n →
+    (planes sorted mstarts members : List ℕ) (m n ng : ℕ) → RowBounds ng sorted mstarts → ((p : ℕ) → p < ng → rowIn sorted mstarts p ≡ trisIn planes m p) → members ≡ lows sorted → m ≤ n →
     ng < length mstarts → length sorted < 4294967296 → Runs n ng members mstarts
 runs-are planes sorted mstarts members m n ng fenced are e h long short =
     let len : length members ≡ length sorted = ap length e ∙ lows-length sorted in

@@ -17,7 +17,7 @@ use Rattle.geometry.specs.Aabb.{unionOf}
 use Rattle.patches.specs.Normal.{canonicalOf}
 use Rattle.patches.specs.Rows.{noneOf, rowIn}
 use Rattle.patches.specs.declared.PatchRow.{PatchRow}
-use Rattle.links.specs.Words.{has, partOf, Fenced}
+use Rattle.links.specs.Words.{has, partOf, RowBounds}
 use Rattle.mirror.specs.declared.PlaneRow.{PlaneRow}
 use Rattle.fit.specs.Fit.{weightedOf, meanOffsetOf, spreadOf}
 use Rattle.fit.specs.declared.Sums.{Sums}
@@ -83,7 +83,7 @@ planeRowIn tri rows queue starts members mstarts g = planeRowOf tri rows (groupI
 
 -- ng runs of triangles below n
 pub record Runs (n ng : ℕ) (members mstarts : List ℕ) : Type 0 where
-  pub fenced : Fenced ng members mstarts
+  pub fenced : RowBounds ng members mstarts
   pub long : ng < length mstarts
   pub short : length members < 4294967296
   pub below : (g : ℕ) → g < ng → Below n (groupIn members mstarts g)

@@ -371,7 +371,7 @@ fn words_of(r: PlaneRow) -> [u32; 5]
 }
 
 // Stores the row of plane g.
-fn put_plane(floats: &mut [f32], words: &mut [u32], g: usize, r: PlaneRow)
+pub fn put_plane(floats: &mut [f32], words: &mut [u32], g: usize, r: PlaneRow)
     requires { ⌜ planeFloats * g + planeFloats ≤ length (now floats) ⌝ }
     requires { ⌜ planeWords * g + planeWords ≤ length (now words) ⌝ }
     requires { ⌜ Small r ⌝ }
