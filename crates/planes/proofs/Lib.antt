@@ -1,4 +1,5 @@
 -- The laws of the planes, and scenes whose planes the Rust gave.
+pub mod Ranking
 mod Probe
 mod SceneStar9
 mod SceneFirst
