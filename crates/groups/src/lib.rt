@@ -116,6 +116,7 @@ fn each_alone(order: &[u32], np: usize, queue: &mut [u32], starts: &mut [u32])
     requires { ⌜ np ≤ length (now order) ⌝ }
     requires { ⌜ np ≤ length (now queue) ⌝ }
     requires { ⌜ np < length (now starts) ⌝ }
+    ensures { λ _. ⌜ getD (now (starts .exit)) np 0 ≤ np ⌝ }
     ensures { λ _. ⌜ groupsIn (now (queue .exit)) (now (starts .exit)) np ≡ map (λ p. p ∷ []) (take np (now (order .entry))) ⌝ }
 {
     starts[0] = 0;
@@ -442,7 +443,7 @@ fn grow_groups(
     requires { ⌜ (np ≤ length (now order)) × Below np (take np (now order)) ⌝ }
     requires { ⌜ Queue np (now assigned) (now queue) 0 ⌝ }
     requires { ⌜ np < length (now starts) ⌝ }
-    ensures { λ r. ⌜ r ≤ np ⌝ }
+    ensures { λ r. ⌜ (r ≤ np) × (getD (now (starts .exit)) r 0 ≤ np) ⌝ }
     ensures { λ r. ⌜ ((adj : ℕ → ℕ → Bool) → RowsOf np (now (asorted .entry)) (now (astarts .entry)) adj → groupsIn (now (queue .exit)) (now (starts .exit)) r ≡ groupsFrom np adj (takesIn (now (area .entry)) (now (handles .entry)) n (now (rows .entry)) (now (tsorted .entry)) (now (tstarts .entry)) least most) (take np (now (order .entry))) (freeOf np (now (assigned .entry)))) ⌝ }
 {
     starts[0] = 0;
@@ -515,7 +516,7 @@ fn merge(
     requires { ⌜ (length (now vsorted) ≡ 3 * m) × (vertices < length (now vstarts)) ⌝ }
     requires { ⌜ (24 * m ≤ length (now asorted)) × (np < length (now astarts)) ⌝ }
     requires { ⌜ (np ≤ length (now assigned)) × (np ≤ length (now queue)) × (np < length (now starts)) ⌝ }
-    ensures { λ r. ⌜ r ≤ np ⌝ }
+    ensures { λ r. ⌜ (r ≤ np) × (getD (now (starts .exit)) r 0 ≤ np) ⌝ }
     ensures { λ r. ⌜ ((adj : ℕ → ℕ → Bool) → ((p q : ℕ) → p < np → q < np → isJoined (now (id .entry)) n vertices (now (of .entry)) m np p q ≡ adj p q) → groupsIn (now (queue .exit)) (now (starts .exit)) r ≡ groupsFrom np adj (takesIn (now (area .entry)) (now (handles .entry)) n (now (rows .entry)) (now (tsorted .entry)) (now (tstarts .entry)) least most) (take np (now (order .entry))) (upTo np)) ⌝ }
 {
     links::adjacency(
@@ -592,7 +593,7 @@ pub fn merge_patches(
     requires { ⌜ (24 * m ≤ length (now asorted)) × (m < length (now astarts)) ⌝ }
     requires { ⌜ (m ≤ length (now order)) × (m ≤ length (now assigned)) ⌝ }
     requires { ⌜ (m ≤ length (now queue)) × (m < length (now starts)) ⌝ }
-    ensures { λ r. ⌜ r ≤ np ⌝ }
+    ensures { λ r. ⌜ (r ≤ np) × (getD (now (starts .exit)) r 0 ≤ np) ⌝ }
     ensures { λ r. ⌜ ((s : Settings) → s .mergeOn ≡ on → s .mergeCos ≡ least → s .mergeOffset ≡ most → groupsIn (now (queue .exit)) (now (starts .exit)) r ≡ groupsOf s (trianglesIn (now (area .entry)) (now (handles .entry)) n m) (patchesIn (now (rows .entry)) (now (of .entry)) m np)) ⌝ }
 {
     links::patch_rows(of, m, np as u32, words, scratch, tsorted, tstarts);

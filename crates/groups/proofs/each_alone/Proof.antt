@@ -51,7 +51,10 @@ same-length-2 : tie.Need-same-length-2 Inv-loop μ-loop
 same-length-2 c = c .before .loop .inv .2 ∙ length-set (c .before .before .args .starts .now) 0 0
 
 returns : tie.Need-returns Inv-loop μ-loop
-returns c = let e : c .before .loop .i ≡ c .before .before .args .np = omega arith in rw e at (c .before .loop .inv .3 .is)
+returns c =
+    let e : c .before .loop .i ≡ c .before .before .args .np = omega arith in
+    let last = rw e at (c .before .loop .inv .3 .at (c .before .loop .i) (omega arith)) in
+    (omega (arith, last), rw e at (c .before .loop .inv .3 .is))
 
 pub each-alone-spec : {M : Type 1} → statement M
 each-alone-spec =

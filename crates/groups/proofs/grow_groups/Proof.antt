@@ -96,7 +96,7 @@ same-length-3 c = c .before .loop .inv .4 ∙ length-set (c .before .before .bef
 returns : tie.Need-returns Inv-loop μ-loop
 returns c =
     let long = length-take-le (c .before .before .before .before .before .before .before .before .before .before .before .before .before .args .np) (c .before .before .before .before .before .before .before .before .before .before .before .before .before .args .order .now) (c .before .before .before .before .before .before .before .before .before .before .before .before .before .pre .1 .1 .1 .1 .1 .0 .0) in
-    (omega arith, group-done (c .before .before .before .before .before .before .before .before .before .before .before .before .before .args .np) (takesIn (c .before .before .before .before .before .before .before .before .before .before .before .before .before .args .area .now) (c .before .before .before .before .before .before .before .before .before .before .before .before .before .args .handles .now) (c .before .before .before .before .before .before .before .before .before .before .before .before .before .args .n) (c .before .before .before .before .before .before .before .before .before .before .before .before .before .args .rows .now) (c .before .before .before .before .before .before .before .before .before .before .before .before .before .args .tsorted .now) (c .before .before .before .before .before .before .before .before .before .before .before .before .before .args .tstarts .now) (c .before .before .before .before .before .before .before .before .before .before .before .before .before .args .least) (c .before .before .before .before .before .before .before .before .before .before .before .before .before .args .most)) (c .before .before .before .before .before .before .before .before .before .before .before .before .before .args .asorted .now) (c .before .before .before .before .before .before .before .before .before .before .before .before .before .args .astarts .now) (take (c .before .before .before .before .before .before .before .before .before .before .before .before .before .args .np) (c .before .before .before .before .before .before .before .before .before .before .before .before .before .args .order .now)) (c .before .before .before .before .before .before .before .before .before .before .before .before .before .args .assigned .now) (c .before .loop .assigned) (c .before .loop .queue) (c .before .loop .starts) (c .before .loop .ng) (c .before .loop .tail) (c .before .loop .i) (c .before .loop .inv .5) (omega (arith, long, c .loop-test .left)))
+    ((omega arith, let t = c .before .loop .inv .5 .queue-is .total in let a = c .before .loop .inv .5 .at in omega arith), group-done (c .before .before .before .before .before .before .before .before .before .before .before .before .before .args .np) (takesIn (c .before .before .before .before .before .before .before .before .before .before .before .before .before .args .area .now) (c .before .before .before .before .before .before .before .before .before .before .before .before .before .args .handles .now) (c .before .before .before .before .before .before .before .before .before .before .before .before .before .args .n) (c .before .before .before .before .before .before .before .before .before .before .before .before .before .args .rows .now) (c .before .before .before .before .before .before .before .before .before .before .before .before .before .args .tsorted .now) (c .before .before .before .before .before .before .before .before .before .before .before .before .before .args .tstarts .now) (c .before .before .before .before .before .before .before .before .before .before .before .before .before .args .least) (c .before .before .before .before .before .before .before .before .before .before .before .before .before .args .most)) (c .before .before .before .before .before .before .before .before .before .before .before .before .before .args .asorted .now) (c .before .before .before .before .before .before .before .before .before .before .before .before .before .args .astarts .now) (take (c .before .before .before .before .before .before .before .before .before .before .before .before .before .args .np) (c .before .before .before .before .before .before .before .before .before .before .before .before .before .args .order .now)) (c .before .before .before .before .before .before .before .before .before .before .before .before .before .args .assigned .now) (c .before .loop .assigned) (c .before .loop .queue) (c .before .loop .starts) (c .before .loop .ng) (c .before .loop .tail) (c .before .loop .i) (c .before .loop .inv .5) (omega (arith, long, c .loop-test .left)))
 
 pub grow-groups-spec : {M : Type 1} → statement M
 grow-groups-spec =

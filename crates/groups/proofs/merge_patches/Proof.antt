@@ -137,10 +137,10 @@ same-length-21 c = c .before .before .before .before .each-alone .kept .1 .1 .1 
 returns-2 : tie.Need-returns-2
 returns-2 c =
     let a = c .before .before .before .before .before .before .before .before .before .before .before .before .before .before .before .before .before .before .before .before .before .before .before .before .before .before .before .before .before .before .before .before .before .before .before .before .before .before .before .before .before .before .before .before .before .before .before .before .before .before .before .before .before .before .before .before .args in (
-      omega arith,
+      (omega arith, c .before .before .before .before .each-alone .ensures .0),
       λ s eo ec em.
           alone-is s (a .area .now) (a .handles .now) (a .n) (a .m) (a .rows .now) (a .of .now) (a .np) (c .before .before .before .before .before .before .before .before .before .before .before .before .before .before .before .before .before .before .before .before .before .before .before .before .before .before .before .before .before .before .before .before .before .patch-rows .last .1 .1 .1 .1 .1 .0) (c .before .before .before .before .before .before .before .before .before .before .before .before .before .before .before .before .before .before .before .before .before .before .before .before .before .before .before .before .before .before .before .before .before .patch-rows .last .1 .1 .1 .1 .1 .1 .0) (a .on) (a .least) (a .most) eo ec em (c .before .before .before .before .before .before .before .before .before .before .before .before .before .before .before .before .before .before .before .before .before .before .before .before .before .before .before .before .before .before .before .before .before .patch-rows .ensures .1) (take (a .np) (c .before .before .before .before .before .before .before .before .before .before .before .before .before .before .before .before .before .before .seeds .last .1 .1 .1 .1 .1 .1 .1 .0)) (c .before .before .before .before .before .before .before .before .before .before .before .before .before .before .before .before .before .before .seeds .ensures)
-          (groupsIn (c .before .before .before .before .each-alone .last .1 .1 .0) (c .before .before .before .before .each-alone .last .1 .1 .1 .0) (a .np)) (sym (c .before .before .before .before .before .before .before .before .before .is-merging .ensures) ∙ c .before .before .before .before .before .before .before .before .if1 .left) (c .before .before .before .before .each-alone .ensures),
+          (groupsIn (c .before .before .before .before .each-alone .last .1 .1 .0) (c .before .before .before .before .each-alone .last .1 .1 .1 .0) (a .np)) (sym (c .before .before .before .before .before .before .before .before .before .is-merging .ensures) ∙ c .before .before .before .before .before .before .before .before .if1 .left) (c .before .before .before .before .each-alone .ensures .1),
     )
 
 pub merge-patches-spec : {M : Type 1} → statement M
