@@ -5,3 +5,4 @@ pub mod Naming
 pub mod Copying
 pub mod Fitting
 pub mod Planes
+pub mod Partition

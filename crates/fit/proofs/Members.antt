@@ -31,7 +31,7 @@ has-cons : (q x : ℕ) (xs ys : List ℕ) → has q xs ≡ has q ys → has q (x
 unfolding anyBy
 has-cons q x xs ys e = ap (λ (b : Bool). eqb q x || b) e
 
-perm-has : (q : ℕ) {xs ys : List ℕ} → Perm xs ys → has q xs ≡ has q ys
+pub perm-has : (q : ℕ) {xs ys : List ℕ} → Perm xs ys → has q xs ≡ has q ys
 unfolding anyBy
 perm-has q none = refl
 perm-has q (skip {x = x} p) = ap (λ (b : Bool). eqb q x || b) (perm-has q p)
@@ -44,18 +44,18 @@ perm-has q (swap {x = x} {y = y} {xs = xs}) = or-swap (eqb q x) (eqb q y) (has q
     or-swap false false c = refl
 perm-has q (then p r) = perm-has q p ∙ perm-has q r
 
-or-first : (a b : Bool) → a || b ≡ false → a ≡ false
+pub or-first : (a b : Bool) → a || b ≡ false → a ≡ false
 or-first true b e = e
 or-first false b e = refl
 
-or-second : (a b : Bool) → a || b ≡ false → b ≡ false
+pub or-second : (a b : Bool) → a || b ≡ false → b ≡ false
 or-second true b e = absurd (clash refl e)
 or-second false b e = e
 
 or-both : (a b : Bool) → a ≡ false → b ≡ false → a || b ≡ false
 or-both a b e d = rw (e, d)
 
-perm-once : {xs ys : List ℕ} → Perm xs ys → Once xs → Once ys
+pub perm-once : {xs ys : List ℕ} → Perm xs ys → Once xs → Once ys
 unfolding Once anyBy
 perm-once none o = tt
 perm-once (skip {x = x} p) o = (sym (perm-has x p) ∙ o .0, perm-once p (o .1))
@@ -63,7 +63,7 @@ perm-once (swap {x = x} {y = y} {xs = xs}) o =
     (or-both (eqb y x) (has y xs) (eqb-turn y x ∙ or-first (eqb x y) (has x xs) (o .0)) (o .1 .0), (or-second (eqb x y) (has x xs) (o .0), o .1 .1))
 perm-once (then p r) o = perm-once r (perm-once p o)
 
-perm-turn : {xs ys : List ℕ} → Perm xs ys → Perm ys xs
+pub perm-turn : {xs ys : List ℕ} → Perm xs ys → Perm ys xs
 perm-turn none = none
 perm-turn (skip p) = skip (perm-turn p)
 perm-turn swap = swap
@@ -85,7 +85,7 @@ dedup-once (x ∷ xs) o = ap (λ (l : List ℕ). x ∷ l) (after-once x xs (o .0
 sorted-once : (n : ℕ) (xs : List ℕ) → Below n xs → Once xs → sortBy itself xs ≡ filterBy (λ q. has q xs) (upTo n)
 sorted-once n xs b o = sym (dedup-once (sortBy itself xs) (perm-once (perm-turn (sort-perm itself xs)) o)) ∙ sorted-set n xs b
 
-has-append : (q : ℕ) (xs ys : List ℕ) → has q (xs ++ ys) ≡ has q xs || has q ys
+pub has-append : (q : ℕ) (xs ys : List ℕ) → has q (xs ++ ys) ≡ has q xs || has q ys
 unfolding anyBy
 has-append q [] ys = refl
 has-append q (x ∷ xs) ys = rw (has-append q xs ys) (or-assoc (eqb q x) (has q xs) (has q ys))
@@ -94,11 +94,11 @@ has-append q (x ∷ xs) ys = rw (has-append q xs ys) (or-assoc (eqb q x) (has q 
     or-assoc true b c = refl
     or-assoc false b c = refl
 
-or-right : (a b : Bool) → b ≡ true → a || b ≡ true
+pub or-right : (a b : Bool) → b ≡ true → a || b ≡ true
 or-right true b e = refl
 or-right false b e = e
 
-append-once : (xs ys : List ℕ) → Once xs → Once ys → ((q : ℕ) → has q xs ≡ true → has q ys ≡ false) → Once (xs ++ ys)
+pub append-once : (xs ys : List ℕ) → Once xs → Once ys → ((q : ℕ) → has q xs ≡ true → has q ys ≡ false) → Once (xs ++ ys)
 unfolding Once anyBy
 append-once [] ys o p d = p
 append-once (x ∷ xs) ys o p d = (
@@ -108,7 +108,7 @@ append-once (x ∷ xs) ys o p d = (
 
 -- ---- the triangles of patches
 
-under-below : (n : ℕ) (xs : List ℕ) → Under n xs → Below n xs
+pub under-below : (n : ℕ) (xs : List ℕ) → Under n xs → Below n xs
 unfolding Under
 under-below n [] u = below-none n
 under-below n (x ∷ xs) u = below-cons n x xs (u .0) (under-below n xs (u .1))
