@@ -8,6 +8,7 @@ use Rattle.columns.specs.Columns.{columnCount}
 use Rattle.patches.specs.Rows.{patchFloats}
 use Rattle.patches.specs.Grid.{bucketCount}
 use Rattle.order.specs.Sort.{Below}
+use Rattle.links.specs.Words.{mostTriangles}
 use Rattle.mirror.specs.Plane.{Plane}
 use Rattle.mirror.specs.declared.PlaneRow.{PlaneRow}
 use Rattle.mirror.specs.Rows.{planeFloats, planeWords, edgeFloats, rowOf, trisOf, planeOf, PlanesHeld}
@@ -15,9 +16,8 @@ use Rattle.borders.specs.Uses.{borderIn}
 
 -- the triangles
 pub record TrianglesLent (area : List Float) (handles : List ℕ) (n m : ℕ) : Type 0 where
-  pub few : 3 * n ≤ 4294967296
+  pub few : n ≤ mostTriangles
   pub some : m ≤ n
-  pub fits : m ≤ 4294967295
   pub columns : columnCount * n ≤ length area
   pub named : n ≤ length handles
 

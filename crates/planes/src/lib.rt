@@ -1,5 +1,6 @@
 // The mirror planes of a scene, `build_planes`: `planesOf` of specs/Build.antt. Each step has a crate of its own: `faces`, `patches`, `buried`,
-// `links` and `groups`, `fit`, `importance`, `borders`; here they are called in turn.
+// `links` and `groups`, `fit`, `importance`, `borders`; here they are called in turn: so far steps 1 to 3, and
+// the storing of the ranked planes with their borders.
 use mirror::PlaneRow;
 ghost use mathlib.Core.Path.{_≡_};
 ghost use Prim.Native.Nat.{ℕ, _+_, _*_, _/_, _<_, _≤_};

@@ -13,17 +13,17 @@ use Rattle.planes.proofs.open_patches.Tie as tie
 
 duplicates-requires : tie.Need-duplicates-requires
 duplicates-requires c κs = let t = c .before .before .before .before .before .before .before .before .before .before .before .before .before .before .before .before .before .before .before .before .before .before .before .before .before .before .before .before .before .before .before .before .pre .0 in let f = c .before .before .before .before .before .before .before .before .before .before .before .before .before .before .before .before .before .before .before .before .before .before .before .before .before .before .before .before .before .before .before .before .pre .1 .0 in
-    (t .few, (t .columns, (f .vhi-room, (f .vlo-room, (f .index-room, (f .words-room, (f .scratch-room, (f .id-room, (f .fhi-room, (f .flo-room, f .first-room))))))))))
+    (omega (arith, t .few), (t .columns, (f .vhi-room, (f .vlo-room, (f .index-room, (f .words-room, (f .scratch-room, (f .id-room, (f .fhi-room, (f .flo-room, f .first-room))))))))))
 
 coplanar-patches-requires : tie.Need-coplanar-patches-requires
 coplanar-patches-requires c κs = let t = c .before .before .before .before .before .before .before .before .before .before .before .before .before .before .before .before .before .before .before .before .before .before .before .before .before .before .before .before .before .before .before .before .before .before .before .before .before .before .before .before .before .before .before .before .before .before .before .before .before .before .before .before .before .before .before .before .before .pre .0 in let f = c .before .before .before .before .before .before .before .before .before .before .before .before .before .before .before .before .before .before .before .before .before .before .before .before .before .before .before .before .before .before .before .before .before .before .before .before .before .before .before .before .before .before .before .before .before .before .before .before .before .before .before .before .before .before .before .before .before .pre .1 .0 in let p = c .before .before .before .before .before .before .before .before .before .before .before .before .before .before .before .before .before .before .before .before .before .before .before .before .before .before .before .before .before .before .before .before .before .before .before .before .before .before .before .before .before .before .before .before .before .before .before .before .before .before .before .before .before .before .before .before .before .pre .1 .1 .0 in (
-  (t .columns, t .named, t .some, t .fits, omega (arith, c .before .before .before .before .before .before .before .before .before .before .before .before .before .before .before .before .before .before .before .before .before .before .before .before .duplicates .kept .1 .1 .1 .1 .1 .1 .1 .1 .1 .1 .0, f .first-room, t .some)),
+  (t .columns, t .named, t .some, omega (arith, t .few, t .some), omega (arith, c .before .before .before .before .before .before .before .before .before .before .before .before .before .before .before .before .before .before .before .before .before .before .before .before .duplicates .kept .1 .1 .1 .1 .1 .1 .1 .1 .1 .1 .0, f .first-room, t .some)),
   ((p .heads-room, p .rows-room, p .cells-room, p .next-room, p .of-room), λ i h. c .before .before .before .before .before .before .before .before .before .before .before .before .before .before .before .before .before .before .before .before .before .before .before .before .duplicates .ensures .0 i (omega (arith, h, t .some))),
 )
 
 open-patches-requires : tie.Need-open-patches-requires
 open-patches-requires c κs = let t = c .before .before .before .before .before .before .before .before .before .before .before .before .before .before .before .before .before .before .before .before .before .before .before .before .before .before .before .before .before .before .before .before .before .before .before .before .before .before .before .before .before .before .before .before .before .before .before .before .before .before .before .before .before .before .before .before .before .before .before .before .before .before .before .before .before .before .before .before .before .before .before .before .before .pre .0 in let p = c .before .before .before .before .before .before .before .before .before .before .before .before .before .before .before .before .before .before .before .before .before .before .before .before .before .before .before .before .before .before .before .before .before .before .before .before .before .before .before .before .before .before .before .before .before .before .before .before .before .before .before .before .before .before .before .before .before .before .before .before .before .before .before .before .before .before .before .before .before .before .before .before .before .pre .1 .1 .0 in let r = c .before .before .before .before .before .before .before .before .before .before .before .before .before .before .before .coplanar-patches .ensures .1 .0 in (
-  (t .columns, t .named, t .some, t .fits, omega (arith, c .before .before .before .before .before .before .before .before .before .before .before .before .before .before .before .coplanar-patches .kept .1 .1 .1 .1 .1 .1 .1 .1 .1 .0, p .of-room)),
+  (t .columns, t .named, t .some, omega (arith, t .few, t .some), omega (arith, c .before .before .before .before .before .before .before .before .before .before .before .before .before .before .before .coplanar-patches .kept .1 .1 .1 .1 .1 .1 .1 .1 .1 .0, p .of-room)),
   (
     (r .0, omega (arith, r .0, p .areas-room), omega (arith, r .0, p .largest-room), omega (arith, r .0, p .flags-room), omega (arith, r .0, c .before .before .before .before .before .before .before .before .before .before .before .before .before .before .before .coplanar-patches .kept .1 .1 .1 .1 .1 .1 .1 .1 .0, p .rows-room)),
     (c .before .before .before .before .before .before .before .before .before .before .before .before .before .before .before .before .before .before .before .before .before .before .before .before .before .before .before .before .before .before .before .before .before .before .before .before .before .before .before .before .before .before .before .before .before .before .before .before .before .before .before .before .before .before .before .before .before .before .before .before .before .before .before .before .before .before .before .before .before .before .before .before .before .pre .1 .1 .1 .0, (c .before .before .before .before .before .before .before .before .before .before .before .before .before .before .before .before .before .before .before .before .before .before .before .before .before .before .before .before .before .before .before .before .before .before .before .before .before .before .before .before .before .before .before .before .before .before .before .before .before .before .before .before .before .before .before .before .before .before .before .before .before .before .before .before .before .before .before .before .before .before .before .before .before .pre .1 .1 .1 .1, r .1)),
