@@ -11,7 +11,7 @@ use lib.ListN.{length, getD, take, drop, length-drop}
 use lib.Seq.{length-take-le}
 use Rattle.float.proofs.Numbers.{by-order}
 use Rattle.geometry.specs.declared.Triangle.{Triangle}
-use Rattle.order.specs.Sort.{sortBy, Below}
+use Rattle.order.specs.Sort.{sortBy}
 use Rattle.order.specs.Runs.{upTo}
 use Rattle.order.proofs.Stable.{by-eq}
 use Rattle.columns.specs.Columns.{triangleAtOf}
@@ -20,10 +20,9 @@ use Rattle.patches.specs.Rows.{noneOf, trisIn, patchesIn}
 use Rattle.patches.proofs.Lists.{map-under}
 use Rattle.links.specs.Words.{has, itself, mostTriangles, lows, partOf, rowIn, Fenced}
 use Rattle.groups.specs.Rows.{groupsIn}
-use Rattle.mirror.specs.Plane.{Plane, Edge}
 use Rattle.mirror.specs.declared.PlaneRow.{PlaneRow}
 use Rattle.mirror.specs.Rows as mirror
-use Rattle.mirror.specs.Rows.{rowOf, trisOf, borderOf, edgesIn, planeIn, planesIn, RunsIn, PlanesHeld, planeFloats, planeWords}
+use Rattle.mirror.specs.Rows.{rowOf, trisOf, borderOf, edgesIn, planeIn, planesIn, PlanesHeld, planeFloats, planeWords}
 use Rattle.fit.specs.Fit.{planeOf}
 use Rattle.fit.specs.Rows.{groupIn, Grouped, beforeOf, aloneRowOf, fittedRowOf, planeRowOf, planeRowIn, Runs, Small}
 use Rattle.fit.proofs.Members.{tris-below, group-tris}
