@@ -70,13 +70,12 @@ run-is planes sorted mstarts members m ng g are e h =
 
 pub runs-are :
     (planes sorted mstarts members : List ℕ) (m n ng : ℕ) → Fenced ng sorted mstarts → ((p : ℕ) → p < ng → rowIn sorted mstarts p ≡ trisIn planes m p) → members ≡ lows sorted → m ≤ n →
-    ng < length mstarts → length sorted < 4294967296 → Runs n ng members mstarts
-runs-are planes sorted mstarts members m n ng fenced are e h long short =
+    ng < length mstarts → Runs n ng members mstarts
+runs-are planes sorted mstarts members m n ng fenced are e h long =
     let len : length members ≡ length sorted = ap length e ∙ lows-length sorted in
     record {
       fenced = record { rise = fenced .rise; ends = λ r l. let w = fenced .ends r l in omega arith };
       long = long;
-      short = omega arith;
       below = λ g l. rw (run-is planes sorted mstarts members m ng g are e l) (below-more m n (trisIn planes m g) h (tris-below planes m g));
     }
 

@@ -85,7 +85,6 @@ planeRowIn tri rows queue starts members mstarts g = planeRowOf tri rows (groupI
 pub record Runs (n ng : ℕ) (members mstarts : List ℕ) : Type 0 where
   pub fenced : Fenced ng members mstarts
   pub long : ng < length mstarts
-  pub short : length members < 4294967296
   pub below : (g : ℕ) → g < ng → Below n (groupIn members mstarts g)
 
 -- ---- storing

@@ -448,7 +448,7 @@ pub fn group_planes(
     requires { ⌜ Grouped (now queue) (now starts) np ng × (ng ≤ mostTriangles) ⌝ }
     requires { ⌜ (np ≤ length (now «group_of»)) × (m ≤ length (now «plane_of»)) ⌝ }
     requires { ⌜ (m ≤ length (now «sort_words»)) × (m ≤ length (now scratch)) ⌝ }
-    requires { ⌜ (m ≤ length (now members)) × (length (now members) < 4294967296) × (ng < length (now mstarts)) ⌝ }
+    requires { ⌜ (m ≤ length (now members)) × (ng < length (now mstarts)) ⌝ }
     requires { ⌜ (planeFloats * ng ≤ length (now floats)) × (planeWords * ng ≤ length (now words)) ⌝ }
     ensures { λ _. ⌜ planesIn (now (floats .exit)) (now (words .exit)) (now (members .exit)) [] ng ≡ map (planeOf (trianglesIn (now (area .entry)) (now (handles .entry)) n m) (patchesIn (now (rows .entry)) (now (of .entry)) m np)) (groupsIn (now (queue .entry)) (now (starts .entry)) ng) ⌝ }
     ensures { λ _. ⌜ PlanesHeld (now (floats .exit)) (now (words .exit)) (now (members .exit)) [] m ng ⌝ }

@@ -104,7 +104,8 @@ put-plane-requires c κs =
     let r = p .1 .1 .0 in
     let rise = r .fenced .rise _ t in
     let ends = r .fenced .ends (c .before .before .before .before .before .before .before .before .before .before .loop .g + 1) (omega (arith, t)) in
-    let short = r .short in
+    let low = c .before .before .before .before .before .before .shared-slice-known10 .given g in
+    let high = c .before .before .before .before .before .shared-slice-known11 .given (g + 1) in
     let long = part-length (c .before .before .before .before .before .before .before .before .before .before .before .before .before .before .before .before .before .before .before .before .args .members .now) (getD (c .before .before .before .before .before .before .before .before .before .before .before .before .before .before .before .before .before .before .before .before .args .mstarts .now) (c .before .before .before .before .before .before .before .before .before .before .loop .g) 0) (getD (c .before .before .before .before .before .before .before .before .before .before .before .before .before .before .before .before .before .before .before .before .args .mstarts .now) (c .before .before .before .before .before .before .before .before .before .before .loop .g + 1) 0) ends in
     (omega (arith, p .1 .1 .1 .0, t, i .len-floats), (omega (arith, p .1 .1 .1 .1, t, i .len-words), row-small (triangleAtOf (a .area .now) (a .handles .now) (a .n)) (a .rows .now) (groupIn (a .queue .now) (a .starts .now) g) (groupIn (a .members .now) (a .mstarts .now) g) (getD (a .mstarts .now) g 0) (c .before .before .plane-row .result) (c .before .before .plane-row .ensures) (omega arith) (omega arith)))
 
