@@ -2,8 +2,8 @@
 use mathlib.Core.Path.{_≡_, refl, sym, ap, _∙_}
 use mathlib.Core.Bool.{Bool, true, false, cond, not}
 use mathlib.Core.Logic.{_⊎_, inl, inr, ⊎-elim}
-use mathlib.Core.List.{List, [], _∷_}
-use Prim.Native.Nat.{ℕ, zero, suc, _+_, _*_, _<_, _≤_}
+use mathlib.Core.List.{List}
+use Prim.Native.Nat.{ℕ, _+_, _*_, _<_, _≤_}
 use native.Mathlib.Nat.{not-suc-le-zero}
 use native.Mathlib.Omega.{arith}
 use lib.Dec.{eqb}
@@ -14,7 +14,7 @@ use borrow.Author.Tests.{eq-eqb, ne-eqb}
 use Rattle.float.proofs.Numbers.{by-order}
 use Rattle.order.proofs.Stable.{by-eq}
 use Rattle.mirror.specs.declared.PlaneRow.{PlaneRow}
-use Rattle.mirror.specs.Rows.{planeFloats, planeWords, vecIn, rowOf}
+use Rattle.mirror.specs.Rows.{vecIn, rowOf}
 use Rattle.fit.specs.Rows.{floatsOf, wordsOf}
 
 -- the first k values stand from `at` on, and what is not theirs is as it was

@@ -2,23 +2,22 @@
 use mathlib.Core.Path.{_≡_, refl, sym, ap, _∙_}
 use mathlib.Core.Bool.{Bool, true, false, cond, _||_}
 use mathlib.Core.List.{List, [], _∷_, _++_, map, flatMap, foldl}
-use Prim.Native.Nat.{ℕ, zero, suc, _+_, _*_, _<_, _≤_}
+use Prim.Native.Nat.{ℕ, suc, _+_, _<_}
 use native.Mathlib.Nat.{not-suc-le-zero}
 use native.Mathlib.Omega.{arith}
 use lib.Dec.{eqb}
 use lib.Ieee.{Float, binary32, add, lt, isNan}
 use lib.ListN.{length, getD}
-use borrow.Author.Tests.{eq-eqb, ne-eqb}
+use borrow.Author.Tests.{ne-eqb}
 use Rattle.float.specs.Literals.{zero32}
 use Rattle.float.specs.Compare.{minOf, maxOf}
 use Rattle.vector.specs.declared.Vec3.{Vec3}
-use Rattle.vector.specs.Vector.{vec, normalize3Of}
+use Rattle.vector.specs.Vector.{normalize3Of}
 use Rattle.geometry.specs.declared.Aabb.{Aabb}
 use Rattle.geometry.specs.declared.Triangle.{Triangle}
 use Rattle.geometry.specs.Aabb.{lowOf, highOf, unionOf}
 use Rattle.order.specs.Sort.{sortBy, Below}
 use Rattle.order.specs.Runs.{anyBy, headOr, upTo}
-use Rattle.order.proofs.Stable.{by-eq}
 use Rattle.order.proofs.Laws.{below-head, below-tail}
 use Rattle.faces.proofs.Corners.{getD-map-upTo}
 use Rattle.columns.specs.Columns.{triangleAtOf}
@@ -31,7 +30,6 @@ use Rattle.patches.proofs.Filling.{triangle-in}
 use Rattle.links.specs.Words.{has, itself}
 use Rattle.links.proofs.Filters.{filter-below}
 use Rattle.mirror.specs.Plane.{Plane}
-use Rattle.mirror.specs.declared.PlaneRow.{PlaneRow}
 use Rattle.mirror.specs.Rows as mirror
 use Rattle.fit.specs.Fit.{aloneOf, weightedOf, meanNormalOf, totalAreaOf, groupBoxOf, groupTrisOf, noHeights, heightsOf, meanOffsetOf, reachOf, spreadOf, fittedOf, planeOf}
 use Rattle.fit.specs.Rows.{Once, noSums, summedOf, aloneRowOf, fittedRowOf, planeRowOf}

@@ -1,20 +1,19 @@
 -- The triangles of a group: those of its patches, sorted, are the triangles whose plane number is the group's (`group-tris`).
 use mathlib.Core.Path.{_≡_, refl, sym, ap, _∙_}
 use mathlib.Core.Bool.{Bool, true, false, _||_, _&&_}
-use mathlib.Core.List.{List, [], _∷_, _++_, map, flatMap}
-use Prim.Native.Nat.{ℕ, zero, suc, _+_, _<_, _≤_}
+use mathlib.Core.List.{List, [], _∷_, _++_, flatMap}
+use Prim.Native.Nat.{ℕ, suc, _+_, _<_}
 use native.Mathlib.Omega.{arith}
 use lib.Dec.{eqb, ltb}
-use lib.ListN.{length, getD}
-use borrow.Author.Tests.{eq-eqb, ne-eqb, lt-ltb, le-ltb, eqb-true}
-use Rattle.float.proofs.Numbers.{by-order}
+use lib.ListN.{getD}
+use borrow.Author.Tests.{eq-eqb, lt-ltb, eqb-true}
 use Rattle.order.specs.Sort.{sortBy, Below, Perm, none, skip, swap, then}
 use Rattle.order.specs.Runs.{anyBy, upTo}
-use Rattle.order.proofs.Stable.{by-eq, Least, sort-perm}
+use Rattle.order.proofs.Stable.{sort-perm}
 use Rattle.patches.specs.Lists.{filterBy}
 use Rattle.patches.specs.Rows.{noneOf, trisIn}
 use Rattle.links.specs.Words.{has, itself, dedupAfter, dedup}
-use Rattle.links.proofs.Rising.{From, Rising, has-other, not-from, clash, filter-rising, upTo-rising, has-filter, has-upTo, after-new, sorted-set, sort-has}
+use Rattle.links.proofs.Rising.{Rising, not-from, clash, filter-rising, upTo-rising, has-filter, has-upTo, after-new, sorted-set}
 use Rattle.order.proofs.Laws.{below-none, below-cons, below-append}
 use Rattle.patches.proofs.Lists.{Under, under-upTo, under-filter}
 use Rattle.links.proofs.Filters.{filter-below, eqb-turn}
@@ -26,10 +25,6 @@ pub rising-once : (xs : List ℕ) → Rising xs → Once xs
 unfolding Rising Once
 rising-once [] r = tt
 rising-once (x ∷ xs) r = (not-from x (suc x) xs (omega arith) (r .0), rising-once xs (r .1))
-
-has-cons : (q x : ℕ) (xs ys : List ℕ) → has q xs ≡ has q ys → has q (x ∷ xs) ≡ has q (x ∷ ys)
-unfolding anyBy
-has-cons q x xs ys e = ap (λ (b : Bool). eqb q x || b) e
 
 pub perm-has : (q : ℕ) {xs ys : List ℕ} → Perm xs ys → has q xs ≡ has q ys
 unfolding anyBy
@@ -44,11 +39,11 @@ perm-has q (swap {x = x} {y = y} {xs = xs}) = or-swap (eqb q x) (eqb q y) (has q
     or-swap false false c = refl
 perm-has q (then p r) = perm-has q p ∙ perm-has q r
 
-pub or-first : (a b : Bool) → a || b ≡ false → a ≡ false
+or-first : (a b : Bool) → a || b ≡ false → a ≡ false
 or-first true b e = e
 or-first false b e = refl
 
-pub or-second : (a b : Bool) → a || b ≡ false → b ≡ false
+or-second : (a b : Bool) → a || b ≡ false → b ≡ false
 or-second true b e = absurd (clash refl e)
 or-second false b e = e
 
@@ -98,7 +93,7 @@ pub or-right : (a b : Bool) → b ≡ true → a || b ≡ true
 or-right true b e = refl
 or-right false b e = e
 
-pub append-once : (xs ys : List ℕ) → Once xs → Once ys → ((q : ℕ) → has q xs ≡ true → has q ys ≡ false) → Once (xs ++ ys)
+append-once : (xs ys : List ℕ) → Once xs → Once ys → ((q : ℕ) → has q xs ≡ true → has q ys ≡ false) → Once (xs ++ ys)
 unfolding Once anyBy
 append-once [] ys o p d = p
 append-once (x ∷ xs) ys o p d = (
@@ -108,7 +103,7 @@ append-once (x ∷ xs) ys o p d = (
 
 -- ---- the triangles of patches
 
-pub under-below : (n : ℕ) (xs : List ℕ) → Under n xs → Below n xs
+under-below : (n : ℕ) (xs : List ℕ) → Under n xs → Below n xs
 unfolding Under
 under-below n [] u = below-none n
 under-below n (x ∷ xs) u = below-cons n x xs (u .0) (under-below n xs (u .1))
@@ -126,7 +121,7 @@ module _ (of : List ℕ) (m : ℕ) where
   unfolding trisIn
   tris-below p = under-below m _ (under-filter m (λ i. eqb (getD of i noneOf) p) (upTo m) (under-upTo m))
 
-  pub has-all : (g : List ℕ) (t : ℕ) → has t (flatMap (trisIn of m) g) ≡ has (getD of t noneOf) g && ltb t m
+  has-all : (g : List ℕ) (t : ℕ) → has t (flatMap (trisIn of m) g) ≡ has (getD of t noneOf) g && ltb t m
   unfolding flatMap anyBy
   has-all [] t = refl
   has-all (p ∷ g) t = has-append t (trisIn of m p) (flatMap (trisIn of m) g) ∙ rw (has-tris p t, has-all g t) (share (eqb (getD of t noneOf) p) (has (getD of t noneOf) g) (ltb t m))

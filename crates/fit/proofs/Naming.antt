@@ -1,10 +1,10 @@
 -- The loops that number patches and triangles: what each holds after some turns, one turn more, and at the end.
 use mathlib.Core.Path.{_≡_, refl, sym, ap, _∙_}
 use mathlib.Core.Bool.{Bool, true, false, cond, _||_}
-use mathlib.Core.List.{List, [], _∷_, map}
+use mathlib.Core.Logic.{_⊎_, inl, inr}
+use mathlib.Core.List.{List, [], _∷_}
 use Prim.Native.Nat.{ℕ, zero, suc, _+_, _-_, _%_, _<_, _≤_}
 use native.Mathlib.Nat.{not-suc-le-zero}
-use native.Mathlib.Numerals.{add-one}
 use native.Mathlib.Omega.{arith}
 use lib.Dec.{eqb}
 use lib.ListN.{length, getD, set, take, replicate, length-set}
@@ -14,7 +14,7 @@ use Rattle.float.proofs.Numbers.{by-order}
 use Rattle.order.specs.Sort.{Below}
 use Rattle.order.specs.Runs.{anyBy}
 use Rattle.order.proofs.Stable.{by-eq}
-use Rattle.patches.specs.Rows.{noneOf}
+use Rattle.patches.specs.Rows.{noneOf, Numbered}
 use Rattle.links.specs.Words.{has, lows, mostTriangles}
 use Rattle.links.proofs.Filters.{has-more, getD-inside}
 use Rattle.fit.specs.Rows.{groupIn, Grouped, beforeOf}
@@ -111,6 +111,17 @@ pub before-is : (v g : ℕ) → g < mostTriangles → eqb (beforeOf v) g ≡ eqb
 unfolding beforeOf
 before-is zero g h = ne-eqb noneOf g (λ e. absurd (omega arith)) ∙ sym (ne-eqb 0 (suc g) (λ e. absurd (omega arith)))
 before-is (suc v) g h = by-eq v g (λ e. eq-eqb v g e ∙ sym (eq-eqb (suc v) (suc g) (ap suc e))) (λ d. ne-eqb v g d ∙ sym (ne-eqb (suc v) (suc g) (λ e. d (omega arith))))
+
+before-numbered : (v n : ℕ) → v ≤ n → (beforeOf v < n) ⊎ (beforeOf v ≡ noneOf)
+unfolding beforeOf
+before-numbered zero n h = inr refl
+before-numbered (suc v) n h = inl h
+
+-- each triangle has the number of a plane, or none
+pub planes-numbered :
+    (of groups planes : List ℕ) (m ng : ℕ) → ((t : ℕ) → t < m → getD planes t noneOf ≡ beforeOf (getD groups (getD of t noneOf) 0)) → ((p : ℕ) → getD groups p 0 ≤ ng) → Numbered planes m ng
+unfolding Numbered
+planes-numbered of groups planes m ng planed bound t h = rw (planed t h) (before-numbered (getD groups (getD of t noneOf) 0) ng (bound (getD of t noneOf)))
 
 pub before-one : (v : ℕ) → (v ≡ 0 → ⊥) → v - 1 ≡ beforeOf v
 unfolding beforeOf

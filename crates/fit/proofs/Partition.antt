@@ -7,11 +7,10 @@ use native.Mathlib.Nat.{not-suc-le-zero}
 use native.Mathlib.Omega.{arith}
 use lib.Dec.{eqb, ltb}
 use lib.Ieee.{lt}
-use lib.ListN.{length, getD, drop, length-drop}
-use lib.Seq.{length-take-le}
+use lib.ListN.{length, getD}
 use borrow.Author.Tests.{eq-eqb, eqb-true, ltb-true}
 use Rattle.float.specs.Literals.{zero32}
-use Rattle.order.specs.Sort.{sortBy, keyOf, Below, Perm, none, skip, swap, then}
+use Rattle.order.specs.Sort.{Below, Perm, none, skip, swap, then}
 use Rattle.order.specs.Runs.{anyBy, upTo}
 use Rattle.order.proofs.Stable.{sort-perm}
 use Rattle.geometry.specs.declared.Triangle.{Triangle}
@@ -25,7 +24,7 @@ use Rattle.groups.specs.Settings.{Settings}
 use Rattle.groups.specs.Groups.{seedsOf, isAdjacent, runsOf, takes, grownOf, groupsFrom, groupsOf}
 use Rattle.groups.specs.Rows.{groupsIn}
 use Rattle.fit.specs.Rows.{groupIn, Once, Grouped}
-use Rattle.fit.proofs.Members.{rising-once, perm-has, perm-once, perm-turn, has-append, or-right, append-once}
+use Rattle.fit.proofs.Members.{rising-once, perm-has, perm-once, perm-turn, has-append, or-right}
 
 -- ---- lists in another order
 
@@ -72,10 +71,6 @@ once-both (x ∷ xs) ys o =
     go : (p : ℕ) (b : Bool) → eqb p x ≡ b → (has p xs ≡ true → has p ys ≡ false) → eqb p x || has p xs ≡ true → has p ys ≡ false
     go p true e f h = ap (λ (q : ℕ). has q ys) (eqb-true p x e) ∙ right (has x xs) (has x ys) (sym (has-append x xs ys) ∙ o .0)
     go p false e f h = f (sym (ap (λ (b : Bool). b || has p xs) e) ∙ h)
-
-and-first : (a b : Bool) → a && b ≡ true → a ≡ true
-and-first true b e = refl
-and-first false b e = e
 
 and-second : (a b : Bool) → a && b ≡ true → b ≡ true
 and-second true b e = e

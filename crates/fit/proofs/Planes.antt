@@ -11,7 +11,7 @@ use lib.ListN.{length, getD, take, drop, length-drop}
 use lib.Seq.{length-take-le}
 use Rattle.float.proofs.Numbers.{by-order}
 use Rattle.geometry.specs.declared.Triangle.{Triangle}
-use Rattle.order.specs.Sort.{sortBy, Below}
+use Rattle.order.specs.Sort.{sortBy}
 use Rattle.order.specs.Runs.{upTo}
 use Rattle.order.proofs.Stable.{by-eq}
 use Rattle.columns.specs.Columns.{triangleAtOf}
@@ -20,10 +20,9 @@ use Rattle.patches.specs.Rows.{noneOf, trisIn, patchesIn}
 use Rattle.patches.proofs.Lists.{map-under}
 use Rattle.links.specs.Words.{has, itself, mostTriangles, lows, partOf, rowIn, RowBounds}
 use Rattle.groups.specs.Rows.{groupsIn}
-use Rattle.mirror.specs.Plane.{Plane, Edge}
 use Rattle.mirror.specs.declared.PlaneRow.{PlaneRow}
 use Rattle.mirror.specs.Rows as mirror
-use Rattle.mirror.specs.Rows.{rowOf, trisOf, borderOf, edgesIn, planeIn, planesIn, RunsIn, PlanesHeld, planeFloats, planeWords}
+use Rattle.mirror.specs.Rows.{rowOf, trisOf, borderOf, edgesIn, planeIn, planesIn, PlanesHeld, planeFloats, planeWords}
 use Rattle.fit.specs.Fit.{planeOf}
 use Rattle.fit.specs.Rows.{groupIn, Grouped, beforeOf, aloneRowOf, fittedRowOf, planeRowOf, planeRowIn, Runs, Small}
 use Rattle.fit.proofs.Members.{tris-below, group-tris}
@@ -71,13 +70,12 @@ run-is planes sorted mstarts members m ng g are e h =
 
 pub runs-are :
     (planes sorted mstarts members : List ℕ) (m n ng : ℕ) → RowBounds ng sorted mstarts → ((p : ℕ) → p < ng → rowIn sorted mstarts p ≡ trisIn planes m p) → members ≡ lows sorted → m ≤ n →
-    ng < length mstarts → length sorted < 4294967296 → Runs n ng members mstarts
-runs-are planes sorted mstarts members m n ng fenced are e h long short =
+    ng < length mstarts → Runs n ng members mstarts
+runs-are planes sorted mstarts members m n ng fenced are e h long =
     let len : length members ≡ length sorted = ap length e ∙ lows-length sorted in
     record {
       fenced = record { rise = fenced .rise; ends = λ r l. let w = fenced .ends r l in omega arith };
       long = long;
-      short = omega arith;
       below = λ g l. rw (run-is planes sorted mstarts members m ng g are e l) (below-more m n (trisIn planes m g) h (tris-below planes m g));
     }
 

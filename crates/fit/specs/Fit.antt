@@ -1,6 +1,6 @@
 -- A plane for each group: a patch as it is, or the best fit of several.
 use Prim.Native.Nat.{ℕ}
-use mathlib.Core.Bool.{Bool, true, false, cond}
+use mathlib.Core.Bool.{true, false, cond}
 use mathlib.Core.List.{List, [], _∷_, map, flatMap, foldl}
 use lib.Dec.{eqb}
 use lib.ListN.{length}

@@ -1,6 +1,6 @@
 -- A plane's row from the rows of patches, and what the code's contracts cite.
 use mathlib.Core.Path.{_≡_}
-use mathlib.Core.Bool.{Bool, true, false, cond}
+use mathlib.Core.Bool.{true, false, cond}
 use mathlib.Core.List.{List, [], _∷_, foldl}
 use Prim.Native.Nat.{ℕ, zero, suc, _+_, _<_, _≤_}
 use lib.Dec.{eqb}
@@ -85,7 +85,6 @@ planeRowIn tri rows queue starts members mstarts g = planeRowOf tri rows (groupI
 pub record Runs (n ng : ℕ) (members mstarts : List ℕ) : Type 0 where
   pub fenced : RowBounds ng members mstarts
   pub long : ng < length mstarts
-  pub short : length members < 4294967296
   pub below : (g : ℕ) → g < ng → Below n (groupIn members mstarts g)
 
 -- ---- storing

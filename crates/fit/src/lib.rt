@@ -15,7 +15,7 @@ ghost use lib.Ieee.{nan};
 ghost use Rattle.order.specs.Sort.{Below};
 ghost use Rattle.columns.specs.Columns.{columnCount, triangleAtOf};
 ghost use Rattle.patches.specs.Triangles.{trianglesIn};
-ghost use Rattle.patches.specs.Rows.{patchFloats, noneOf, rowIn, trisIn, patchesIn};
+ghost use Rattle.patches.specs.Rows.{patchFloats, noneOf, rowIn, trisIn, patchesIn, Numbered};
 ghost use Rattle.links.specs.Words.{mostTriangles, has, lows};
 ghost use Rattle.groups.specs.Rows.{groupsIn};
 ghost use Rattle.mirror.specs.Rows.{planeFloats, planeWords, rowOf, trisOf, planesIn, PlanesHeld};
@@ -252,6 +252,7 @@ fn name_groups(queue: &[u32], starts: &[u32], np: usize, ng: usize, group_of: &m
     requires { ⌜ np ≤ length (now «group_of») ⌝ }
     requires { ⌜ ng ≤ mostTriangles ⌝ }
     ensures { λ _. ⌜ ((p g : ℕ) → g < ng → eqb (getD (now («group_of» .exit)) p 0) (suc g) ≡ has p (groupIn (now (queue .entry)) (now (starts .entry)) g)) ⌝ }
+    ensures { λ _. ⌜ ((p : ℕ) → getD (now («group_of» .exit)) p 0 ≤ ng) ⌝ }
 {
     columns::clear_u32(group_of);
     let mut g = 0;
@@ -448,11 +449,12 @@ pub fn group_planes(
     requires { ⌜ Grouped (now queue) (now starts) np ng × (ng ≤ mostTriangles) ⌝ }
     requires { ⌜ (np ≤ length (now «group_of»)) × (m ≤ length (now «plane_of»)) ⌝ }
     requires { ⌜ (m ≤ length (now «sort_words»)) × (m ≤ length (now scratch)) ⌝ }
-    requires { ⌜ (m ≤ length (now members)) × (length (now members) < 4294967296) × (ng < length (now mstarts)) ⌝ }
+    requires { ⌜ (m ≤ length (now members)) × (ng < length (now mstarts)) ⌝ }
     requires { ⌜ (planeFloats * ng ≤ length (now floats)) × (planeWords * ng ≤ length (now words)) ⌝ }
     ensures { λ _. ⌜ planesIn (now (floats .exit)) (now (words .exit)) (now (members .exit)) [] ng ≡ map (planeOf (trianglesIn (now (area .entry)) (now (handles .entry)) n m) (patchesIn (now (rows .entry)) (now (of .entry)) m np)) (groupsIn (now (queue .entry)) (now (starts .entry)) ng) ⌝ }
     ensures { λ _. ⌜ PlanesHeld (now (floats .exit)) (now (words .exit)) (now (members .exit)) [] m ng ⌝ }
     ensures { λ _. ⌜ ((g : ℕ) → g < ng → trisOf (rowOf (now (floats .exit)) (now (words .exit)) g) (now (members .exit)) ≡ trisIn (now («plane_of» .exit)) m g) ⌝ }
+    ensures { λ _. ⌜ Numbered (now («plane_of» .exit)) m ng ⌝ }
 {
     name_groups(queue, starts, np, ng, group_of);
     name_planes(of, m, group_of, plane_of);

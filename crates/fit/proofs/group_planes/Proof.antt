@@ -5,6 +5,7 @@ use native.Mathlib.Omega.{arith}
 use borrow.Author.Needs.{needs}
 use Rattle.patches.specs.Rows.{trisIn}
 use Rattle.fit.specs.Rows.{groupIn}
+use Rattle.fit.proofs.Naming.{planes-numbered}
 use Rattle.fit.proofs.Planes.{planes-are, planes-held, run-is, runs-are, tris-is}
 use Rattle.fit.proofs.group_planes.Statement.{statement}
 use Rattle.fit.proofs.group_planes.Tie as tie
@@ -19,14 +20,14 @@ patch-rows-requires : tie.Need-patch-rows-requires
 patch-rows-requires c κs =
     let p = c .before .before .before .before .before .before .before .before .before .before .before .before .before .before .before .before .before .before .before .before .before .before .before .before .before .before .before .before .pre .1 in
     let k = c .before .before .before .before .before .before .before .name-planes .kept .1 .1 .1 .0 in
-    (p .0 .1, (p .1 .0 .1, (omega (arith, k, p .1 .1 .0 .1), (p .1 .1 .1 .0 .0, (p .1 .1 .1 .0 .1, (p .1 .1 .1 .1 .0 .0, p .1 .1 .1 .1 .0 .2))))))
+    (p .0 .1, (p .1 .0 .1, (omega (arith, k, p .1 .1 .0 .1), (p .1 .1 .1 .0 .0, (p .1 .1 .1 .0 .1, (p .1 .1 .1 .1 .0 .0, p .1 .1 .1 .1 .0 .1))))))
 
 put-planes-requires : tie.Need-put-planes-requires
 put-planes-requires c κs =
     let p = c .before .before .before .before .before .before .before .before .before .before .before .before .before .before .before .before .before .before .before .before .before .before .before .before .before .before .before .before .before .before .before .before .before .before .before .before .before .before .before .before .before .before .before .before .before .pre in
     let r = c .before .before .before .before .before .before .before .before .before .before .before .before .before .before .before .before .patch-rows in
     let k = r .kept .1 .1 .1 .1 .1 in
-    (p .0, (p .1 .1 .0 .0, (runs-are (c .before .before .before .before .before .before .before .before .before .before .before .before .before .before .before .before .before .before .before .before .before .before .before .before .name-planes .last .1 .1 .1 .0) (r .last .1 .1 .1 .1 .1 .0) (r .last .1 .1 .1 .1 .1 .1 .0) (c .before .before .before .before .before .before .unpack .last .0) (c .before .before .before .before .before .before .before .before .before .before .before .before .before .before .before .before .before .before .before .before .before .before .before .before .before .before .before .before .before .before .before .before .before .before .before .before .before .before .before .before .before .before .before .before .before .args .m) (c .before .before .before .before .before .before .before .before .before .before .before .before .before .before .before .before .before .before .before .before .before .before .before .before .before .before .before .before .before .before .before .before .before .before .before .before .before .before .before .before .before .before .before .before .before .args .n) (c .before .before .before .before .before .before .before .before .before .before .before .before .before .before .before .before .before .before .before .before .before .before .before .before .before .before .before .before .before .before .before .before .before .before .before .before .before .before .before .before .before .before .before .before .before .args .ng) (r .ensures .0) (r .ensures .1) (c .before .before .before .before .before .before .unpack .ensures) (p .1 .0 .0) (omega (arith, p .1 .1 .1 .1 .1 .0 .2, k .1 .0)) (omega (arith, p .1 .1 .1 .1 .1 .0 .1, k .0)), p .1 .1 .1 .1 .1 .1)))
+    (p .0, (p .1 .1 .0 .0, (runs-are (c .before .before .before .before .before .before .before .before .before .before .before .before .before .before .before .before .before .before .before .before .before .before .before .before .name-planes .last .1 .1 .1 .0) (r .last .1 .1 .1 .1 .1 .0) (r .last .1 .1 .1 .1 .1 .1 .0) (c .before .before .before .before .before .before .unpack .last .0) (c .before .before .before .before .before .before .before .before .before .before .before .before .before .before .before .before .before .before .before .before .before .before .before .before .before .before .before .before .before .before .before .before .before .before .before .before .before .before .before .before .before .before .before .before .before .args .m) (c .before .before .before .before .before .before .before .before .before .before .before .before .before .before .before .before .before .before .before .before .before .before .before .before .before .before .before .before .before .before .before .before .before .before .before .before .before .before .before .before .before .before .before .before .before .args .n) (c .before .before .before .before .before .before .before .before .before .before .before .before .before .before .before .before .before .before .before .before .before .before .before .before .before .before .before .before .before .before .before .before .before .before .before .before .before .before .before .before .before .before .before .before .before .args .ng) (r .ensures .0) (r .ensures .1) (c .before .before .before .before .before .before .unpack .ensures) (p .1 .0 .0) (omega (arith, p .1 .1 .1 .1 .1 .0 .1, k .1 .0)), p .1 .1 .1 .1 .1 .1)))
 
 same-length : tie.Need-same-length
 same-length c = c .before .before .before .before .before .before .before .before .before .before .before .before .before .before .before .before .before .before .before .before .before .before .before .before .before .before .before .before .before .before .before .before .before .before .name-groups .kept .1 .1 .1 .1 .0
@@ -65,12 +66,12 @@ returns c =
     let floats = c .before .before .before .before .put-planes .last .1 .1 .1 .1 .1 .1 .1 .1 .1 .1 .0 in
     let words = c .before .before .before .before .put-planes .last .1 .1 .1 .1 .1 .1 .1 .1 .1 .1 .1 .0 in
     let groups = c .before .before .before .before .before .before .before .before .before .before .before .before .before .before .before .before .before .before .before .before .before .before .before .before .before .before .before .before .before .before .before .before .before .before .name-groups .last .1 .1 .1 .1 .0 in
-    let runs = runs-are planes sorted mstarts members (a .m) (a .n) (a .ng) (r .ensures .0) (r .ensures .1) (c .before .before .before .before .before .before .before .before .before .before .before .unpack .ensures) (p .1 .0 .0) (omega (arith, p .1 .1 .1 .1 .1 .0 .2, k .1 .0)) (omega (arith, p .1 .1 .1 .1 .1 .0 .1, k .0)) in
+    let runs = runs-are planes sorted mstarts members (a .m) (a .n) (a .ng) (r .ensures .0) (r .ensures .1) (c .before .before .before .before .before .before .before .before .before .before .before .unpack .ensures) (p .1 .0 .0) (omega (arith, p .1 .1 .1 .1 .1 .0 .1, k .1 .0)) in
     let run : (g : ℕ) → g < a .ng → groupIn members mstarts g ≡ trisIn planes (a .m) g = λ g l. run-is planes sorted mstarts members (a .m) (a .ng) g (r .ensures .1) (c .before .before .before .before .before .before .before .before .before .before .before .unpack .ensures) l in (
-      planes-are (a .area .now) (a .handles .now) (a .n) (a .m) (a .rows .now) (a .of .now) (a .np) (a .queue .now) (a .starts .now) (a .ng) groups planes members mstarts floats words (p .1 .1 .0 .0) (p .1 .1 .0 .1) (c .before .before .before .before .before .before .before .before .before .before .before .before .before .before .before .before .before .before .before .before .before .before .before .before .before .before .before .before .before .before .before .before .before .before .name-groups .ensures) (c .before .before .before .before .before .before .before .before .before .before .before .before .before .before .before .before .before .before .before .before .before .before .before .before .before .before .before .before .before .name-planes .ensures) runs run (c .before .before .before .before .put-planes .ensures),
+      planes-are (a .area .now) (a .handles .now) (a .n) (a .m) (a .rows .now) (a .of .now) (a .np) (a .queue .now) (a .starts .now) (a .ng) groups planes members mstarts floats words (p .1 .1 .0 .0) (p .1 .1 .0 .1) (c .before .before .before .before .before .before .before .before .before .before .before .before .before .before .before .before .before .before .before .before .before .before .before .before .before .before .before .before .before .before .before .before .before .before .name-groups .ensures .0) (c .before .before .before .before .before .before .before .before .before .before .before .before .before .before .before .before .before .before .before .before .before .before .before .before .before .before .before .before .before .name-planes .ensures) runs run (c .before .before .before .before .put-planes .ensures),
       (
-        planes-held (a .area .now) (a .handles .now) (a .n) (a .m) (a .rows .now) (a .of .now) (a .np) (a .queue .now) (a .starts .now) (a .ng) groups planes members mstarts floats words (p .1 .1 .0 .0) (p .1 .1 .0 .1) (c .before .before .before .before .before .before .before .before .before .before .before .before .before .before .before .before .before .before .before .before .before .before .before .before .before .before .before .before .before .before .before .before .before .before .name-groups .ensures) (c .before .before .before .before .before .before .before .before .before .before .before .before .before .before .before .before .before .before .before .before .before .before .before .before .before .before .before .before .before .name-planes .ensures) runs run (c .before .before .before .before .put-planes .ensures) (omega (arith, p .1 .1 .1 .1 .1 .1 .0, c .before .before .before .before .put-planes .kept .1 .1 .1 .1 .1 .1 .1 .1 .1 .1 .0)) (omega (arith, p .1 .1 .1 .1 .1 .1 .1, c .before .before .before .before .put-planes .kept .1 .1 .1 .1 .1 .1 .1 .1 .1 .1 .1 .0)),
-        tris-is (a .area .now) (a .handles .now) (a .n) (a .m) (a .rows .now) (a .of .now) (a .np) (a .queue .now) (a .starts .now) (a .ng) groups planes members mstarts floats words (p .1 .1 .0 .0) (p .1 .1 .0 .1) (c .before .before .before .before .before .before .before .before .before .before .before .before .before .before .before .before .before .before .before .before .before .before .before .before .before .before .before .before .before .before .before .before .before .before .name-groups .ensures) (c .before .before .before .before .before .before .before .before .before .before .before .before .before .before .before .before .before .before .before .before .before .before .before .before .before .before .before .before .before .name-planes .ensures) runs run (c .before .before .before .before .put-planes .ensures),
+        planes-held (a .area .now) (a .handles .now) (a .n) (a .m) (a .rows .now) (a .of .now) (a .np) (a .queue .now) (a .starts .now) (a .ng) groups planes members mstarts floats words (p .1 .1 .0 .0) (p .1 .1 .0 .1) (c .before .before .before .before .before .before .before .before .before .before .before .before .before .before .before .before .before .before .before .before .before .before .before .before .before .before .before .before .before .before .before .before .before .before .name-groups .ensures .0) (c .before .before .before .before .before .before .before .before .before .before .before .before .before .before .before .before .before .before .before .before .before .before .before .before .before .before .before .before .before .name-planes .ensures) runs run (c .before .before .before .before .put-planes .ensures) (omega (arith, p .1 .1 .1 .1 .1 .1 .0, c .before .before .before .before .put-planes .kept .1 .1 .1 .1 .1 .1 .1 .1 .1 .1 .0)) (omega (arith, p .1 .1 .1 .1 .1 .1 .1, c .before .before .before .before .put-planes .kept .1 .1 .1 .1 .1 .1 .1 .1 .1 .1 .1 .0)),
+        (tris-is (a .area .now) (a .handles .now) (a .n) (a .m) (a .rows .now) (a .of .now) (a .np) (a .queue .now) (a .starts .now) (a .ng) groups planes members mstarts floats words (p .1 .1 .0 .0) (p .1 .1 .0 .1) (c .before .before .before .before .before .before .before .before .before .before .before .before .before .before .before .before .before .before .before .before .before .before .before .before .before .before .before .before .before .before .before .before .before .before .name-groups .ensures .0) (c .before .before .before .before .before .before .before .before .before .before .before .before .before .before .before .before .before .before .before .before .before .before .before .before .before .before .before .before .before .name-planes .ensures) runs run (c .before .before .before .before .put-planes .ensures), planes-numbered (a .of .now) groups planes (a .m) (a .ng) (c .before .before .before .before .before .before .before .before .before .before .before .before .before .before .before .before .before .before .before .before .before .before .before .before .before .before .before .before .before .name-planes .ensures) (c .before .before .before .before .before .before .before .before .before .before .before .before .before .before .before .before .before .before .before .before .before .before .before .before .before .before .before .before .before .before .before .before .before .before .name-groups .ensures .1)),
       ),
     )
 

@@ -68,7 +68,7 @@ same-length : tie.Need-same-length Inv-loop μ-loop
 same-length c = c .before .loop .inv .1 .0 ∙ c .before .before .before .before .clear-u32 .kept .0
 
 returns : tie.Need-returns Inv-loop μ-loop
-returns c = λ p g h. c .before .loop .inv .1 .1 .is p g (omega (arith, h, c .loop-test .left))
+returns c = (λ p g h. c .before .loop .inv .1 .1 .is p g (omega (arith, h, c .loop-test .left)), λ p. omega (arith, c .before .loop .inv .1 .1 .bound p, c .before .loop .inv .0))
 
 pub name-groups-spec : {M : Type 1} → statement M
 name-groups-spec =

@@ -4,7 +4,7 @@ use Prim.Native.Nat.{_+_, _-_}
 use native.Mathlib.Omega.{arith}
 use lib.ListN.{getD}
 use Rattle.columns.specs.Columns.{triangleAtOf}
-use Rattle.fit.specs.Rows.{planeRowIn}
+use Rattle.fit.specs.Rows.{groupIn, planeRowIn}
 use Rattle.fit.proofs.Planes.{Placed, part-length, placed-more, placed-none, row-small}
 use Rattle.fit.proofs.put_planes.Statement.{statement}
 use Rattle.fit.proofs.put_planes.Tie as tie
@@ -96,15 +96,18 @@ plane-row-requires c κs =
 
 put-plane-requires : tie.Need-put-plane-requires Inv-loop μ-loop
 put-plane-requires c κs =
+    let a = c .before .before .before .before .before .before .before .before .before .before .before .before .before .before .before .before .before .before .before .before .args in
+    let g = c .before .before .before .before .before .before .before .before .before .before .loop .g in
     let p = c .before .before .before .before .before .before .before .before .before .before .before .before .before .before .before .before .before .before .before .before .pre in
     let t = c .before .before .before .before .before .before .before .before .before .loop-test .taken in
     let i = c .before .before .before .before .before .before .before .before .before .before .loop .inv in
     let r = p .1 .1 .0 in
     let rise = r .fenced .rise _ t in
     let ends = r .fenced .ends (c .before .before .before .before .before .before .before .before .before .before .loop .g + 1) (omega (arith, t)) in
-    let short = r .short in
+    let low = c .before .before .before .before .before .before .shared-slice-known10 .given g in
+    let high = c .before .before .before .before .before .shared-slice-known11 .given (g + 1) in
     let long = part-length (c .before .before .before .before .before .before .before .before .before .before .before .before .before .before .before .before .before .before .before .before .args .members .now) (getD (c .before .before .before .before .before .before .before .before .before .before .before .before .before .before .before .before .before .before .before .before .args .mstarts .now) (c .before .before .before .before .before .before .before .before .before .before .loop .g) 0) (getD (c .before .before .before .before .before .before .before .before .before .before .before .before .before .before .before .before .before .before .before .before .args .mstarts .now) (c .before .before .before .before .before .before .before .before .before .before .loop .g + 1) 0) ends in
-    (omega (arith, p .1 .1 .1 .0, t, i .len-floats), (omega (arith, p .1 .1 .1 .1, t, i .len-words), row-small _ _ _ _ _ _ (c .before .before .plane-row .ensures) (omega arith) (omega arith)))
+    (omega (arith, p .1 .1 .1 .0, t, i .len-floats), (omega (arith, p .1 .1 .1 .1, t, i .len-words), row-small (triangleAtOf (a .area .now) (a .handles .now) (a .n)) (a .rows .now) (groupIn (a .queue .now) (a .starts .now) g) (groupIn (a .members .now) (a .mstarts .now) g) (getD (a .mstarts .now) g 0) (c .before .before .plane-row .result) (c .before .before .plane-row .ensures) (omega arith) (omega arith)))
 
 add-g : tie.Need-add-g Inv-loop μ-loop
 add-g c = omega (arith, c .before .before .before .before .before .before .before .before .before .before .before .before .before .before .before .before .before .before .before .before .before .before .before .before .before .good, c .before .before .before .before .before .before .before .before .before .before .before .before .before .before .before .before .before .before .before .before .before .before .before .before .before .pre .1 .0 .long, c .before .before .before .before .before .before .before .before .before .before .before .before .before .before .loop-test .taken)
