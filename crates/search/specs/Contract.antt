@@ -95,6 +95,15 @@ module _ (S : Scene) (q : Task) where
     pub room : Rows (q .room) fs ws
     pub sound : Sound depth s
 
+  -- what a visit of the first `len` planes of the state asks
+  pub record Visitable (len : ℕ) (s : ImageSearch) (fs : List Float) (ws : List ℕ) : Type 0 where
+    pub some : 0 < len
+    pub within : len ≤ maxOrder
+    pub under : s .nodes < most
+    pub lent : LentAs
+    pub room : Rows (q .room) fs ws
+    pub sound : Sound len s
+
 -- what the search holds
 abbrev pub heldIn : ImageSearch → List Float → List ℕ → Search
 heldIn s fs ws = search (s .nodes) (s .rays) (candidatesIn (s .found) fs ws) (s .over)
@@ -116,8 +125,8 @@ pub record Pushed (planes : List Plane) (depth p : ℕ) (s r : ImageSearch) : Ty
   pub same-found : r .found ≡ s .found
   pub same-over : r .over ≡ s .over
 
--- the path c of `len` planes, which passes, is a candidate with the number of its image, where there is room
-pub record Kept (room len : ℕ) (c : PathCandidate) (s : ImageSearch) (fs : List Float) (ws : List ℕ) (r : ImageSearch) (fs′ : List Float) (ws′ : List ℕ) : Type 0 where
+-- the path c of `len` planes, which passes, is a candidate with that number, where there is room
+pub record Kept (room len number : ℕ) (c : PathCandidate) (s : ImageSearch) (fs : List Float) (ws : List ℕ) (r : ImageSearch) (fs′ : List Float) (ws′ : List ℕ) : Type 0 where
   pub same-seq : r .seq ≡ s .seq
   pub same-images : r .images ≡ s .images
   pub same-nodes : r .nodes ≡ s .nodes
@@ -127,7 +136,7 @@ pub record Kept (room len : ℕ) (c : PathCandidate) (s : ImageSearch) (fs : Lis
       (seq : List ℕ) → length seq ≡ len →
       heldIn r fs′ ws′
       ≡ search (s .nodes) (s .rays)
-      (cond (ltb (s .found) room) (candidatesIn (s .found) fs ws ++ tapOf (s .nodes) seq (foundOf c) ∷ []) (candidatesIn (s .found) fs ws))
+      (cond (ltb (s .found) room) (candidatesIn (s .found) fs ws ++ tapOf number seq (foundOf c) ∷ []) (candidatesIn (s .found) fs ws))
       (cond (ltb (s .found) room) (s .over) true)
 
 -- the first `len` planes of the state were visited

@@ -21,7 +21,7 @@ ghost use Rattle.ranking.specs.Rows.{Rows, candidatesIn};
 ghost use Rattle.paths.specs.Areas.{Lent, ReadAs};
 ghost use Rattle.claim.specs.Query.{search, searched};
 ghost use Rattle.search.specs.Outcome.{onOf, outcomesOf};
-ghost use Rattle.search.specs.Contract.{scene, firstsOf, LentAs, Sound, Ready, Walked, Pushed, Kept, Visited};
+ghost use Rattle.search.specs.Contract.{scene, firstsOf, Ready, Visitable, Walked, Pushed, Kept, Visited};
 
 // What is searched for, and over how much: it does not change on the way.
 struct Task {
@@ -92,6 +92,7 @@ fn push(
 fn keep(
     room: usize,
     len: usize,
+    number: u32,
     c: PathCandidate,
     st: ImageSearch,
     fs: &mut [f32],
@@ -99,7 +100,7 @@ fn keep(
 ) -> ImageSearch
     requires { ⌜ (len ≤ maxOrder) × (st .found ≤ room) ⌝ }
     requires { ⌜ Rows room (now fs) (now ws) ⌝ }
-    ensures { λ r. ⌜ Kept room len c st (now (fs .entry)) (now (ws .entry)) r (now (fs .exit)) (now (ws .exit)) ⌝ }
+    ensures { λ r. ⌜ Kept room len number c st (now (fs .entry)) (now (ws .entry)) r (now (fs .exit)) (now (ws .exit)) ⌝ }
 {
     let mut s = st;
     if s.found < room {
@@ -111,7 +112,7 @@ fn keep(
             delay: c.delay,
             direction,
             gains,
-            number: s.nodes,
+            number,
         };
         ranking::put_candidate(fs, ws, s.found, tap);
         s.found = s.found + 1;
@@ -122,7 +123,8 @@ fn keep(
 }
 
 // Visits the first `len` planes of the state: counts the image, judges its path, and keeps it if it passes.
-fn visit(
+fn visit_by_value(
+    st: ImageSearch,
     padded: &[f32],
     nodes: &[u32],
     perm: &[u32],
@@ -136,14 +138,10 @@ fn visit(
     edges: &[f32],
     q: Task,
     len: usize,
-    st: ImageSearch,
     fs: &mut [f32],
     ws: &mut [u32],
 ) -> ImageSearch
-    requires { ⌜ (0 < len) × (len ≤ maxOrder) × (st .nodes < spec.most) ⌝ }
-    requires { ⌜ LentAs (scene (now padded) (now nodes) (now perm) (now rows) (now handles) (now materials) (now columns) (now floats) (now words) (now members) (now edges)) q ⌝ }
-    requires { ⌜ Rows (q .room) (now fs) (now ws) ⌝ }
-    requires { ⌜ Sound (scene (now padded) (now nodes) (now perm) (now rows) (now handles) (now materials) (now columns) (now floats) (now words) (now members) (now edges)) q len st ⌝ }
+    requires { ⌜ Visitable (scene (now padded) (now nodes) (now perm) (now rows) (now handles) (now materials) (now columns) (now floats) (now words) (now members) (now edges)) q len st (now fs) (now ws) ⌝ }
     ensures { λ r. ⌜ Visited (scene (now (padded .entry)) (now (nodes .entry)) (now (perm .entry)) (now (rows .entry)) (now (handles .entry)) (now (materials .entry)) (now (columns .entry)) (now (floats .entry)) (now (words .entry)) (now (members .entry)) (now (edges .entry))) q len st (now (fs .entry)) (now (ws .entry)) r (now (fs .exit)) (now (ws .exit)) ⌝ }
 {
     let seq = st.seq;
@@ -172,12 +170,99 @@ fn visit(
     );
     let mut s = st;
     s.nodes = s.nodes + 1;
+    let number = s.nodes;
     s.rays = s.rays + v.rays;
     let fate = v.fate;
     let Fate::Passed(c) = fate else {
         return s;
     };
-    keep(q.room, len, c, s, fs, ws)
+    keep(q.room, len, number, c, s, fs, ws)
+}
+
+// The thin step: the state is changed in place.
+fn visit_in_place(
+    st: &mut ImageSearch,
+    padded: &[f32],
+    nodes: &[u32],
+    perm: &[u32],
+    rows: &[f32],
+    handles: &[u32],
+    materials: &[f32],
+    columns: &[f32],
+    floats: &[f32],
+    words: &[u32],
+    members: &[u32],
+    edges: &[f32],
+    q: Task,
+    len: usize,
+    fs: &mut [f32],
+    ws: &mut [u32],
+)
+    requires { ⌜ Visitable (scene (now padded) (now nodes) (now perm) (now rows) (now handles) (now materials) (now columns) (now floats) (now words) (now members) (now edges)) q len (now st) (now fs) (now ws) ⌝ }
+    ensures { λ _. ⌜ Visited (scene (now (padded .entry)) (now (nodes .entry)) (now (perm .entry)) (now (rows .entry)) (now (handles .entry)) (now (materials .entry)) (now (columns .entry)) (now (floats .entry)) (now (words .entry)) (now (members .entry)) (now (edges .entry))) q len (now (st .entry)) (now (fs .entry)) (now (ws .entry)) (now (st .exit)) (now (fs .exit)) (now (ws .exit)) ⌝ }
+{
+    *st = visit_by_value(
+        *st,
+        padded,
+        nodes,
+        perm,
+        rows,
+        handles,
+        materials,
+        columns,
+        floats,
+        words,
+        members,
+        edges,
+        q,
+        len,
+        fs,
+        ws,
+    );
+}
+
+// The visit as the search calls it: by value, over a local that is lent to the thin step.
+fn visit(
+    st: ImageSearch,
+    padded: &[f32],
+    nodes: &[u32],
+    perm: &[u32],
+    rows: &[f32],
+    handles: &[u32],
+    materials: &[f32],
+    columns: &[f32],
+    floats: &[f32],
+    words: &[u32],
+    members: &[u32],
+    edges: &[f32],
+    q: Task,
+    len: usize,
+    fs: &mut [f32],
+    ws: &mut [u32],
+) -> ImageSearch
+    requires { ⌜ Visitable (scene (now padded) (now nodes) (now perm) (now rows) (now handles) (now materials) (now columns) (now floats) (now words) (now members) (now edges)) q len st (now fs) (now ws) ⌝ }
+    ensures { λ r. ⌜ Visited (scene (now (padded .entry)) (now (nodes .entry)) (now (perm .entry)) (now (rows .entry)) (now (handles .entry)) (now (materials .entry)) (now (columns .entry)) (now (floats .entry)) (now (words .entry)) (now (members .entry)) (now (edges .entry))) q len st (now (fs .entry)) (now (ws .entry)) r (now (fs .exit)) (now (ws .exit)) ⌝ }
+{
+    let mut s = st;
+    visit_in_place(
+        &mut s,
+        padded,
+        nodes,
+        perm,
+        rows,
+        handles,
+        materials,
+        columns,
+        floats,
+        words,
+        members,
+        edges,
+        q,
+        len,
+        fs,
+        ws,
+    );
+    s
 }
 
 // Each plane in turn at place `depth`, with all that goes on from it.
@@ -260,6 +345,7 @@ fn node(
     if may(floats, words, q, seq, depth, p) {
         let s = push(floats, words, q, depth, p, st);
         let t = visit(
+            s,
             padded,
             nodes,
             perm,
@@ -273,7 +359,6 @@ fn node(
             edges,
             q,
             depth + 1,
-            s,
             fs,
             ws,
         );

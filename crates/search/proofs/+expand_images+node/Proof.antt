@@ -125,7 +125,7 @@ node-visit-requires t c κs =
     let w = pre .1 .within in
     let n = c .before .before .before .before .before .before .if1 .left in
     let u = c .before .before .push .ensures (a .members .now) (a .edges .now) in
-    ((omega arith, omega (arith, d, w), omega (arith, n, pre .1 .bound, u .same-nodes)), (pre .1 .lent, (pre .1 .room, law.sound-push (scene (a .padded .now) (a .nodes .now) (a .perm .now) (a .rows .now) (a .handles .now) (a .materials .now) (a .columns .now) (a .floats .now) (a .words .now) (a .members .now) (a .edges .now)) (a .q) (a .depth) (a .p) (a .st) (c .before .before .push .result) (omega (arith, d, w)) (pre .0) u (pre .1 .sound))))
+    record { some = omega arith; within = omega (arith, d, w); under = omega (arith, n, pre .1 .bound, u .same-nodes); lent = pre .1 .lent; room = pre .1 .room; sound = law.sound-push (scene (a .padded .now) (a .nodes .now) (a .perm .now) (a .rows .now) (a .handles .now) (a .materials .now) (a .columns .now) (a .floats .now) (a .words .now) (a .members .now) (a .edges .now)) (a .q) (a .depth) (a .p) (a .st) (c .before .before .push .result) (omega (arith, d, w)) (pre .0) u (pre .1 .sound) }
 
 node-add-if3 : (t : ℕ) → node-lts.Need-add-if3 (may-reads.Asked, may-reads.Learnt, push-reads.Asked, push-reads.Learnt, visit-reads.Asked, visit-reads.Learnt, expand-below t, expand.Post) (node-at t) node.Post
 node-add-if3 t c =

@@ -10,8 +10,8 @@ use Rattle.search.proofs.keep.Tie as tie
 
 -- `search::keep` meets its contract: a row more where there is room, else the flag.
 
-cast-t12 : tie.Need-cast-t12
-cast-t12 c = omega (arith, c .before .before .before .before .before .before .pre .0)
+cast-t13 : tie.Need-cast-t13
+cast-t13 c = omega (arith, c .before .before .before .before .before .before .pre .0)
 
 put-candidate-requires : tie.Need-put-candidate-requires
 put-candidate-requires c κs = let pre = c .before .before .before .before .before .before .before .before .pre in let t = c .before .before .before .before .if1 .taken in record { few = omega (arith, pre .1 .few, t); floats = omega (arith, pre .1 .floats, t); words = omega (arith, pre .1 .words, t) }
@@ -35,7 +35,7 @@ returns c = let a = c .before .before .before .before .before .before .before .b
       few = let t = c .before .before .before .before .before .before .before .before .before .before .if1 .taken in omega arith;
       held =
           λ seq e.
-          keep-some (a .room) (a .st .found) (a .st .nodes) (a .st .rays) (a .fs .now) (c .before .before .before .before .before .put-candidate .last .0) (a .ws .now) (c .before .before .before .before .before .put-candidate .last .1 .0) (a .st .over) (tapOf (a .st .nodes) seq (foundOf (a .c)))
+          keep-some (a .room) (a .st .found) (a .st .nodes) (a .st .rays) (a .fs .now) (c .before .before .before .before .before .put-candidate .last .0) (a .ws .now) (c .before .before .before .before .before .put-candidate .last .1 .0) (a .st .over) (tapOf (a .number) seq (foundOf (a .c)))
           (c .before .before .before .before .before .before .before .before .before .before .if1 .taken) (rw e (c .before .before .before .before .before .put-candidate .ensures));
     }
 
@@ -49,7 +49,7 @@ returns-2 c = let a = c .before .before .before .before .args in
       few = c .before .before .before .before .pre .0 .1;
       held =
           λ seq e.
-          keep-none (a .room) (a .st .found) (a .st .nodes) (a .st .rays) (a .fs .now) (a .fs .now) (a .ws .now) (a .ws .now) (a .st .over) (tapOf (a .st .nodes) seq (foundOf (a .c)))
+          keep-none (a .room) (a .st .found) (a .st .nodes) (a .st .rays) (a .fs .now) (a .fs .now) (a .ws .now) (a .ws .now) (a .st .over) (tapOf (a .number) seq (foundOf (a .c)))
           (c .if1 .left);
     }
 
@@ -57,7 +57,7 @@ pub keep-spec : {M : Type 1} → statement M
 keep-spec =
     tie.close
     (tie.spec
-    cast-t12
+    cast-t13
     put-candidate-requires
     add-s
     same-length
