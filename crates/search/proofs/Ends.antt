@@ -1,7 +1,7 @@
 -- The search from nothing: its start is sound, and its end is the claim's `searched`.
-use Prim.Native.Nat.{ℕ, _+_, _-_, _≤_, _<_}
-use mathlib.Core.Path.{_≡_, refl, sym, ap, _∙_}
-use mathlib.Core.Bool.{Bool, false}
+use Prim.Native.Nat.{ℕ, _-_}
+use mathlib.Core.Path.{_≡_, sym, ap, _∙_}
+use mathlib.Core.Bool.{false}
 use mathlib.Core.List.{List, []}
 use native.Mathlib.Omega.{arith}
 use native.Mathlib.Nat.{sub-zero}
@@ -10,7 +10,6 @@ use lib.ListN.{getD, take}
 use Rattle.geometry.specs.declared.Triangle.{Triangle}
 use Rattle.build.specs.Tree.{Tree}
 use Rattle.mirror.specs.Plane.{noPoint}
-use Rattle.bounces.specs.Image.{imageOf}
 use Rattle.bounces.proofs.Laws.{image-none}
 use Rattle.sequences.specs.Allowed.{most, below}
 use Rattle.sequences.specs.Run.{run}

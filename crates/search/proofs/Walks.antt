@@ -1,6 +1,6 @@
 -- The parts of the search run over their sequences: nothing, one plane more, all planes, a visit and what goes on from it.
 -- Each law puts two runs together by the laws of the fold; the proof of the recursion cites them.
-use Prim.Native.Nat.{ℕ, suc, _+_, _-_, _*_, _≤_, _<_}
+use Prim.Native.Nat.{ℕ, _+_, _-_, _≤_, _<_}
 use mathlib.Core.Path.{_≡_, refl, sym, ap, subst, _∙_}
 use mathlib.Core.Bool.{true, false}
 use mathlib.Core.List.{List, [], _∷_, _++_, foldl-append}
@@ -10,10 +10,6 @@ use lib.Ieee.{Float}
 use lib.ListN.{length, getD, take, set}
 use lib.Seq.{take-suc-set, take-take, take-set-le, getD-set-same, getD-set-other}
 use Rattle.float.proofs.Numbers.{by-order}
-use Rattle.geometry.specs.declared.Triangle.{Triangle}
-use Rattle.build.specs.Tree.{Tree}
-use Rattle.mirror.specs.Plane.{noPoint}
-use Rattle.bounces.specs.Image.{imageOf}
 use Rattle.bounces.proofs.Laws.{images-put}
 use Rattle.sequences.specs.Allowed.{upto, may, below, at}
 use Rattle.sequences.specs.Run.{step}
@@ -24,7 +20,7 @@ use Rattle.claim.specs.Query.{Search, search, visitPath}
 use Rattle.search.specs.declared.Task.{Task}
 use Rattle.search.specs.declared.ImageSearch.{ImageSearch}
 use Rattle.search.proofs.Laws.{on-length, planes-length}
-use Rattle.search.specs.Contract.{Scene, planesOf, Reads, firstsOf, pathIn, runIn, Sound, Ready, heldIn, Walked, Pushed, Visited}
+use Rattle.search.specs.Contract.{Scene, planesOf, firstsOf, pathIn, runIn, Sound, Ready, heldIn, Walked, Pushed, Visited}
 
 abbrev count : Search → ℕ
 count w = w .images

@@ -15,7 +15,6 @@ use Rattle.bounces.specs.Areas.{maxOrder}
 use Rattle.bounces.specs.Image.{imageOf}
 use Rattle.sequences.specs.Allowed.{most, mostPlanes}
 use Rattle.sequences.specs.Run.{run}
-use Rattle.ranking.specs.declared.Candidate.{Candidate}
 use Rattle.ranking.specs.Rows.{Rows, candidatesIn}
 use Rattle.paths.specs.declared.PathCandidate.{PathCandidate}
 use Rattle.paths.specs.Areas.{Lent, ReadAs}

@@ -1,7 +1,5 @@
-use borrow.Author.Needs.{needs}
-use mathlib.Core.Path.{_≡_, refl, sym, ap, _∙_}
+use mathlib.Core.Path.{refl}
 use native.Mathlib.Omega.{arith}
-use Rattle.ranking.specs.Rows.{Put}
 use Rattle.claim.specs.Answer.{tapOf}
 use Rattle.search.specs.Outcome.{foundOf}
 use Rattle.search.proofs.Laws.{keep-some, keep-none}
