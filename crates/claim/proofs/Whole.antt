@@ -134,7 +134,7 @@ in-at (s ∷ l) (suc i) h = inr (in-at l i (omega arith))
 
 module _ (on : List ℕ) (order : ℕ) (speed rate : Float) (limit : ℕ) (path : List ℕ → Outcome) (small : order < 2 ^ 32)
     (proper : (s : List ℕ) (r : ℕ) (f : Found) → IsAllowed on order s → path s ≡ passes r f → Proper f) where
-  rankable : (seen : List (List ℕ)) → IsVisited on order seen → (c : Candidate) → Has c (found path 1 seen) → Rankable c
+  pub rankable : (seen : List (List ℕ)) → IsVisited on order seen → (c : Candidate) → Has c (found path 1 seen) → Rankable c
   rankable seen v c h =
       let a = found-at path 1 seen c h in
       let s = getD seen (a .place) [] in

@@ -1,0 +1,64 @@
+use mathlib.Core.Path.{refl}
+use native.Mathlib.Omega.{arith}
+use Rattle.claim.specs.Answer.{tapOf}
+use Rattle.search.specs.Outcome.{foundOf}
+use Rattle.search.proofs.Laws.{keep-some, keep-none}
+use Rattle.search.proofs.keep.Statement.{statement}
+use Rattle.search.proofs.keep.Tie as tie
+
+-- `search::keep` meets its contract: a row more where there is room, else the flag.
+
+cast-t13 : tie.Need-cast-t13
+cast-t13 c = omega (arith, c .before .before .before .before .before .before .pre .0)
+
+put-candidate-requires : tie.Need-put-candidate-requires
+put-candidate-requires c κs = let pre = c .before .before .before .before .before .before .before .before .pre in let t = c .before .before .before .before .if1 .taken in record { few = omega (arith, pre .1 .few, t); floats = omega (arith, pre .1 .floats, t); words = omega (arith, pre .1 .words, t) }
+
+add-s : tie.Need-add-s
+add-s c = let t = c .before .before .before .before .before .before .before .before .before .before .if1 .taken in omega (arith, c .before .before .before .before .before .before .before .before .before .before .before .before .before .before .pre .1 .few, t)
+
+same-length : tie.Need-same-length
+same-length c = c .before .before .before .before .before .put-candidate .kept .0
+
+same-length-2 : tie.Need-same-length-2
+same-length-2 c = c .before .before .before .before .before .put-candidate .kept .1 .0
+
+returns : tie.Need-returns
+returns c = let a = c .before .before .before .before .before .before .before .before .before .before .before .before .before .before .args in
+    record {
+      same-seq = refl;
+      same-images = refl;
+      same-nodes = refl;
+      same-rays = refl;
+      few = let t = c .before .before .before .before .before .before .before .before .before .before .if1 .taken in omega arith;
+      held =
+          λ seq e.
+          keep-some (a .room) (a .st .found) (a .st .nodes) (a .st .rays) (a .fs .now) (c .before .before .before .before .before .put-candidate .last .0) (a .ws .now) (c .before .before .before .before .before .put-candidate .last .1 .0) (a .st .over) (tapOf (a .number) seq (foundOf (a .c)))
+          (c .before .before .before .before .before .before .before .before .before .before .if1 .taken) (rw e (c .before .before .before .before .before .put-candidate .ensures));
+    }
+
+returns-2 : tie.Need-returns-2
+returns-2 c = let a = c .before .before .before .before .args in
+    record {
+      same-seq = refl;
+      same-images = refl;
+      same-nodes = refl;
+      same-rays = refl;
+      few = c .before .before .before .before .pre .0 .1;
+      held =
+          λ seq e.
+          keep-none (a .room) (a .st .found) (a .st .nodes) (a .st .rays) (a .fs .now) (a .fs .now) (a .ws .now) (a .ws .now) (a .st .over) (tapOf (a .number) seq (foundOf (a .c)))
+          (c .if1 .left);
+    }
+
+pub keep-spec : {M : Type 1} → statement M
+keep-spec =
+    tie.close
+    (tie.spec
+    cast-t13
+    put-candidate-requires
+    add-s
+    same-length
+    same-length-2
+    returns
+    returns-2)
