@@ -59,6 +59,7 @@ abbrev pub mostRays : ℕ
 mostRays = 1458
 
 module _ (S : Scene) (q : Task) where
+  -- the planes, what is asked of the areas, and what they read as
   abbrev pub planesOf : List Plane
   planesOf = planesIn (S .floats) (S .words) (S .members) (S .edges) (q .count)
 
@@ -68,6 +69,7 @@ module _ (S : Scene) (q : Task) where
   abbrev pub Reads : (ℕ → Triangle) → Tree → Type 0
   Reads tri t = ReadAs (S .padded) (S .nodes) (S .perm) (S .rows) (S .handles) (S .columns) (q .n) (S .floats) (S .words) (S .members) (q .count) tri t
 
+  -- what the claim is given, and its run from what the search holds
   abbrev pub firstsOf : List ℕ
   firstsOf = onOf planesOf (q .source)
 
