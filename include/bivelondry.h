@@ -75,6 +75,25 @@ bool biv_intersect(const float *padded, size_t padded_len, const uint32_t *nodes
                    const float *rows, size_t rows_len, const uint32_t *handles, size_t handles_len, size_t count,
                    const float *ray, size_t ray_len, float *hit, size_t hit_len, size_t *place, size_t place_len);
 
+/* ---- paths */
+
+/* paths/specs/Path.antt, pathOf. The path from source by way of the planes seq (1 to 8 of them, source side first, each below count) to
+ * listener. Answers its fate: 0 for a candidate, else the first test that failed: 1 image too far, 2 plane not crossed, 3 off the surface,
+ * 4 too long, 5 faded at an edge, 6 blocked, 7 too faint. rays[0] gets the rays traced; found (13 floats or more) gets a candidate's energy,
+ * delay, direction (3) and gains (8), and is as it was for the other fates. padded, nodes, perm, rows and handles are those of
+ * biv_intersect, with nodes_count above 0 nodes; a row of materials is 16 floats (absorptions, transmissions), and each handle has one, as has
+ * handle 0; columns have n floats each. A plane is 12 floats of floats (normal, offset, box from, box to, spread, area) and 5 words of words
+ * (first and count of its triangles in members, first and count of its border edges in edges, fitted); an edge is 6 floats, a triangle is
+ * below n. counts and setting_floats are the settings as for biv_load_scene, source and listener 3 floats each. The caller keeps all this. */
+uint32_t biv_path(const float *padded, size_t padded_len, const uint32_t *nodes, size_t nodes_len, const uint32_t *perm, size_t perm_len,
+                  const float *rows, size_t rows_len, const uint32_t *handles, size_t handles_len, size_t nodes_count,
+                  const float *materials, size_t materials_len, const float *columns, size_t columns_len, size_t n,
+                  const float *floats, size_t floats_len, const uint32_t *words, size_t words_len,
+                  const uint32_t *members, size_t members_len, const float *edges, size_t edges_len, size_t count,
+                  const uint32_t *counts, size_t counts_len, const float *setting_floats, size_t setting_floats_len,
+                  const uint32_t *seq, size_t seq_len, const float *source, size_t source_len, const float *listener, size_t listener_len,
+                  float *found, size_t found_len, uint32_t *rays, size_t rays_len);
+
 #ifdef __cplusplus
 }
 #endif
