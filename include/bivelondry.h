@@ -94,6 +94,15 @@ uint32_t biv_path(const float *padded, size_t padded_len, const uint32_t *nodes,
                   const uint32_t *seq, size_t seq_len, const float *source, size_t source_len, const float *listener, size_t listener_len,
                   float *found, size_t found_len, uint32_t *rays, size_t rays_len);
 
+/* ---- ranking */
+
+/* ranking/specs/Rows.antt, Ranked. Puts the positions of the candidates kept, best first, into out; answers how many. A candidate is 13
+ * floats of fs (energy, delay, direction, gains; energy and delay are numbers) and 2 words of ws (order, number); there are n. keys, index,
+ * words and scratch have n, out has limit; the caller keeps the lengths. */
+size_t biv_rank_reflections(const float *fs, size_t fs_len, const uint32_t *ws, size_t ws_len, size_t n, float speed, float rate, size_t limit,
+                            uint64_t *keys, size_t keys_len, uint32_t *index, size_t index_len, uint64_t *words, size_t words_len,
+                            uint64_t *scratch, size_t scratch_len, uint32_t *out, size_t out_len);
+
 #ifdef __cplusplus
 }
 #endif
