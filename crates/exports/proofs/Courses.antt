@@ -23,15 +23,27 @@ use Rattle.exports.specs.declared.Course.{Course}
 use Rattle.exports.specs.declared.FlatPath.{FlatPath}
 use Rattle.exports.specs.Paths.{Coursed, nothingOf, flatPathOf, pathFloats, Walked}
 
-abbrev course : List ℕ → List Vec3 → Course
+abbrev pub course : List ℕ → List Vec3 → Course
 course seq images = record { seq = seq; images = images }
 
 -- the source stands first
-pub first-image : (seq : List ℕ) (images : List Vec3) (source : Vec3) (floats : List Float) (words : List ℕ) (count : ℕ) (members : List ℕ) (edges : List Float) (j : ℕ) → j ≤ 0 →
+first-image :
+    (seq : List ℕ) (images : List Vec3) (source : Vec3) (floats : List Float) (words : List ℕ) (count : ℕ) (members : List ℕ) (edges : List Float) (j : ℕ) → j ≤ 0 →
     getD (source ∷ images) j noPoint ≡ imageOf (planesIn floats words members edges count) source (take j seq)
 unfolding imageOf
 first-image seq images source floats words count members edges zero h = refl
 first-image seq images source floats words count members edges (suc j) h = let no : ⊥ = omega arith in absurd no
+
+pub coursed-none :
+    (floats : List Float) (words : List ℕ) (count : ℕ) (s : Vec3) (seq : List ℕ) →
+    Coursed floats words count s seq 0 (course (0 ∷ 0 ∷ 0 ∷ 0 ∷ 0 ∷ 0 ∷ 0 ∷ 0 ∷ []) (s ∷ s ∷ s ∷ s ∷ s ∷ s ∷ s ∷ s ∷ s ∷ []))
+coursed-none floats words count s seq =
+    record {
+      seq-room = refl;
+      images-room = refl;
+      planes = refl;
+      mirrored = first-image (0 ∷ 0 ∷ 0 ∷ 0 ∷ 0 ∷ 0 ∷ 0 ∷ 0 ∷ []) (s ∷ s ∷ s ∷ s ∷ s ∷ s ∷ s ∷ s ∷ []) s floats words count;
+    }
 
 pub coursed-more :
     (floats : List Float) (words : List ℕ) (count : ℕ) (source : Vec3) (seq : List ℕ) (k : ℕ) (c : Course) (p : ℕ) (v : Vec3) →

@@ -11,9 +11,8 @@ use trace::Hit;
 use vector::Ray;
 use vector::Vec3;
 ghost use mathlib.Core.Path.{_≡_};
-ghost use mathlib.Core.List.{List, [], _∷_};
-ghost use Prim.Native.Nat.{ℕ, _+_, _*_, _≤_, _<_};
-ghost use lib.Ieee.{Float};
+ghost use mathlib.Core.List.{[], _∷_};
+ghost use Prim.Native.Nat.{ℕ, _*_, _≤_, _<_};
 ghost use lib.ListN.{length, getD};
 ghost use lib.Seq.{sets};
 ghost use Rattle.float.specs.Sqrt.{sqrtOf};
@@ -37,7 +36,6 @@ ghost use Rattle.trace.specs.Leaf.{Rows};
 ghost use Rattle.trace.specs.Trace.{intersectOf, paddedTreeOf, Held};
 ghost use Rattle.bvh.specs.Bvh.{Lent, BvhOf};
 ghost use Rattle.ranking.specs.Rows.{Ranked, Lent as Candidates};
-ghost use Rattle.vector.specs.declared.Vec3.{Vec3};
 ghost use Rattle.mirror.specs.Rows.{planeFloats, planeWords, planesIn};
 ghost use Rattle.bounces.specs.Areas.{maxOrder};
 ghost use Rattle.paths.specs.Path.{pathOf};
@@ -483,47 +481,26 @@ struct Course {
     images: [Vec3; 9],
 }
 
-fn no_course(source: Vec3) -> Course
-    ensures { λ r. ⌜ ((floats : List Float) (words : List ℕ) (count : ℕ) (seq : List ℕ) → Coursed floats words count source seq 0 r) ⌝ }
-{
-    let seq = [0u32; 8];
-    let images = [source; 9];
-    Course { seq, images }
-}
-
-// Plane p at k.
-fn add_plane(
-    floats: &[f32],
-    words: &[u32],
-    count: usize,
-    k: usize,
-    p: u32,
-    course: Course,
-) -> Course
-    requires { ⌜ (planeFloats * count ≤ length (now floats)) × (planeWords * count ≤ length (now words)) × (p < count) ⌝ }
-    requires { ⌜ (k < maxOrder) × (length (course .seq) ≡ maxOrder) × (length (course .images) ≡ maxOrder + 1) ⌝ }
-    ensures { λ r. ⌜ ((source : Vec3) (seq : List ℕ) → k < length seq → p ≡ getD seq k 0 → Coursed (now (floats .entry)) (now (words .entry)) count source seq k course → Coursed (now (floats .entry)) (now (words .entry)) count source seq (k + 1) r) ⌝ }
-{
-    let mut u = course;
-    let image = u.images[k];
-    let next = bounces::next_image(floats, words, p as usize, image);
-    u.seq[k] = p;
-    u.images[k + 1] = next;
-    u
-}
-
 fn course_of(floats: &[f32], words: &[u32], count: usize, seq: &[u32], source: Vec3) -> Course
     requires { ⌜ (planeFloats * count ≤ length (now floats)) × (planeWords * count ≤ length (now words)) × (length (now seq) ≤ maxOrder) ⌝ }
     requires { ⌜ ((j : ℕ) → j < length (now seq) → getD (now seq) j 0 < count) ⌝ }
     ensures { λ r. ⌜ Coursed (now (floats .entry)) (now (words .entry)) count source (now (seq .entry)) (length (now (seq .entry))) r ⌝ }
 {
-    let mut course = no_course(source);
+    let mut planes = [0u32; 8];
+    let mut images = [source; 9];
     let mut k = 0;
     while k < seq.len() {
-        course = add_plane(floats, words, count, k, seq[k], course);
+        let p = seq[k];
+        let image = images[k];
+        let next = bounces::next_image(floats, words, p as usize, image);
+        planes[k] = p;
+        images[k + 1] = next;
         k += 1;
     }
-    course
+    Course {
+        seq: planes,
+        images,
+    }
 }
 
 // A fate as its number, and a candidate's floats, all zero where there is none.
