@@ -75,6 +75,34 @@ bool biv_intersect(const float *padded, size_t padded_len, const uint32_t *nodes
                    const float *rows, size_t rows_len, const uint32_t *handles, size_t handles_len, size_t count,
                    const float *ray, size_t ray_len, float *hit, size_t hit_len, size_t *place, size_t place_len);
 
+/* ---- paths */
+
+/* paths/specs/Path.antt, pathOf. The path from source by way of the planes seq (1 to 8 of them, source side first, each below count) to
+ * listener. Answers its fate: 0 for a candidate, else the first test that failed: 1 image too far, 2 plane not crossed, 3 off the surface,
+ * 4 too long, 5 faded at an edge, 6 blocked, 7 too faint. rays[0] gets the rays traced; found (13 floats or more) gets a candidate's energy,
+ * delay, direction (3) and gains (8), and is as it was for the other fates. padded, nodes, perm, rows and handles are those of
+ * biv_intersect, with nodes_count above 0 nodes; a row of materials is 16 floats (absorptions, transmissions), and each handle has one, as has
+ * handle 0; columns have n floats each. A plane is 12 floats of floats (normal, offset, box from, box to, spread, area) and 5 words of words
+ * (first and count of its triangles in members, first and count of its border edges in edges, fitted); an edge is 6 floats, a triangle is
+ * below n. counts and setting_floats are the settings as for biv_load_scene, source and listener 3 floats each. The caller keeps all this. */
+uint32_t biv_path(const float *padded, size_t padded_len, const uint32_t *nodes, size_t nodes_len, const uint32_t *perm, size_t perm_len,
+                  const float *rows, size_t rows_len, const uint32_t *handles, size_t handles_len, size_t nodes_count,
+                  const float *materials, size_t materials_len, const float *columns, size_t columns_len, size_t n,
+                  const float *floats, size_t floats_len, const uint32_t *words, size_t words_len,
+                  const uint32_t *members, size_t members_len, const float *edges, size_t edges_len, size_t count,
+                  const uint32_t *counts, size_t counts_len, const float *setting_floats, size_t setting_floats_len,
+                  const uint32_t *seq, size_t seq_len, const float *source, size_t source_len, const float *listener, size_t listener_len,
+                  float *found, size_t found_len, uint32_t *rays, size_t rays_len);
+
+/* ---- ranking */
+
+/* ranking/specs/Rows.antt, Ranked. Puts the positions of the candidates kept, best first, into out; answers how many. A candidate is 13
+ * floats of fs (energy, delay, direction, gains; energy and delay are numbers) and 2 words of ws (order, number); there are n. keys, index,
+ * words and scratch have n, out has limit; the caller keeps the lengths. */
+size_t biv_rank_reflections(const float *fs, size_t fs_len, const uint32_t *ws, size_t ws_len, size_t n, float speed, float rate, size_t limit,
+                            uint64_t *keys, size_t keys_len, uint32_t *index, size_t index_len, uint64_t *words, size_t words_len,
+                            uint64_t *scratch, size_t scratch_len, uint32_t *out, size_t out_len);
+
 #ifdef __cplusplus
 }
 #endif

@@ -1,2 +1,3 @@
 -- The laws that the proofs of `exports` cite.
 pub mod Loaded
+pub mod Courses

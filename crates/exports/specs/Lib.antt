@@ -3,3 +3,4 @@ pub mod Model
 pub mod Settings
 pub mod Loads
 pub mod Hits
+pub mod Paths

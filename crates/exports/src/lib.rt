@@ -1,7 +1,9 @@
 // What C and Rust call: each function stands for one of the port, with numbers and slices alone. A `&[T]` passes as a pointer and then
 // a length. include/bivelondry.h declares them; reference/crates/port wraps them for Rust and tests what a `requires` asks.
+use bands::Band8;
 use packet::Reading;
 use packet::Written;
+use paths::Fate;
 use placing::Loaded;
 use scene::Areas;
 use scene::Settings;
@@ -34,6 +36,11 @@ ghost use Rattle.trace.specs.Leaf.{Rows};
 ghost use Rattle.trace.specs.Trace.{intersectOf, paddedTreeOf, Held};
 ghost use Rattle.bvh.specs.Bvh.{Lent, BvhOf};
 ghost use Rattle.ranking.specs.Rows.{Ranked, Lent as Candidates};
+ghost use Rattle.mirror.specs.Rows.{planeFloats, planeWords, planesIn};
+ghost use Rattle.bounces.specs.Areas.{maxOrder};
+ghost use Rattle.paths.specs.Path.{pathOf};
+ghost use Rattle.paths.specs.Areas.{Lent as PathsLent, ReadAs};
+ghost use Rattle.exports.specs.Paths.{pointFrom, Coursed, nothingOf, flatPathOf, pathFloats, Walked};
 
 // ---- numbers
 
@@ -452,4 +459,189 @@ pub extern "C" fn biv_rank_reflections(
         scratch,
         out,
     )
+}
+
+// ---- paths
+
+// A point is three floats.
+fn point_from(point: &[f32]) -> Vec3
+    requires { ⌜ length (now point) ≡ 3 ⌝ }
+    ensures { λ r. ⌜ r ≡ pointFrom (now (point .entry)) ⌝ }
+{
+    Vec3 {
+        x: point[0],
+        y: point[1],
+        z: point[2],
+    }
+}
+
+// A sequence of planes, and the images of the source in its beginnings.
+struct Course {
+    seq: [u32; 8],
+    images: [Vec3; 9],
+}
+
+fn course_of(floats: &[f32], words: &[u32], count: usize, seq: &[u32], source: Vec3) -> Course
+    requires { ⌜ (planeFloats * count ≤ length (now floats)) × (planeWords * count ≤ length (now words)) × (length (now seq) ≤ maxOrder) ⌝ }
+    requires { ⌜ ((j : ℕ) → j < length (now seq) → getD (now seq) j 0 < count) ⌝ }
+    ensures { λ r. ⌜ Coursed (now (floats .entry)) (now (words .entry)) count source (now (seq .entry)) (length (now (seq .entry))) r ⌝ }
+{
+    let mut planes = [0u32; 8];
+    let mut images = [source; 9];
+    let mut k = 0;
+    while k < seq.len() {
+        let p = seq[k];
+        let image = images[k];
+        let next = bounces::next_image(floats, words, p as usize, image);
+        planes[k] = p;
+        images[k + 1] = next;
+        k += 1;
+    }
+    Course {
+        seq: planes,
+        images,
+    }
+}
+
+// A fate as its number, and a candidate's floats, all zero where there is none.
+struct FlatPath {
+    number: u32,
+    energy: f32,
+    delay: f32,
+    direction: Vec3,
+    gains: Band8,
+}
+
+fn nothing(number: u32) -> FlatPath
+    ensures { λ r. ⌜ r ≡ nothingOf number ⌝ }
+{
+    let direction = Vec3 {
+        x: 0.0,
+        y: 0.0,
+        z: 0.0,
+    };
+    let gains = bands::splat(0.0);
+    FlatPath {
+        number,
+        energy: 0.0,
+        delay: 0.0,
+        direction,
+        gains,
+    }
+}
+
+fn flat_path(fate: Fate) -> FlatPath
+    ensures { λ r. ⌜ r ≡ flatPathOf fate ⌝ }
+{
+    match fate {
+        Fate::TooFar => nothing(1),
+        Fate::NotCrossed => nothing(2),
+        Fate::OffSurface => nothing(3),
+        Fate::TooLong => nothing(4),
+        Fate::Faded => nothing(5),
+        Fate::Blocked => nothing(6),
+        Fate::Faint => nothing(7),
+        Fate::Passed(c) => {
+            let direction = c.direction;
+            let gains = c.gains;
+            FlatPath {
+                number: 0,
+                energy: c.energy,
+                delay: c.delay,
+                direction,
+                gains,
+            }
+        }
+    }
+}
+
+fn put_path(found: &mut [f32], path: FlatPath)
+    requires { ⌜ 13 ≤ length (now found) ⌝ }
+    ensures { λ _. ⌜ now (found .exit) ≡ sets (now (found .entry)) 0 (pathFloats path) ⌝ }
+{
+    found[0] = path.energy;
+    found[1] = path.delay;
+    found[2] = path.direction.x;
+    found[3] = path.direction.y;
+    found[4] = path.direction.z;
+    found[5] = path.gains.b0;
+    found[6] = path.gains.b1;
+    found[7] = path.gains.b2;
+    found[8] = path.gains.b3;
+    found[9] = path.gains.b4;
+    found[10] = path.gains.b5;
+    found[11] = path.gains.b6;
+    found[12] = path.gains.b7;
+}
+
+// The turn of `expand_images` that tests one sequence of 1 to 8 planes, and `validate_image_path`. The answer is the fate's number, 0 for a
+// path that passes: `found` then has its energy, delay, direction and gains. `rays` gets the rays traced.
+#[no_mangle]
+pub extern "C" fn biv_path(
+    padded: &[f32],
+    nodes: &[u32],
+    perm: &[u32],
+    rows: &[f32],
+    handles: &[u32],
+    nodes_count: usize,
+    materials: &[f32],
+    columns: &[f32],
+    n: usize,
+    floats: &[f32],
+    words: &[u32],
+    members: &[u32],
+    edges: &[f32],
+    count: usize,
+    counts: &[u32],
+    setting_floats: &[f32],
+    seq: &[u32],
+    source: &[f32],
+    listener: &[f32],
+    found: &mut [f32],
+    rays: &mut [u32],
+) -> u32
+    requires { ⌜ PathsLent (now padded) (now nodes) (now perm) (now rows) (now handles) «nodes_count» (now materials) (now columns) n (now floats) (now words) (now members) (now edges) count ⌝ }
+    requires { ⌜ (length (now counts) ≡ 5) × (length (now «setting_floats») ≡ 11) ⌝ }
+    requires { ⌜ (1 ≤ length (now seq)) × (length (now seq) ≤ maxOrder) ⌝ }
+    requires { ⌜ ((j : ℕ) → j < length (now seq) → getD (now seq) j 0 < count) ⌝ }
+    requires { ⌜ (length (now source) ≡ 3) × (length (now listener) ≡ 3) × (13 ≤ length (now found)) × (1 ≤ length (now rays)) ⌝ }
+    ensures { λ r. ⌜ ((tri : ℕ → Triangle) (t : Tree) → ReadAs (now (padded .entry)) (now (nodes .entry)) (now (perm .entry)) (now (rows .entry)) (now (handles .entry)) (now (columns .entry)) n (now (floats .entry)) (now (words .entry)) (now (members .entry)) count tri t → Walked (pathOf (settingsFrom (now (counts .entry)) (now («setting_floats» .entry))) (planesIn (now (floats .entry)) (now (words .entry)) (now (members .entry)) (now (edges .entry)) count) tri t (now (materials .entry)) (pointFrom (now (source .entry))) (pointFrom (now (listener .entry))) (now (seq .entry))) (now (found .entry)) (now (rays .entry)) r (now (found .exit)) (now (rays .exit))) ⌝ }
+{
+    let s = settings_from(counts, setting_floats);
+    let from = point_from(source);
+    let to = point_from(listener);
+    let course = course_of(floats, words, count, seq, from);
+    let planes = course.seq;
+    let images = course.images;
+    let order = seq.len();
+    let verdict = paths::validate_image_path(
+        padded,
+        nodes,
+        perm,
+        rows,
+        handles,
+        nodes_count,
+        materials,
+        columns,
+        n,
+        floats,
+        words,
+        members,
+        edges,
+        count,
+        s,
+        planes,
+        images,
+        order,
+        from,
+        to,
+    );
+    let fate = verdict.fate;
+    let path = flat_path(fate);
+    rays[0] = verdict.rays;
+    if path.number == 0 {
+        put_path(found, path);
+        return 0;
+    }
+    path.number
 }

@@ -1,7 +1,8 @@
 //! Times of the port and of the Rust on the same input, in one process, in turn: the best of several rounds each, and their ratio.
 //! Results are compared first. Areas are lent as they were left by the round before, not cleared, unless said.
-use oracle::{Case, Mesh, Row, Settings, IDENTITY};
+use oracle::{Case, Mesh, Row, Settings, Table, IDENTITY};
 use compare::front::{areas, lent};
+use compare::paths;
 use compare::random::Random;
 use compare::ranking;
 use quasar_backends::cpu_simd::oracle_rank;
@@ -17,6 +18,7 @@ fn main() {
     sorts();
     fronts();
     trees();
+    single_paths();
     rankings();
     packets();
 }
@@ -146,6 +148,71 @@ fn trees() {
             |_| rays.iter().for_each(|r| { black_box(rust.intersect(r)); }),
         );
         line(&format!("intersect, {n} triangles, a ray"), p / 1e3, q / 1e3);
+    }
+}
+
+fn quad(m: &mut Mesh, at: [f32; 3], u: [f32; 3], w: [f32; 3]) {
+    let (n, add) = (m.positions.len() as u32, |a: [f32; 3], b: [f32; 3]| std::array::from_fn(|k| a[k] + b[k]));
+    m.positions.extend([at, add(at, u), add(add(at, u), w), add(at, w)]);
+    m.indices.extend([n, n + 1, n + 2, n, n + 2, n + 3]);
+}
+
+/// A room of six walls, and the same with 12 sheets between source and listener.
+fn hall(sheets: usize) -> Case {
+    let mut m = Mesh { positions: Vec::new(), indices: Vec::new(), handle: 0, transform: IDENTITY };
+    let (x, y, z) = ([8.0, 0.0, 0.0], [0.0, 3.0, 0.0], [0.0, 0.0, 6.0]);
+    for (at, u, w) in [([-4.0, 0.0, -3.0], x, z), ([-4.0, 3.0, -3.0], z, x), ([-4.0, 0.0, -3.0], y, x), ([-4.0, 0.0, 3.0], x, y), ([-4.0, 0.0, -3.0], z, y), ([4.0, 0.0, -3.0], y, z)] {
+        quad(&mut m, at, u, w);
+    }
+    for k in 0..sheets {
+        quad(&mut m, [-1.0 + 0.15 * k as f32, 0.2, -2.0], [0.0, 2.6, 0.0], [0.0, 0.0, 4.0]);
+    }
+    let row = Row { absorption: [0.2; 8], transmission: [0.6; 8] };
+    Case { name: format!("hall-{sheets}"), settings: Settings { room: 0, ..Settings::default() }, materials: vec![row], meshes: vec![m], source: [-2.3, 1.1, 0.4], listener: [2.6, 1.6, -0.7], separated: false }
+}
+
+/// All sequences of so many planes up to order 3, no plane twice in a row.
+fn sequences(count: usize) -> Vec<Vec<u32>> {
+    let mut all: Vec<Vec<u32>> = (0..count as u32).map(|p| vec![p]).collect();
+    let mut from = 0;
+    for _ in 0..2 {
+        let to = all.len();
+        for k in from..to {
+            let begun = all[k].clone();
+            for p in (0..count as u32).filter(|p| begun.last() != Some(p)) {
+                all.push([begun.clone(), vec![p]].concat());
+            }
+        }
+        from = to;
+    }
+    all
+}
+
+fn single_paths() {
+    for (name, c) in [("booth", hall(0)), ("12 sheets", hall(12))] {
+        let mut a = areas(c.meshes[0].indices.len() / 3, 0);
+        let Loaded::Triangles { kept, triples, .. } = port::load_scene(&lent(&c), &mut a) else { panic!("{name} is refused") };
+        let backend = oracle::built(&c, false);
+        let mut tree = Tree::areas(kept);
+        assert!(tree.build(&a.columns, &a.handles, triples));
+        let (scene, table) = (paths::scene(&c, &backend, &a, triples, &tree), Table(&c.materials));
+        let path = |s: &[u32]| scene.path(s, &c.source, &c.listener);
+        let rust = |s: &[usize]| backend.oracle_path(s, &c.source, &c.listener, &table);
+        let all: Vec<(Vec<u32>, Vec<usize>)> = sequences(backend.oracle_planes().len()).into_iter().map(|s| { let t = s.iter().map(|&p| p as usize).collect(); (s, t) }).collect();
+        assert!(all.iter().all(|(s, t)| { let (p, q) = (path(s), rust(t)); p.candidate == q.candidate && p.rays as u64 == q.rays }));
+        let rays: u64 = all.iter().map(|(_, t)| rust(t).rays).sum();
+        let (traced, other): (Vec<_>, Vec<_>) = all.into_iter().partition(|(_, t)| rust(t).rays > 0);
+        for (what, of) in [("traced", &traced), ("not traced", &other)] {
+            let sets = 20_000 / of.len().max(1) / if what == "traced" { 20 } else { 1 } + 1;
+            let (p, q) = both(
+                || (),
+                |_| (0..sets).for_each(|_| of.iter().for_each(|(s, _)| { black_box(path(s)); })),
+                |_| (0..sets).for_each(|_| of.iter().for_each(|(_, t)| { black_box(rust(t)); })),
+            );
+            let n = (sets * of.len()) as f64;
+            line(&format!("a path, {name}, {} {what}", of.len()), p / n, q / n);
+        }
+        println!("  ({} triangles, {} rays for those traced)", kept, rays);
     }
 }
 

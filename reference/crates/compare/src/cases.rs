@@ -1,5 +1,6 @@
 //! Runs stages of the port and the Rust on generated cases and on files, stops at the first difference, and makes its case small.
 use crate::front::{self, Damage, DAMAGES};
+use crate::paths::{self, Walked};
 use crate::scenes::{self, Kind, KINDS};
 use crate::tree::{self, Traced};
 use oracle::Case;
@@ -19,9 +20,21 @@ struct Coverage {
     deepest: u64,
     rays: u64,
     hits: u64,
+    walked: Walked,
 }
 
+/// What the tests of a path are called, 0 for a candidate.
+const FATES: [&str; 8] = ["candidates", "too far", "not crossed", "off the surface", "too long", "faded", "blocked", "faint"];
+
 impl Coverage {
+    fn add_paths(&mut self, w: Walked) {
+        let all = &mut self.walked;
+        all.fates.iter_mut().zip(w.fates).for_each(|(a, b)| *a += b);
+        all.orders.iter_mut().zip(w.orders).for_each(|(a, b)| *a += b);
+        all.rays += w.rays;
+        all.dimmed += w.dimmed;
+    }
+
     fn add_tree(&mut self, t: Traced) {
         self.trees += (t.nodes > 0) as u64;
         self.nodes += t.nodes;
@@ -50,6 +63,12 @@ impl Coverage {
         }
         println!("  triangles: {}, at most {} in a scene", self.triangles, self.most);
         println!("  trees: {}, {} nodes, at most {} deep; {} rays, {} hits", self.trees, self.nodes, self.deepest, self.rays, self.hits);
+        let w = &self.walked;
+        println!("  paths: {}, {} rays", w.fates.iter().sum::<u64>(), w.rays);
+        for (name, n) in FATES.iter().zip(w.fates) {
+            println!("    {name}: {n}");
+        }
+        println!("    candidates of order 1 to 8: {:?}; {} met a surface on the way", w.orders, w.dimmed);
     }
 }
 
@@ -87,31 +106,53 @@ fn fail(c: &Case, d: Damage, words: &str) -> ! {
     std::process::exit(1)
 }
 
-/// Slips of all stages: those of the front, then those of the tree.
-const SLIPS: usize = front::SLIPS + tree::SLIPS;
+/// Slips of all stages: those of the front, then those of the tree, then those of the paths.
+const SLIPS: usize = front::SLIPS + tree::SLIPS + paths::SLIPS;
+
+/// What a call went through.
+#[derive(Clone, Copy)]
+struct Went {
+    answer: Loaded,
+    traced: Traced,
+    walked: Walked,
+}
 
 /// One call, stage by stage. None where the damage or the slip does not apply.
-fn stages(c: &Case, d: Damage, planted: Option<usize>) -> Option<Result<(Loaded, Traced), String>> {
+fn stages(c: &Case, d: Damage, planted: Option<usize>) -> Option<Result<Went, String>> {
     let left = match front::run(c, d, planted.filter(|&k| k < front::SLIPS))? {
         Ok(left) => left,
         Err(words) => return Some(Err(words)),
     };
     let later = planted.and_then(|k| k.checked_sub(front::SLIPS));
-    match left.answer {
-        Loaded::Triangles { kept, triples, .. } => match tree::run(c, &left.areas, kept, triples, later)? {
-            Ok(traced) => Some(Ok((left.answer, traced))),
-            Err(words) => Some(Err(words)),
-        },
-        Loaded::Refused(_) => later.is_none().then_some(Ok((left.answer, Traced::default()))),
+    let last = later.and_then(|k| k.checked_sub(tree::SLIPS));
+    let mut went = Went { answer: left.answer, traced: Traced::default(), walked: Walked::default() };
+    let Loaded::Triangles { kept, triples, .. } = left.answer else {
+        return later.is_none().then_some(Ok(went));
+    };
+    let mut backend = oracle::built(c, true);
+    let tree = match tree::run(c, &backend, &left.areas, kept, triples, later.filter(|&k| k < tree::SLIPS))? {
+        Ok((traced, tree)) => {
+            went.traced = traced;
+            tree
+        }
+        Err(words) => return Some(Err(words)),
+    };
+    let Some(tree) = tree else {
+        return last.is_none().then_some(Ok(went));
+    };
+    match paths::run(c, &mut backend, &left.areas, triples, &tree, last)? {
+        Ok(walked) => Some(Ok(Went { walked, ..went })),
+        Err(words) => Some(Err(words)),
     }
 }
 
 fn check(c: &Case, cover: &mut Coverage) {
     for d in DAMAGES {
         match stages(c, d, None) {
-            Some(Ok((answer, traced))) => {
-                cover.add(answer);
-                cover.add_tree(traced);
+            Some(Ok(went)) => {
+                cover.add(went.answer);
+                cover.add_tree(went.traced);
+                cover.add_paths(went.walked);
             }
             Some(Err(words)) => fail(c, d, &words),
             None => {}

@@ -2,7 +2,7 @@
 use crate::random::Random;
 use oracle::Case;
 use port::{Areas, Tree};
-use quasar_backends::cpu_simd::{OracleNode, OracleTree};
+use quasar_backends::cpu_simd::{CpuSimdComputeBackend, OracleNode, OracleTree};
 
 /// Rays traced through each scene.
 const RAYS: usize = 100;
@@ -104,11 +104,13 @@ fn slip(tree: &mut Tree, kind: Option<usize>) -> bool {
     true
 }
 
-/// Builds and traces; `kept` triangles stand in columns of `triples` floats. None where the slip does not apply.
-pub fn run(c: &Case, areas: &Areas, kept: usize, triples: usize, planted: Option<usize>) -> Option<Result<Traced, String>> {
-    let backend = oracle::built(c, false);
+/// Builds and traces; `kept` triangles stand in columns of `triples` floats. The tree is handed back. None where the slip does not apply.
+#[rustfmt::skip]
+pub fn run(
+    c: &Case, backend: &CpuSimdComputeBackend, areas: &Areas, kept: usize, triples: usize, planted: Option<usize>,
+) -> Option<Result<(Traced, Option<Tree>), String>> {
     let Some(rust) = backend.oracle_tree() else {
-        return planted.is_none().then(|| Ok(Traced::default()));
+        return planted.is_none().then(|| Ok((Traced::default(), None)));
     };
     let mut tree = Tree::areas(kept);
     if !tree.build(&areas.columns, &areas.handles, triples) {
@@ -132,5 +134,5 @@ pub fn run(c: &Case, areas: &Areas, kept: usize, triples: usize, planted: Option
         }
     }
     // a slip in a hit needs a hit
-    (planted.is_none() || out.hits > 0).then_some(Ok(out))
+    (planted.is_none() || out.hits > 0).then_some(Ok((out, Some(intact))))
 }

@@ -42,6 +42,16 @@ mod ffi {
             ray: *const f32, ray_len: usize, hit: *mut f32, hit_len: usize, place: *mut usize, place_len: usize,
         ) -> bool;
         #[rustfmt::skip]
+        pub fn biv_path(
+            padded: *const f32, padded_len: usize, nodes: *const u32, nodes_len: usize, perm: *const u32, perm_len: usize,
+            rows: *const f32, rows_len: usize, handles: *const u32, handles_len: usize, nodes_count: usize,
+            materials: *const f32, materials_len: usize, columns: *const f32, columns_len: usize, n: usize,
+            floats: *const f32, floats_len: usize, words: *const u32, words_len: usize, members: *const u32, members_len: usize,
+            edges: *const f32, edges_len: usize, count: usize, counts: *const u32, counts_len: usize,
+            setting_floats: *const f32, setting_floats_len: usize, seq: *const u32, seq_len: usize, source: *const f32, source_len: usize,
+            listener: *const f32, listener_len: usize, found: *mut f32, found_len: usize, rays: *mut u32, rays_len: usize,
+        ) -> u32;
+        #[rustfmt::skip]
         pub fn biv_rank_reflections(
             fs: *const f32, fs_len: usize, ws: *const u32, ws_len: usize, n: usize, speed: f32, rate: f32, limit: usize,
             keys: *mut u64, keys_len: usize, index: *mut u32, index_len: usize, words: *mut u64, words_len: usize,
@@ -271,6 +281,109 @@ impl Tree {
             )
         };
         found.then(|| Hit { distance: hit[0], point: [hit[1], hit[2], hit[3]], triangle: place[0] })
+    }
+}
+
+/// A reflection plane.
+#[derive(Clone, Copy, Debug)]
+pub struct Plane<'a> {
+    pub normal: [f32; 3],
+    pub offset: f32,
+    pub min: [f32; 3],
+    pub max: [f32; 3],
+    pub spread: f32,
+    pub area: f32,
+    pub triangles: &'a [usize],
+    pub border: &'a [([f32; 3], [f32; 3])],
+    pub fitted: bool,
+}
+
+/// Planes as areas: 12 floats and 5 words each, their triangles, and their border edges of 6 floats each (docs/AREAS.md).
+#[derive(Clone, Debug, Default)]
+pub struct Planes {
+    floats: Vec<f32>,
+    words: Vec<u32>,
+    members: Vec<u32>,
+    edges: Vec<f32>,
+    count: usize,
+}
+
+impl Planes {
+    pub fn push(&mut self, p: &Plane) {
+        let [first, edge] = [self.members.len(), self.edges.len() / 6];
+        self.floats.extend(p.normal.into_iter().chain([p.offset]).chain(p.min).chain(p.max).chain([p.spread, p.area]));
+        self.words.extend([first, p.triangles.len(), edge, p.border.len(), p.fitted as usize].map(|w| u32::try_from(w).expect("a small plane")));
+        self.members.extend(p.triangles.iter().map(|&i| u32::try_from(i).expect("a small index")));
+        self.edges.extend(p.border.iter().flat_map(|(a, b)| [a[0], a[1], a[2], b[0], b[1], b[2]]));
+        self.count += 1;
+    }
+
+    pub fn len(&self) -> usize {
+        self.count
+    }
+
+    pub fn is_empty(&self) -> bool {
+        self.count == 0
+    }
+}
+
+/// The longest sequence of planes.
+pub const ORDER: usize = 8;
+
+/// What `Scene::path` answers: the fate (0 for a candidate, else the first test that failed, 1 to 7), the rays traced, and for a candidate its
+/// energy, delay, direction and gains.
+#[derive(Clone, Copy, Debug, PartialEq)]
+pub struct Path {
+    pub fate: u32,
+    pub rays: u32,
+    pub candidate: Option<[f32; CANDIDATE_FLOATS]>,
+}
+
+/// A tree with the columns and handles it was built over, a material table, planes and settings: all that a path depends on.
+#[derive(Clone, Debug)]
+pub struct Scene {
+    tree: Tree,
+    columns: Vec<f32>,
+    n: usize,
+    materials: Vec<f32>,
+    planes: Planes,
+    /// The settings, as `Lent` has them.
+    pub counts: [u32; 5],
+    pub floats: [f32; 11],
+}
+
+impl Scene {
+    /// `tree` was built over `columns` of `n` floats. Tests what `biv_path` requires.
+    pub fn new(mut tree: Tree, columns: Vec<f32>, n: usize, materials: Vec<f32>, planes: Planes, counts: [u32; 5], floats: [f32; 11]) -> Scene {
+        let m = tree.order.len();
+        tree.handles.truncate(m); // rows past the tree's triangles were never written
+        assert!(tree.count > 0 && 6 * tree.count <= tree.padded.len() && 4 * tree.count <= tree.nodes.len() && 10 * m <= tree.rows.len());
+        assert!(sound(&tree.nodes, tree.count, m), "a link leads out of the tree");
+        assert!(columns.len() >= COLUMNS * n, "the columns are short of {n} triangles");
+        assert!(tree.handles.iter().chain([&0]).all(|&h| 16 * (h as usize + 1) <= materials.len()), "a handle has no row");
+        assert!(planes.members.iter().all(|&i| (i as usize) < n), "a plane has a triangle past the columns");
+        Scene { tree, columns, n, materials, planes, counts, floats }
+    }
+
+    /// The path by way of 1 to 8 planes.
+    pub fn path(&self, seq: &[u32], source: &[f32; 3], listener: &[f32; 3]) -> Path {
+        assert!(!seq.is_empty() && seq.len() <= ORDER && seq.iter().all(|&p| (p as usize) < self.planes.count), "{seq:?} is no sequence of planes");
+        let (t, p) = (&self.tree, &self.planes);
+        let (mut found, mut rays) = ([0.0f32; CANDIDATE_FLOATS], [0u32]);
+        // SAFETY: as asserted here and in `new`; `push` keeps the runs of each plane within their areas; found and rays are distinct.
+        #[rustfmt::skip]
+        let fate = unsafe {
+            ffi::biv_path(
+                t.padded.as_ptr(), t.padded.len(), t.nodes.as_ptr(), t.nodes.len(), t.order.as_ptr(), t.order.len(),
+                t.rows.as_ptr(), t.rows.len(), t.handles.as_ptr(), t.handles.len(), t.count,
+                self.materials.as_ptr(), self.materials.len(), self.columns.as_ptr(), self.columns.len(), self.n,
+                p.floats.as_ptr(), p.floats.len(), p.words.as_ptr(), p.words.len(), p.members.as_ptr(), p.members.len(),
+                p.edges.as_ptr(), p.edges.len(), p.count, self.counts.as_ptr(), self.counts.len(),
+                self.floats.as_ptr(), self.floats.len(), seq.as_ptr(), seq.len(), source.as_ptr(), source.len(),
+                listener.as_ptr(), listener.len(), found.as_mut_ptr(), found.len(), rays.as_mut_ptr(), rays.len(),
+            )
+        };
+        Path { fate, rays: rays[0], candidate: (fate == 0).then_some(found) }
     }
 }
 
