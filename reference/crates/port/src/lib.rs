@@ -353,7 +353,7 @@ pub struct Scene {
 }
 
 impl Scene {
-    /// `tree` was built over `columns` of `n` floats. Tests what `biv_path` requires.
+    /// `tree` is as `build` left it, over `columns` of `n` floats. Tests what else `biv_path` requires.
     pub fn new(mut tree: Tree, columns: Vec<f32>, n: usize, materials: Vec<f32>, planes: Planes, counts: [u32; 5], floats: [f32; 11]) -> Scene {
         let m = tree.order.len();
         tree.handles.truncate(m); // rows past the tree's triangles were never written
