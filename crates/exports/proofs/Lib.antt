@@ -1,3 +1,4 @@
 -- The laws that the proofs of `exports` cite.
 pub mod Loaded
 pub mod Courses
+mod Three

@@ -4,3 +4,4 @@ pub mod Settings
 pub mod Loads
 pub mod Hits
 pub mod Paths
+pub mod Searches

@@ -35,7 +35,10 @@ ghost use Rattle.build.specs.Areas.{treeAtOf};
 ghost use Rattle.trace.specs.Leaf.{Rows};
 ghost use Rattle.trace.specs.Trace.{intersectOf, paddedTreeOf, Held};
 ghost use Rattle.bvh.specs.Bvh.{Lent, BvhOf};
-ghost use Rattle.ranking.specs.Rows.{Ranked, Lent as Candidates};
+ghost use Rattle.ranking.specs.Rows.{Ranked, Lent as Candidates, Rows as CandidateRows, candidatesIn};
+ghost use Rattle.sequences.specs.Allowed.{mostPlanes};
+ghost use Rattle.claim.specs.Query.{search};
+ghost use Rattle.exports.specs.Searches.{searchedFrom};
 ghost use Rattle.mirror.specs.Rows.{planeFloats, planeWords, planesIn};
 ghost use Rattle.bounces.specs.Areas.{maxOrder};
 ghost use Rattle.paths.specs.Path.{pathOf};
@@ -644,4 +647,71 @@ pub extern "C" fn biv_path(
         return 0;
     }
     path.number
+}
+
+// `expand_images`: all sequences of up to `order` planes in turn, each with its path. `found` gets images, rays and candidates; the rows of the
+// candidates stand in fs and ws, as `biv_rank_reflections` takes them. The answer is whether one found no room.
+#[no_mangle]
+pub extern "C" fn biv_search_images(
+    padded: &[f32],
+    nodes: &[u32],
+    perm: &[u32],
+    rows: &[f32],
+    handles: &[u32],
+    nodes_count: usize,
+    materials: &[f32],
+    columns: &[f32],
+    n: usize,
+    floats: &[f32],
+    words: &[u32],
+    members: &[u32],
+    edges: &[f32],
+    count: usize,
+    counts: &[u32],
+    setting_floats: &[f32],
+    source: &[f32],
+    listener: &[f32],
+    order: usize,
+    room: usize,
+    fs: &mut [f32],
+    ws: &mut [u32],
+    found: &mut [usize],
+) -> bool
+    requires { ⌜ PathsLent (now padded) (now nodes) (now perm) (now rows) (now handles) «nodes_count» (now materials) (now columns) n (now floats) (now words) (now members) (now edges) count ⌝ }
+    requires { ⌜ (length (now counts) ≡ 5) × (length (now «setting_floats») ≡ 11) ⌝ }
+    requires { ⌜ (length (now source) ≡ 3) × (length (now listener) ≡ 3) × (3 ≤ length (now found)) ⌝ }
+    requires { ⌜ (order ≤ maxOrder) × (count ≤ mostPlanes) ⌝ }
+    requires { ⌜ CandidateRows room (now fs) (now ws) ⌝ }
+    ensures { λ r. ⌜ ((tri : ℕ → Triangle) (t : Tree) → ReadAs (now (padded .entry)) (now (nodes .entry)) (now (perm .entry)) (now (rows .entry)) (now (handles .entry)) (now (columns .entry)) n (now (floats .entry)) (now (words .entry)) (now (members .entry)) count tri t → search (getD (now (found .exit)) 0 0) (getD (now (found .exit)) 1 0) (candidatesIn (getD (now (found .exit)) 2 0) (now (fs .exit)) (now (ws .exit))) r ≡ searchedFrom (planesIn (now (floats .entry)) (now (words .entry)) (now (members .entry)) (now (edges .entry)) count) (settingsFrom (now (counts .entry)) (now («setting_floats» .entry))) tri t (now (materials .entry)) (pointFrom (now (source .entry))) (pointFrom (now (listener .entry))) order room) ⌝ }
+{
+    let s = settings_from(counts, setting_floats);
+    let from = point_from(source);
+    let to = point_from(listener);
+    let f = search::search_images(
+        padded,
+        nodes,
+        perm,
+        rows,
+        handles,
+        nodes_count,
+        materials,
+        columns,
+        n,
+        floats,
+        words,
+        members,
+        edges,
+        count,
+        s,
+        from,
+        to,
+        order,
+        room,
+        fs,
+        ws,
+    );
+    found[0] = f.images as usize;
+    found[1] = f.rays as usize;
+    found[2] = f.found;
+    f.over
 }
