@@ -1,6 +1,7 @@
 //! Runs stages of the port and the Rust on generated cases and on files, stops at the first difference, and makes its case small.
 use crate::front::{self, Damage, DAMAGES};
 use crate::paths::{self, Walked};
+use crate::taps::{self, Heard};
 use crate::scenes::{self, Kind, KINDS};
 use crate::tree::{self, Traced};
 use oracle::Case;
@@ -15,6 +16,10 @@ struct Coverage {
     refusals: BTreeMap<u32, u64>,
     triangles: u64,
     most: usize,
+    searches: u64,
+    images: u64,
+    candidates: u64,
+    taps: u64,
     trees: u64,
     nodes: u64,
     deepest: u64,
@@ -33,6 +38,13 @@ impl Coverage {
         all.orders.iter_mut().zip(w.orders).for_each(|(a, b)| *a += b);
         all.rays += w.rays;
         all.dimmed += w.dimmed;
+    }
+
+    fn add_taps(&mut self, h: Heard) {
+        self.searches += (h.images > 0) as u64;
+        self.images += h.images;
+        self.candidates += h.candidates;
+        self.taps += h.taps;
     }
 
     fn add_tree(&mut self, t: Traced) {
@@ -63,6 +75,7 @@ impl Coverage {
         }
         println!("  triangles: {}, at most {} in a scene", self.triangles, self.most);
         println!("  trees: {}, {} nodes, at most {} deep; {} rays, {} hits", self.trees, self.nodes, self.deepest, self.rays, self.hits);
+        println!("  searches: {}, {} images, {} candidates, {} taps", self.searches, self.images, self.candidates, self.taps);
         let w = &self.walked;
         println!("  paths: {}, {} rays", w.fates.iter().sum::<u64>(), w.rays);
         for (name, n) in FATES.iter().zip(w.fates) {
@@ -106,8 +119,8 @@ fn fail(c: &Case, d: Damage, words: &str) -> ! {
     std::process::exit(1)
 }
 
-/// Slips of all stages: those of the front, then those of the tree, then those of the paths.
-const SLIPS: usize = front::SLIPS + tree::SLIPS + paths::SLIPS;
+/// Slips of all stages: those of the front, then those of the tree, of the paths, and of the taps.
+const SLIPS: usize = front::SLIPS + tree::SLIPS + paths::SLIPS + taps::SLIPS;
 
 /// What a call went through.
 #[derive(Clone, Copy)]
@@ -115,6 +128,7 @@ struct Went {
     answer: Loaded,
     traced: Traced,
     walked: Walked,
+    heard: Heard,
 }
 
 /// One call, stage by stage. None where the damage or the slip does not apply.
@@ -125,7 +139,7 @@ fn stages(c: &Case, d: Damage, planted: Option<usize>) -> Option<Result<Went, St
     };
     let later = planted.and_then(|k| k.checked_sub(front::SLIPS));
     let last = later.and_then(|k| k.checked_sub(tree::SLIPS));
-    let mut went = Went { answer: left.answer, traced: Traced::default(), walked: Walked::default() };
+    let mut went = Went { answer: left.answer, traced: Traced::default(), walked: Walked::default(), heard: Heard::default() };
     let Loaded::Triangles { kept, triples, .. } = left.answer else {
         return later.is_none().then_some(Ok(went));
     };
@@ -140,8 +154,16 @@ fn stages(c: &Case, d: Damage, planted: Option<usize>) -> Option<Result<Went, St
     let Some(tree) = tree else {
         return last.is_none().then_some(Ok(went));
     };
-    match paths::run(c, &mut backend, &left.areas, triples, &tree, last)? {
-        Ok(walked) => Some(Ok(Went { walked, ..went })),
+    match paths::run(c, &mut backend, &left.areas, triples, &tree, last.filter(|&k| k < paths::SLIPS))? {
+        Ok(walked) => went.walked = walked,
+        Err(words) => return Some(Err(words)),
+    }
+    let end = last.and_then(|k| k.checked_sub(paths::SLIPS));
+    if backend.oracle_planes().is_empty() {
+        return end.is_none().then_some(Ok(went));
+    }
+    match taps::run(c, &backend, &paths::scene(c, &backend, &left.areas, triples, &tree), end)? {
+        Ok(heard) => Some(Ok(Went { heard, ..went })),
         Err(words) => Some(Err(words)),
     }
 }
@@ -153,6 +175,7 @@ fn check(c: &Case, cover: &mut Coverage) {
                 cover.add(went.answer);
                 cover.add_tree(went.traced);
                 cover.add_paths(went.walked);
+                cover.add_taps(went.heard);
             }
             Some(Err(words)) => fail(c, d, &words),
             None => {}

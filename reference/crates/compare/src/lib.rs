@@ -6,4 +6,5 @@ pub mod paths;
 pub mod random;
 pub mod ranking;
 pub mod scenes;
+pub mod taps;
 pub mod tree;

@@ -57,6 +57,17 @@ mod ffi {
             keys: *mut u64, keys_len: usize, index: *mut u32, index_len: usize, words: *mut u64, words_len: usize,
             scratch: *mut u64, scratch_len: usize, out: *mut u32, out_len: usize,
         ) -> usize;
+        #[rustfmt::skip]
+        pub fn biv_search_images(
+            padded: *const f32, padded_len: usize, nodes: *const u32, nodes_len: usize, perm: *const u32, perm_len: usize,
+            rows: *const f32, rows_len: usize, handles: *const u32, handles_len: usize, nodes_count: usize,
+            materials: *const f32, materials_len: usize, columns: *const f32, columns_len: usize, n: usize,
+            floats: *const f32, floats_len: usize, words: *const u32, words_len: usize, members: *const u32, members_len: usize,
+            edges: *const f32, edges_len: usize, count: usize, counts: *const u32, counts_len: usize,
+            setting_floats: *const f32, setting_floats_len: usize, source: *const f32, source_len: usize,
+            listener: *const f32, listener_len: usize, order: usize, room: usize, fs: *mut f32, fs_len: usize, ws: *mut u32, ws_len: usize,
+            found: *mut usize, found_len: usize,
+        ) -> bool;
         pub fn biv_distance_gain(curve: u32, reference: f32, rolloff: f32, least: f32, greatest: f32, distance: f32) -> f32;
     }
 }
@@ -387,6 +398,39 @@ impl Scene {
     }
 }
 
+/// What a search found: counts, and the candidates in the order of their images.
+#[derive(Clone, Debug, Default)]
+pub struct Searched {
+    pub images: usize,
+    pub rays: usize,
+    pub found: usize,
+    /// More candidates than there was room for.
+    pub over: bool,
+}
+
+impl Scene {
+    /// All sequences of up to `order` planes with their paths; the candidates go to `rows`, which has room for as many as it was made for.
+    pub fn search(&self, source: &[f32; 3], listener: &[f32; 3], order: usize, rows: &mut Candidates) -> Searched {
+        assert!(order <= ORDER && self.planes.count <= 256, "order {order} or {} planes are too many", self.planes.count);
+        let (t, p, room) = (&self.tree, &self.planes, rows.index.len());
+        let mut found = [0usize; 3];
+        // SAFETY: as asserted here and in `new`; `with_room` keeps `room` rows; the `&mut` areas are distinct.
+        #[rustfmt::skip]
+        let over = unsafe {
+            ffi::biv_search_images(
+                t.padded.as_ptr(), t.padded.len(), t.nodes.as_ptr(), t.nodes.len(), t.order.as_ptr(), t.order.len(),
+                t.rows.as_ptr(), t.rows.len(), t.handles.as_ptr(), t.handles.len(), t.count,
+                self.materials.as_ptr(), self.materials.len(), self.columns.as_ptr(), self.columns.len(), self.n,
+                p.floats.as_ptr(), p.floats.len(), p.words.as_ptr(), p.words.len(), p.members.as_ptr(), p.members.len(),
+                p.edges.as_ptr(), p.edges.len(), p.count, self.counts.as_ptr(), self.counts.len(),
+                self.floats.as_ptr(), self.floats.len(), source.as_ptr(), source.len(), listener.as_ptr(), listener.len(), order, room,
+                rows.floats.as_mut_ptr(), rows.floats.len(), rows.words.as_mut_ptr(), rows.words.len(), found.as_mut_ptr(), found.len(),
+            )
+        };
+        Searched { images: found[0], rays: found[1], found: found[2], over }
+    }
+}
+
 /// Candidates as rows, and the areas that ranking them takes.
 #[derive(Clone, Debug, Default)]
 pub struct Candidates {
@@ -406,9 +450,25 @@ impl Candidates {
         self.index.push(0);
     }
 
-    /// The positions of those kept, best first, at most as many as `out` is long; how many they are.
+    /// Rows for so many candidates, all zero.
+    pub fn with_room(room: usize) -> Candidates {
+        let words = || vec![0; room];
+        Candidates { floats: vec![0.0; CANDIDATE_FLOATS * room], words: vec![0; CANDIDATE_WORDS * room], keys: [words(), words(), words()], index: vec![0; room] }
+    }
+
+    /// The floats and words of a row.
+    pub fn row(&self, k: usize) -> (&[f32], &[u32]) {
+        (&self.floats[CANDIDATE_FLOATS * k..][..CANDIDATE_FLOATS], &self.words[CANDIDATE_WORDS * k..][..CANDIDATE_WORDS])
+    }
+
+    /// Ranks all rows: the positions of those kept, best first, at most as many as `out` is long; how many they are.
     pub fn rank(&mut self, speed: f32, rate: f32, out: &mut [u32]) -> usize {
-        let n = self.index.len();
+        self.rank_first(self.index.len(), speed, rate, out)
+    }
+
+    /// The same for the first `n` rows.
+    pub fn rank_first(&mut self, n: usize, speed: f32, rate: f32, out: &mut [u32]) -> usize {
+        assert!((0..n).all(|k| { let f = self.row(k).0; !f[0].is_nan() && !f[1].is_nan() }), "energy or delay is NaN");
         let [keys, words, scratch] = &mut self.keys;
         // SAFETY: `push` keeps n rows of numbers and n of each area; the `&mut` areas are distinct.
         #[rustfmt::skip]
