@@ -103,6 +103,18 @@ size_t biv_rank_reflections(const float *fs, size_t fs_len, const uint32_t *ws, 
                             uint64_t *keys, size_t keys_len, uint32_t *index, size_t index_len, uint64_t *words, size_t words_len,
                             uint64_t *scratch, size_t scratch_len, uint32_t *out, size_t out_len);
 
+/* search/specs/Outcome.antt, exports/specs/Searches.antt. All sequences of up to order planes (order at most 8, count at most 256) with their
+ * paths; areas and settings as biv_path has them. found (3 or more) gets images, rays and candidates; the candidates stand in fs and ws,
+ * which have room for `room` rows (13 floats and 2 words each), as biv_rank_reflections takes them. Answers whether one found no room. */
+bool biv_search_images(const float *padded, size_t padded_len, const uint32_t *nodes, size_t nodes_len, const uint32_t *perm, size_t perm_len,
+                       const float *rows, size_t rows_len, const uint32_t *handles, size_t handles_len, size_t nodes_count,
+                       const float *materials, size_t materials_len, const float *columns, size_t columns_len, size_t n,
+                       const float *floats, size_t floats_len, const uint32_t *words, size_t words_len,
+                       const uint32_t *members, size_t members_len, const float *edges, size_t edges_len, size_t count,
+                       const uint32_t *counts, size_t counts_len, const float *setting_floats, size_t setting_floats_len,
+                       const float *source, size_t source_len, const float *listener, size_t listener_len, size_t order, size_t room,
+                       float *fs, size_t fs_len, uint32_t *ws, size_t ws_len, size_t *found, size_t found_len);
+
 #ifdef __cplusplus
 }
 #endif

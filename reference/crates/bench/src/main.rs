@@ -6,7 +6,7 @@ use compare::paths;
 use compare::random::Random;
 use compare::ranking;
 use quasar_backends::cpu_simd::oracle_rank;
-use port::{Loaded, Tree, OUTPUT, TAPS, TAP_WORDS};
+use port::{Candidates, Loaded, Tree, OUTPUT, TAPS, TAP_WORDS};
 use std::hint::black_box;
 use std::time::Instant;
 
@@ -19,6 +19,7 @@ fn main() {
     fronts();
     trees();
     single_paths();
+    searches();
     rankings();
     packets();
 }
@@ -28,9 +29,13 @@ fn line(what: &str, port: f64, rust: f64) {
 }
 
 /// Nanoseconds of one run of each, the two in turn so that both meet the same load; the input is made anew for each run.
-fn both<T>(mut make: impl FnMut() -> T, mut port: impl FnMut(&mut T), mut rust: impl FnMut(&mut T)) -> (f64, f64) {
+fn both<T>(make: impl FnMut() -> T, port: impl FnMut(&mut T), rust: impl FnMut(&mut T)) -> (f64, f64) {
+    rounds(ROUNDS, make, port, rust)
+}
+
+fn rounds<T>(count: usize, mut make: impl FnMut() -> T, mut port: impl FnMut(&mut T), mut rust: impl FnMut(&mut T)) -> (f64, f64) {
     let mut best = (f64::MAX, f64::MAX);
-    for _ in 0..ROUNDS {
+    for _ in 0..count {
         let mut input = make();
         let start = Instant::now();
         port(&mut input);
@@ -213,6 +218,33 @@ fn single_paths() {
             line(&format!("a path, {name}, {} {what}", of.len()), p / n, q / n);
         }
         println!("  ({} triangles, {} rays for those traced)", kept, rays);
+    }
+}
+
+/// The search and the ranking, over the Rust's planes: all images of an order.
+fn searches() {
+    for (name, sheets, order) in [("booth", 0, 3), ("12 sheets", 12, 2), ("booth", 0, 8)] {
+        let mut c = hall(sheets);
+        c.settings.order = order;
+        let mut a = areas(c.meshes[0].indices.len() / 3, 0);
+        let Loaded::Triangles { kept, triples, .. } = port::load_scene(&lent(&c), &mut a) else { panic!("{name} is refused") };
+        let backend = oracle::built(&c, false);
+        let mut tree = Tree::areas(kept);
+        assert!(tree.build(&a.columns, &a.handles, triples));
+        let scene = paths::scene(&c, &backend, &a, triples, &tree);
+        let theirs = oracle::run_built(&c, &backend);
+        let (mut rows, mut out) = (Candidates::with_room(theirs.candidates as usize), vec![0; TAPS]);
+        let found = scene.search(&c.source, &c.listener, order as usize, &mut rows);
+        assert_eq!((found.images, found.rays as u64, found.found), (theirs.images as usize, theirs.rays, theirs.candidates as usize));
+        let few = if found.images > 10_000 { 3 } else { 20 };
+        let (p, q) = rounds(
+            few,
+            || (),
+            |_| { let f = scene.search(&c.source, &c.listener, order as usize, &mut rows); black_box(rows.rank_first(f.found, c.settings.speed, c.settings.rate, &mut out)); },
+            |_| { black_box(oracle::run_built(&c, &backend)); },
+        );
+        line(&format!("search, {name}, order {order}: {} images", found.images), p, q);
+        println!("  ({} rays, {} candidates)", found.rays, found.found);
     }
 }
 
