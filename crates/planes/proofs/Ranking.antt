@@ -11,7 +11,8 @@ use lib.Seq.{take-suc}
 use lib.Ieee.{Float}
 use Rattle.mirror.specs.declared.PlaneRow.{PlaneRow}
 use Rattle.mirror.specs.Plane.{Edge}
-use Rattle.mirror.specs.Rows.{rowOf, trisOf, edgesIn, planeOf, planeIn, borderOf}
+use Rattle.mirror.specs.Rows.{planeFloats, planeWords, edgeFloats, rowOf, trisOf, edgesIn, planeOf, planeIn, borderOf, RunsIn, PlanesHeld}
+use Rattle.order.specs.Sort.{Below}
 use Rattle.fit.specs.Rows.{Small}
 use Rattle.borders.specs.Uses.{borderIn, Appended}
 use Rattle.borders.proofs.Storing.{edges-same}
@@ -111,6 +112,26 @@ module _ (area : List Float) (n : ℕ) (gfloats : List Float) (gwords members in
       planeIn floats words members edges j ≡ borderedIn area n gfloats gwords members first uses (getD index j 0)
   unfolding planeIn borderedIn borderOf trisOf
   placed-is floats words edges at j p = rw (p .row, p .stored)
+
+  -- their runs lie within the areas
+  pub all-held :
+      (floats : List Float) (words : List ℕ) (edges : List Float) (at m count : ℕ) → PlanesHeld gfloats gwords members [] m count → Below count index →
+      ((j : ℕ) → j < length index → Placed floats words edges at j) → at ≤ 3 * m → edgeFloats * (3 * m) ≤ length edges → planeFloats * length index ≤ length floats → planeWords * length index ≤ length words →
+      PlanesHeld floats words members edges m (length index)
+  unfolding Below trisOf
+  all-held floats words edges at m count held below each few room fr wr =
+      record {
+        floats-room = fr;
+        words-room = wr;
+        runs = λ j l.
+            let p = each j l in
+            let was = held .runs (getD index j 0) (below j l) in
+            let low = p .low in
+            rw (p .row) (run j (p .edge) (p .count) was (omega arith));
+      }
+    where
+      run : (j e k : ℕ) → RunsIn (rowOf gfloats gwords (getD index j 0)) m members [] → edgeFloats * (e + k) ≤ length edges → RunsIn (withEdges (rowOf gfloats gwords (getD index j 0)) e k) m members edges
+      run j e k was r = record { members-room = was .members-room; edges-room = r; below = was .below }
 
 -- ---- what the steps ask
 

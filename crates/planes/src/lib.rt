@@ -17,7 +17,7 @@ ghost use Rattle.groups.specs.Settings.{Settings};
 ghost use Rattle.planes.specs.Build.{openPatchesOf};
 ghost use Rattle.planes.specs.Areas.{TrianglesLent, FacesLent, PatchesLent, withEdges, borderedIn, RankedLent, RankedRoom};
 ghost use Rattle.order.specs.Sort.{Below};
-ghost use Rattle.mirror.specs.Rows.{edgeFloats, trisOf, planeIn};
+ghost use Rattle.mirror.specs.Rows.{edgeFloats, trisOf, planeIn, PlanesHeld};
 ghost use Rattle.borders.specs.Uses.{borderIn, Appended};
 
 // STEPS 1 to 3: the patches that are not buried. Their number is returned; id becomes the numbers of the vertices.
@@ -140,6 +140,7 @@ fn put_ranked(
     requires { ⌜ RankedLent (now area) n m (now gfloats) (now gwords) (now members) (now index) (now first) (now uses) count ⌝ }
     requires { ⌜ RankedRoom m (length (now index)) (now floats) (now words) (now edges) ⌝ }
     ensures { λ _. ⌜ ((r : ℕ) → r < length (now (index .entry)) → planeIn (now (floats .exit)) (now (words .exit)) (now (members .entry)) (now (edges .exit)) r ≡ borderedIn (now (area .entry)) n (now (gfloats .entry)) (now (gwords .entry)) (now (members .entry)) (now (first .entry)) (now (uses .entry)) (getD (now (index .entry)) r 0)) ⌝ }
+    ensures { λ _. ⌜ PlanesHeld (now (floats .exit)) (now (words .exit)) (now (members .entry)) (now (edges .exit)) m (length (now (index .entry))) ⌝ }
 {
     let mut at = 0;
     let mut r = 0;

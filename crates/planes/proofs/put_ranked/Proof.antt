@@ -7,7 +7,7 @@ use lib.ListN.{length, getD}
 use Rattle.order.specs.Sort.{Below}
 use Rattle.mirror.specs.declared.PlaneRow.{PlaneRow}
 use Rattle.mirror.specs.Rows.{rowOf, trisOf}
-use Rattle.planes.proofs.Ranking.{Putting, putting-more, placed-is, third, small-is, border-room}
+use Rattle.planes.proofs.Ranking.{Putting, putting-more, placed-is, all-held, sum-le, third, small-is, border-room}
 use Rattle.planes.proofs.put_ranked.Statement.{statement}
 use Rattle.planes.proofs.put_ranked.Tie as tie
 use Rattle.planes.proofs.put_ranked.Statement.{statement}
@@ -83,7 +83,15 @@ same-length-3 : tie.Need-same-length-3 Inv-loop μ-loop
 same-length-3 c = c .before .loop .inv .edges-long
 
 returns : tie.Need-returns Inv-loop μ-loop
-returns c = λ r h. placed-is _ _ _ _ _ _ _ _ _ _ _ _ r (c .before .loop .inv .each r (omega (arith, h, c .loop-test .left)))
+returns c =
+    let p = c .before .before .before .before .before .before .before .before .before .before .before .before .pre .0 in
+    let q = c .before .before .before .before .before .before .before .before .before .before .before .before .pre .1 in
+    let l = c .before .loop in
+    let a = c .before .before .before .before .before .before .before .before .before .before .before .before .args in
+    let few = sum-le (a .gfloats .now) (a .gwords .now) (a .index .now) (l .r) in (
+      λ r h. placed-is _ _ _ _ _ _ _ _ _ _ _ _ r (l .inv .each r (omega (arith, h, c .loop-test .left))),
+      all-held _ _ _ _ _ _ _ _ _ _ _ _ _ _ (p .held) (p .below) (λ r h. l .inv .each r (omega (arith, h, c .loop-test .left))) (omega (arith, l .inv .bound, few, p .total)) (omega (arith, q .edges-room, l .inv .edges-long)) (omega (arith, q .floats-room, l .inv .floats-long)) (omega (arith, q .words-room, l .inv .words-long)),
+    )
 
 pub put-ranked-spec : {M : Type 1} → statement M
 put-ranked-spec =
