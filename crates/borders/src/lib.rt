@@ -30,7 +30,7 @@ pub fn edge_numbers(
 )
     requires { ⌜ (3 * n ≤ 4294967296) × (9 * n ≤ length (now area)) ⌝ }
     requires { ⌜ (length (now hi) ≡ 3 * n) × (length (now lo) ≡ 3 * n) × (length (now index) ≡ 3 * n) ⌝ }
-    requires { ⌜ (length (now words) ≡ 3 * n) × (length (now scratch) ≡ 3 * n) × (length (now id) ≡ 3 * n) ⌝ }
+    requires { ⌜ (3 * n ≤ length (now words)) × (3 * n ≤ length (now scratch)) × (3 * n ≤ length (now id)) ⌝ }
     ensures { λ _. ⌜ Numbered edgeKey (now (area .entry)) n n (now (id .exit)) ⌝ }
 {
     faces::corner_numbers(area, n, 10000.0, hi, lo, index, words, scratch, id);

@@ -302,9 +302,9 @@ pub fn corner_numbers(
     requires { ⌜ length (now hi) ≡ 3 * n ⌝ }
     requires { ⌜ length (now lo) ≡ 3 * n ⌝ }
     requires { ⌜ length (now index) ≡ 3 * n ⌝ }
-    requires { ⌜ length (now words) ≡ 3 * n ⌝ }
-    requires { ⌜ length (now scratch) ≡ 3 * n ⌝ }
-    requires { ⌜ length (now id) ≡ 3 * n ⌝ }
+    requires { ⌜ 3 * n ≤ length (now words) ⌝ }
+    requires { ⌜ 3 * n ≤ length (now scratch) ⌝ }
+    requires { ⌜ 3 * n ≤ length (now id) ⌝ }
     ensures { λ _. ⌜ Numbered (keyBy scale) (now (area .entry)) n n (now (id .exit)) ⌝ }
 {
     corner_keys(area, n, scale, hi, lo);
