@@ -1,5 +1,6 @@
 -- The laws of the planes, and scenes whose planes the Rust gave.
 pub mod Ranking
+pub mod Ranked
 mod Probe
 mod SceneStar9
 mod SceneFirst

@@ -21,7 +21,7 @@ use Rattle.planes.specs.Areas.{withEdges, sumCounts, borderedIn}
 -- ---- the triangles so far
 
 module _ (gfloats : List Float) (gwords : List ℕ) where
-  sum-snoc : (xs : List ℕ) (g : ℕ) → sumCounts gfloats gwords (xs ++ (g ∷ [])) ≡ sumCounts gfloats gwords xs + rowOf gfloats gwords g .count
+  pub sum-snoc : (xs : List ℕ) (g : ℕ) → sumCounts gfloats gwords (xs ++ (g ∷ [])) ≡ sumCounts gfloats gwords xs + rowOf gfloats gwords g .count
   unfolding sumCounts
   sum-snoc [] g = omega arith
   sum-snoc (x ∷ xs) g = let e = sum-snoc xs g in omega arith
