@@ -146,7 +146,7 @@ fn face_lo(a: u32, b: u32, c: u32) -> u64
 
 // The keys of n faces, from the numbers of their corners: corner c of face i stands at c * n + i.
 fn face_keys(id: &[u32], n: usize, hi: &mut [u64], lo: &mut [u64])
-    requires { ⌜ length (now id) ≡ 3 * n ⌝ }
+    requires { ⌜ 3 * n ≤ length (now id) ⌝ }
     requires { ⌜ length (now hi) ≡ n ⌝ }
     requires { ⌜ length (now lo) ≡ n ⌝ }
     ensures { λ _. ⌜ Below 4294967296 (now (lo .exit)) ⌝ }
@@ -164,17 +164,15 @@ fn face_keys(id: &[u32], n: usize, hi: &mut [u64], lo: &mut [u64])
 }
 
 // first[i] becomes i exactly where no earlier triangle has the three corner keys of triangle i, in any order. id becomes the number
-// of each corner: the first corner with its key.
+// of each corner: the first corner with its key. Once id is known the corner keys are dead, and the face keys take their place.
 pub fn first_faces(
-    vhi: &[u64],
-    vlo: &[u64],
+    vhi: &mut [u64],
+    vlo: &mut [u64],
     n: usize,
     index: &mut [u32],
     words: &mut [u64],
     scratch: &mut [u64],
     id: &mut [u32],
-    fhi: &mut [u64],
-    flo: &mut [u64],
     first: &mut [u32],
 )
     requires { ⌜ 3 * n ≤ 4294967296 ⌝ }
@@ -182,18 +180,16 @@ pub fn first_faces(
     requires { ⌜ length (now vlo) ≡ 3 * n ⌝ }
     requires { ⌜ Below 4294967296 (now vlo) ⌝ }
     requires { ⌜ length (now index) ≡ 3 * n ⌝ }
-    requires { ⌜ length (now words) ≡ 3 * n ⌝ }
-    requires { ⌜ length (now scratch) ≡ 3 * n ⌝ }
-    requires { ⌜ length (now id) ≡ 3 * n ⌝ }
-    requires { ⌜ length (now fhi) ≡ n ⌝ }
-    requires { ⌜ length (now flo) ≡ n ⌝ }
-    requires { ⌜ length (now first) ≡ n ⌝ }
+    requires { ⌜ 3 * n ≤ length (now words) ⌝ }
+    requires { ⌜ 3 * n ≤ length (now scratch) ⌝ }
+    requires { ⌜ 3 * n ≤ length (now id) ⌝ }
+    requires { ⌜ n ≤ length (now first) ⌝ }
     ensures { λ _. ⌜ ((c : ℕ) → c < 3 * n → getD (now (id .exit)) c 0 ≡ firstAt (keyAt (now (vhi .entry)) (now (vlo .entry))) c) ⌝ }
     ensures { λ _. ⌜ ((i : ℕ) → i < n → eqb (getD (now (first .exit)) i 0) i ≡ isNewAt (keyAt (now (vhi .entry)) (now (vlo .entry))) n i) ⌝ }
 {
     first_indexes(vhi, vlo, index, words, scratch, id);
-    face_keys(id, n, fhi, flo);
-    first_indexes(fhi, flo, &mut index[..n], words, scratch, first);
+    face_keys(id, n, &mut vhi[..n], &mut vlo[..n]);
+    first_indexes(&vhi[..n], &vlo[..n], &mut index[..n], words, scratch, first);
 }
 
 // ---- keys of corners
@@ -321,8 +317,6 @@ pub fn duplicates(
     words: &mut [u64],
     scratch: &mut [u64],
     id: &mut [u32],
-    fhi: &mut [u64],
-    flo: &mut [u64],
     first: &mut [u32],
 )
     requires { ⌜ 3 * n ≤ 4294967296 ⌝ }
@@ -330,15 +324,13 @@ pub fn duplicates(
     requires { ⌜ length (now vhi) ≡ 3 * n ⌝ }
     requires { ⌜ length (now vlo) ≡ 3 * n ⌝ }
     requires { ⌜ length (now index) ≡ 3 * n ⌝ }
-    requires { ⌜ length (now words) ≡ 3 * n ⌝ }
-    requires { ⌜ length (now scratch) ≡ 3 * n ⌝ }
-    requires { ⌜ length (now id) ≡ 3 * n ⌝ }
-    requires { ⌜ length (now fhi) ≡ n ⌝ }
-    requires { ⌜ length (now flo) ≡ n ⌝ }
-    requires { ⌜ length (now first) ≡ n ⌝ }
+    requires { ⌜ 3 * n ≤ length (now words) ⌝ }
+    requires { ⌜ 3 * n ≤ length (now scratch) ⌝ }
+    requires { ⌜ 3 * n ≤ length (now id) ⌝ }
+    requires { ⌜ n ≤ length (now first) ⌝ }
     ensures { λ _. ⌜ ((i : ℕ) → i < n → eqb (getD (now (first .exit)) i 0) i ≡ isFirst (facesIn (now (area .entry)) n) i) ⌝ }
     ensures { λ _. ⌜ Numbered vertexKey (now (area .entry)) n n (now (id .exit)) ⌝ }
 {
     corner_keys(area, n, 1000.0, vhi, vlo);
-    first_faces(vhi, vlo, n, index, words, scratch, id, fhi, flo, first);
+    first_faces(vhi, vlo, n, index, words, scratch, id, first);
 }

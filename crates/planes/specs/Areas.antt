@@ -22,16 +22,14 @@ pub record TrianglesLent (area : List Float) (handles : List ℕ) (n m : ℕ) : 
   pub named : n ≤ length handles
 
 -- step 1
-pub record FacesLent (n : ℕ) (vhi vlo index words scratch id fhi flo first : List ℕ) : Type 0 where
+pub record FacesLent (n : ℕ) (vhi vlo index words scratch id first : List ℕ) : Type 0 where
   pub vhi-room : length vhi ≡ 3 * n
   pub vlo-room : length vlo ≡ 3 * n
   pub index-room : length index ≡ 3 * n
-  pub words-room : length words ≡ 3 * n
-  pub scratch-room : length scratch ≡ 3 * n
-  pub id-room : length id ≡ 3 * n
-  pub fhi-room : length fhi ≡ n
-  pub flo-room : length flo ≡ n
-  pub first-room : length first ≡ n
+  pub words-room : 3 * n ≤ length words
+  pub scratch-room : 3 * n ≤ length scratch
+  pub id-room : 3 * n ≤ length id
+  pub first-room : n ≤ length first
 
 -- steps 2 and 3
 pub record PatchesLent (m : ℕ) (cells heads next : List ℕ) (areas : List Float) (largest flags : List ℕ) (rows : List Float) (of : List ℕ) : Type 0 where

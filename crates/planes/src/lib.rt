@@ -38,8 +38,6 @@ fn open_patches(
     words: &mut [u64],
     scratch: &mut [u64],
     id: &mut [u32],
-    fhi: &mut [u64],
-    flo: &mut [u64],
     first: &mut [u32],
     cells: &mut [u64],
     heads: &mut [u32],
@@ -51,7 +49,7 @@ fn open_patches(
     of: &mut [u32],
 ) -> usize
     requires { ⌜ TrianglesLent (now area) (now handles) n m ⌝ }
-    requires { ⌜ FacesLent n (now vhi) (now vlo) (now index) (now words) (now scratch) (now id) (now fhi) (now flo) (now first) ⌝ }
+    requires { ⌜ FacesLent n (now vhi) (now vlo) (now index) (now words) (now scratch) (now id) (now first) ⌝ }
     requires { ⌜ PatchesLent m (now cells) (now heads) (now next) (now areas) (now largest) (now flags) (now rows) (now of) ⌝ }
     requires { ⌜ Held (now padded) (now nodes) (now perm) (now leaves) count ⌝ }
     requires { ⌜ 0 < count ⌝ }
@@ -59,19 +57,7 @@ fn open_patches(
     ensures { λ r. ⌜ (r ≤ m) × Numbered (now (of .exit)) m r ⌝ }
     ensures { λ _. ⌜ faces.Numbered vertexKey (now (area .entry)) n n (now (id .exit)) ⌝ }
 {
-    faces::duplicates(
-        area,
-        n,
-        vhi,
-        vlo,
-        index,
-        words,
-        scratch,
-        id,
-        fhi,
-        flo,
-        first,
-    );
+    faces::duplicates(area, n, vhi, vlo, index, words, scratch, id, first);
     let np = patches::coplanar_patches(area, handles, n, m, first, cells, heads, next, rows, of);
     buried::open_patches(
         area,

@@ -12,22 +12,29 @@ use Rattle.faces.proofs.duplicates.Tie as tie
 
 corner-keys-requires : tie.Need-corner-keys-requires
 corner-keys-requires c κs =
-    let s = c .before .before .before .before .before .before .before .before .before .before .before .before in
+    let s = c .before .before .before .before .before .before .before .before .before .before in
     (omega (arith, s .pre .1 .0), (s .pre .1 .1 .0, s .pre .1 .1 .1 .0))
 
 first-faces-requires : tie.Need-first-faces-requires
 first-faces-requires c κs =
-    let s = c .before .before .before .before .before .before .before .before .before .before .before .before .before .before .before .before .before .before .before .before .before .before .before .before .before .before in
-    (s .pre .0, (c .before .before .before .before .before .before .before .before .before .before .before .before .before .corner-keys .kept .1 .1 .1 .0 ∙ s .pre .1 .1 .0, (c .before .before .before .before .before .before .before .before .before .before .before .before .before .corner-keys .kept .1 .1 .1 .1 .0 ∙ s .pre .1 .1 .1 .0, (c .before .before .before .before .before .before .before .before .before .before .before .before .before .corner-keys .ensures .0, s .pre .1 .1 .1 .1))))
+    let s = c .before .before .before .before .before .before .before .before .before .before .before .before .before .before .before .before .before .before .before .before .before .before in
+    let k = c .before .before .before .before .before .before .before .before .before .before .before .corner-keys in
+    (s .pre .0, (k .kept .1 .1 .1 .0 ∙ s .pre .1 .1 .0, (k .kept .1 .1 .1 .1 .0 ∙ s .pre .1 .1 .1 .0, (k .ensures .0, s .pre .1 .1 .1 .1))))
+
+same-length : tie.Need-same-length
+same-length c = c .before .before .before .before .before .before .before .before .before .before .before .before .before .before .first-faces .kept .0 ∙ c .before .before .before .before .before .before .before .before .before .before .before .before .before .before .before .before .before .before .before .before .before .before .before .before .before .before .corner-keys .kept .1 .1 .1 .0
+
+same-length-2 : tie.Need-same-length-2
+same-length-2 c = c .before .before .before .before .before .before .before .before .before .before .before .before .before .before .first-faces .kept .1 .0 ∙ c .before .before .before .before .before .before .before .before .before .before .before .before .before .before .before .before .before .before .before .before .before .before .before .before .before .before .corner-keys .kept .1 .1 .1 .1 .0
 
 returns : tie.Need-returns
 unfolding vertexKey
 returns c =
-    let g = c .before .before .before .before .before .before .before .before .before .before .before .before .before .before .before .before .before .before .before .before .before .before .before .before .before .before .before .before .before .before .before .before .before .before .before .before .before .before .before .before .before .args in
-    let k = c .before .before .before .before .before .before .before .before .before .before .before .before .before .before .before .before .before .before .before .before .before .before .before .before .before .before .before .before .corner-keys in
+    let g = c .before .before .before .before .before .before .before .before .before .before .before .before .before .before .before .before .before .before .before .before .before .before .before .before .before .before .before .before .before .before .before .before .before .before .before .before .before .args in
+    let k = c .before .before .before .before .before .before .before .before .before .before .before .before .before .before .before .before .before .before .before .before .before .before .before .before .before .before .corner-keys in
     let f = c .before .before .before .before .before .before .before .before .before .before .before .before .before .before .first-faces in
     let key = keyAt (k .last .1 .1 .1 .0) (k .last .1 .1 .1 .1 .0) in (
-      λ i h. first-at (g .area .now) (g .n) key (k .ensures .1 .0) (k .ensures .1 .1 .0) (k .ensures .1 .1 .1) i (getD (f .last .1 .1 .1 .1 .1 .1 .1 .1 .1 .0) i 0) h (f .ensures .1 i h),
+      λ i h. first-at (g .area .now) (g .n) key (k .ensures .1 .0) (k .ensures .1 .1 .0) (k .ensures .1 .1 .1) i (getD (f .last .1 .1 .1 .1 .1 .1 .1 .0) i 0) h (f .ensures .1 i h),
       numbered (g .area .now) (g .n) vertexStepsPerMetre key _ (k .ensures .1 .0) (k .ensures .1 .1 .0) (k .ensures .1 .1 .1) (f .ensures .0),
     )
 
@@ -37,10 +44,8 @@ duplicates-spec =
     (tie.spec
     corner-keys-requires
     first-faces-requires
-    (λ c. search needs)
-    (λ c. search needs)
-    (λ c. search needs)
-    (λ c. search needs)
+    same-length
+    same-length-2
     (λ c. search needs)
     (λ c. search needs)
     (λ c. search needs)
