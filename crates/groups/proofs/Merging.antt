@@ -1,7 +1,7 @@
 -- The groups that the code makes are the definition's: `merged-is`, `alone-is`.
 use mathlib.Core.Path.{_≡_, refl, sym, ap, _∙_}
 use mathlib.Core.Bool.{Bool, true, false, cond, not, _&&_}
-use mathlib.Core.List.{List, [], _∷_, _++_, map}
+use mathlib.Core.List.{List, [], _∷_, map}
 use Prim.Native.Nat.{ℕ, zero, suc, _<_}
 use lib.Dec.{eqb, ltb}
 use lib.Ieee.{Float, lt}
@@ -32,15 +32,14 @@ module _ (np : ℕ) (adj : ℕ → ℕ → Bool) (fit fit2 : ℕ → Bool) (same
   grown-cong (suc n) (p ∷ queue) free u =
       let new : filterBy (λ q. adj p q && fit q) free ≡ filterBy (λ q. adj p q && fit2 q) free = filter-under (λ q. adj p q && fit q) (λ q. adj p q && fit2 q) np free u (λ q h. ap (λ (b : Bool). adj p q && b) (same q h)) in
       let left : filterBy (λ q. not (adj p q && fit q)) free ≡ filterBy (λ q. not (adj p q && fit2 q)) free = filter-under (λ q. not (adj p q && fit q)) (λ q. not (adj p q && fit2 q)) np free u (λ q h. ap (λ (b : Bool). not (adj p q && b)) (same q h)) in
-      let rest = grown-cong n (queue ++ filterBy (λ q. adj p q && fit q) free) (filterBy (λ q. not (adj p q && fit q)) free) (under-filter (λ q. not (adj p q && fit q)) np free u) in
-      ap (λ (g : List ℕ × List ℕ). (p ∷ g .0, g .1)) (rest ∙ ap (λ (l : List ℕ). grownOf n adj fit2 (queue ++ l) (filterBy (λ q. not (adj p q && fit q)) free)) new ∙ ap (grownOf n adj fit2 (queue ++ filterBy (λ q. adj p q && fit2 q) free)) left)
+      rw (new, left, grown-cong n _ _ (under-filter (λ q. not (adj p q && fit2 q)) np free u))
 
 grown-under : (np : ℕ) (adj : ℕ → ℕ → Bool) (fit : ℕ → Bool) (n : ℕ) (queue free : List ℕ) → Under np free → Under np (grownOf n adj fit queue free .1)
 unfolding grownOf
 grown-under np adj fit zero queue free u = u
 grown-under np adj fit (suc n) [] free u = u
 grown-under np adj fit (suc n) (p ∷ queue) free u =
-    grown-under np adj fit n (queue ++ filterBy (λ q. adj p q && fit q) free) (filterBy (λ q. not (adj p q && fit q)) free) (under-filter (λ q. not (adj p q && fit q)) np free u)
+    grown-under np adj fit n _ (filterBy (λ q. not (adj p q && fit q)) free) (under-filter (λ q. not (adj p q && fit q)) np free u)
 
 module _ (np : ℕ) (adj fit fit2 : ℕ → ℕ → Bool) (same : (a b : ℕ) → a < np → b < np → fit a b ≡ fit2 a b) where
   groups-cong : (seeds free : List ℕ) → Below np seeds → Under np free → groupsFrom np adj fit seeds free ≡ groupsFrom np adj fit2 seeds free

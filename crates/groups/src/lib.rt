@@ -484,7 +484,8 @@ fn grow_groups(
     ng
 }
 
-// The groups where patches are merged: adjacency, and the growth from each seed in order.
+// The groups where patches are merged: adjacency, and the growth from each seed in order. The patches of each vertex are dead once the
+// rows of adjacency are made, and the growth writes queue and starts only then: so they stand there, and no area is lent for them.
 fn merge(
     area: &[f32],
     handles: &[u32],
@@ -502,8 +503,6 @@ fn merge(
     order: &[u32],
     words: &mut [u64],
     scratch: &mut [u64],
-    vsorted: &mut [u32],
-    vstarts: &mut [u32],
     asorted: &mut [u32],
     astarts: &mut [u32],
     assigned: &mut [u32],
@@ -517,9 +516,9 @@ fn merge(
     requires { ⌜ (3 * n ≤ length (now id)) × Numbers (now id) n m vertices × (vertices ≤ mostRows) ⌝ }
     requires { ⌜ (np ≤ length (now order)) × Below np (take np (now order)) ⌝ }
     requires { ⌜ (24 * m ≤ length (now words)) × (24 * m ≤ length (now scratch)) ⌝ }
-    requires { ⌜ (length (now vsorted) ≡ 3 * m) × (vertices < length (now vstarts)) ⌝ }
     requires { ⌜ (24 * m ≤ length (now asorted)) × (np < length (now astarts)) ⌝ }
     requires { ⌜ (np ≤ length (now assigned)) × (np ≤ length (now queue)) × (np < length (now starts)) ⌝ }
+    requires { ⌜ (3 * m ≤ length (now queue)) × (vertices < length (now starts)) ⌝ }
     ensures { λ r. ⌜ r ≤ np ⌝ }
     ensures { λ r. ⌜ Grouped np r (now (queue .exit)) (now (starts .exit)) ⌝ }
     ensures { λ r. ⌜ ((adj : ℕ → ℕ → Bool) → ((p q : ℕ) → p < np → q < np → isJoined (now (id .entry)) n vertices (now (of .entry)) m np p q ≡ adj p q) → groupsIn (now (queue .exit)) (now (starts .exit)) r ≡ groupsFrom np adj (takesIn (now (area .entry)) (now (handles .entry)) n (now (rows .entry)) (now (tsorted .entry)) (now (tstarts .entry)) least most) (take np (now (order .entry))) (upTo np)) ⌝ }
@@ -533,8 +532,8 @@ fn merge(
         np as u32,
         words,
         scratch,
-        vsorted,
-        vstarts,
+        &mut queue[..3 * m],
+        starts,
         asorted,
         astarts,
     );
@@ -578,8 +577,6 @@ pub fn merge_patches(
     scratch: &mut [u64],
     tsorted: &mut [u32],
     tstarts: &mut [u32],
-    vsorted: &mut [u32],
-    vstarts: &mut [u32],
     asorted: &mut [u32],
     astarts: &mut [u32],
     order: &mut [u32],
@@ -594,10 +591,9 @@ pub fn merge_patches(
     requires { ⌜ Numbered vertexKey (now area) n m (now id) ⌝ }
     requires { ⌜ (m ≤ length (now keys)) × (24 * m ≤ length (now words)) × (24 * m ≤ length (now scratch)) ⌝ }
     requires { ⌜ (m ≤ length (now tsorted)) × (m < length (now tstarts)) ⌝ }
-    requires { ⌜ (length (now vsorted) ≡ 3 * m) × (vertices < length (now vstarts)) ⌝ }
     requires { ⌜ (24 * m ≤ length (now asorted)) × (m < length (now astarts)) ⌝ }
     requires { ⌜ (m ≤ length (now order)) × (m ≤ length (now assigned)) ⌝ }
-    requires { ⌜ (m ≤ length (now queue)) × (m < length (now starts)) ⌝ }
+    requires { ⌜ (3 * m ≤ length (now queue)) × (m < length (now starts)) × (vertices < length (now starts)) ⌝ }
     ensures { λ r. ⌜ r ≤ np ⌝ }
     ensures { λ r. ⌜ Grouped np r (now (queue .exit)) (now (starts .exit)) ⌝ }
     ensures { λ r. ⌜ ((s : Settings) → s .mergeOn ≡ on → s .mergeCos ≡ least → s .mergeOffset ≡ most → groupsIn (now (queue .exit)) (now (starts .exit)) r ≡ groupsOf s (trianglesIn (now (area .entry)) (now (handles .entry)) n m) (patchesIn (now (rows .entry)) (now (of .entry)) m np)) ⌝ }
@@ -622,8 +618,6 @@ pub fn merge_patches(
             order,
             words,
             scratch,
-            vsorted,
-            vstarts,
             asorted,
             astarts,
             assigned,

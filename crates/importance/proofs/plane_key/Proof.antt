@@ -18,4 +18,4 @@ plane-key-spec =
     let f = c .before in
     let w = f .before in
     let m = w .before in
-    rw (← m .before .moments-of .ensures, ← m .mean .ensures, ← w .weigh .ensures b at far, ← f .first-of .ensures, ← c .descending-key .ensures)))
+    rw (← m .before .moments-of .ensures, ← m .mean .ensures, ← w .weigh .ensures b at far, ← f .first-of .ensures) (c .descending-key .ensures)))
