@@ -4,24 +4,26 @@ use mathlib.Core.Path.{_≡_, refl, sym, ap, _∙_}
 use mathlib.Core.Bool.{Bool, true, false}
 use mathlib.Core.List.{List, [], _∷_, _++_, map}
 use Prim.Native.Nat.{ℕ, zero, suc, _+_, _*_, _<_, _≤_}
+use native.Mathlib.Nat.{le-refl}
 use native.Mathlib.Omega.{arith}
 use lib.Dec.{eqb}
 use lib.ListN.{length, getD, take, drop, length-drop, length-append}
-use lib.Seq.{length-take-le, take-all}
+use lib.Seq.{length-take-le, take-all, take-suc}
 use lib.Ieee.{Float}
 use borrow.Author.Tests.{eqb-true}
 use Rattle.order.specs.Sort.{Perm, Below, sortBy, keyOf}
 use Rattle.order.specs.Sort.Perm.{none, skip, swap, then}
 use Rattle.order.specs.Runs.{upTo}
-use Rattle.order.proofs.Laws.{length-sort, below-sort, below-take}
+use Rattle.order.proofs.Laws.{length-sort, below-head, below-tail, below-sort, below-take}
 use Rattle.order.proofs.Stable.{sort-perm}
 use Rattle.patches.specs.Lists.{keepIf, filterBy}
 use Rattle.patches.specs.Rows.{noneOf, trisIn}
 use Rattle.patches.specs.Triangles.{trianglesIn}
 use Rattle.patches.proofs.Lists.{filter-more, length-upTo, map-under}
-use Rattle.faces.proofs.Firsts.{upTo-positions}
+use Rattle.faces.proofs.Firsts.{upTo-length, upTo-positions}
 use Rattle.mirror.specs.Plane.{Plane, planeAt}
-use Rattle.mirror.specs.Rows.{rowOf, trisOf, planeIn, planesIn, PlanesHeld}
+use Rattle.geometry.specs.declared.Triangle.{Triangle}
+use Rattle.mirror.specs.Rows.{rowOf, trisOf, planeOf, planeIn, planesIn, PlanesHeld}
 use Rattle.mirror.proofs.Laws.{plane-at}
 use Rattle.importance.specs.Importance.{sceneBoxOf, keyOfPlane, rankingOf, rankedOf}
 use Rattle.borders.specs.Border.{borderOf, borderedOf}
@@ -88,17 +90,36 @@ counted-all : (of : List ℕ) (m k : ℕ) → counted of m k ≤ m
 counted-all of zero k = let none-yet = no-counted of k in omega arith
 counted-all of (suc m) k = let more = counted-more of m k in let less = counted-all of m k in let one = one-mark (getD of m noneOf) k in omega arith
 
+-- ---- a list by its numbers
+
+map-snoc : {A : Type 0} (f : ℕ → A) (xs : List ℕ) (x : ℕ) → map f (xs ++ (x ∷ [])) ≡ map f xs ++ (f x ∷ [])
+map-snoc f [] x = refl
+map-snoc {A = A} f (y ∷ xs) x = ap (λ (l : List A). f y ∷ l) (map-snoc f xs x)
+
+map-read : {A : Type 0} (f : ℕ → A) (xs : List ℕ) (k : ℕ) → k ≤ length xs → map (λ r. f (getD xs r 0)) (upTo k) ≡ map f (take k xs)
+unfolding upTo
+map-read f xs zero h = refl
+map-read {A = A} f xs (suc k) h =
+    map-snoc (λ r. f (getD xs r 0)) (upTo k) k ∙ ap (λ (l : List A). l ++ (f (getD xs k 0) ∷ [])) (map-read f xs k (omega arith))
+    ∙ sym (ap (map f) (take-suc xs k 0 (omega arith)) ∙ map-snoc f (take k xs) (getD xs k 0))
+
 -- ---- the planes of a scene
 
-module _ (area : List Float) (handles : List ℕ) (n m : ℕ) (gfloats : List Float) (gwords members planeOf : List ℕ) (ng : ℕ)
-    (held : PlanesHeld gfloats gwords members [] m ng) (tris : (g : ℕ) → g < ng → trisOf (rowOf gfloats gwords g) members ≡ trisIn planeOf m g) where
+module _ (area : List Float) (handles : List ℕ) (n m : ℕ) (gfloats : List Float) (gwords members numbers : List ℕ) (ng : ℕ)
+    (held : PlanesHeld gfloats gwords members [] m ng) (tris : (g : ℕ) → g < ng → trisOf (rowOf gfloats gwords g) members ≡ trisIn numbers m g) where
+  abbrev scene : List Triangle
+  scene = trianglesIn area handles n m
+
   abbrev groupPlanes : List Plane
   groupPlanes = planesIn gfloats gwords members [] ng
 
-  abbrev ranking : List ℕ
-  ranking = rankingOf (trianglesIn area handles n m) groupPlanes
+  abbrev keysOf : List Plane → List ℕ
+  keysOf ps = map (keyOfPlane scene (sceneBoxOf scene)) ps
 
-  count-is : (g : ℕ) → g < ng → rowOf gfloats gwords g .count ≡ length (trisIn planeOf m g)
+  abbrev ranking : List ℕ
+  ranking = rankingOf scene groupPlanes
+
+  count-is : (g : ℕ) → g < ng → rowOf gfloats gwords g .count ≡ length (trisIn numbers m g)
   unfolding trisOf
   count-is g l =
       let row = rowOf gfloats gwords g in
@@ -113,7 +134,7 @@ module _ (area : List Float) (handles : List ℕ) (n m : ℕ) (gfloats : List Fl
   sum-perm swap = omega arith
   sum-perm (then p q) = sum-perm p ∙ sum-perm q
 
-  sum-upTo : (k : ℕ) → k ≤ ng → sumCounts gfloats gwords (upTo k) ≡ counted planeOf m k
+  sum-upTo : (k : ℕ) → k ≤ ng → sumCounts gfloats gwords (upTo k) ≡ counted numbers m k
   unfolding sumCounts upTo
   sum-upTo zero h = refl
   sum-upTo (suc k) h =
@@ -130,10 +151,49 @@ module _ (area : List Float) (handles : List ℕ) (n m : ℕ) (gfloats : List Fl
   pub counts-all : (few : ℕ) → sumCounts gfloats gwords (take few ranking) ≤ m
   unfolding rankingOf
   counts-all few =
-      let keys = map (keyOfPlane (trianglesIn area handles n m) (sceneBoxOf (trianglesIn area handles n m))) groupPlanes in
-      let whole = sum-perm (sort-perm (keyOf keys) (upTo (length groupPlanes))) in
+      let whole = sum-perm (sort-perm (keyOf (keysOf groupPlanes)) (upTo (length groupPlanes))) in
       let part = sum-le gfloats gwords ranking few in
       let up = ap (λ (k : ℕ). sumCounts gfloats gwords (upTo k)) long in
       let sum = sum-upTo ng (omega arith) in
-      let all = counted-all planeOf m ng in
+      let all = counted-all numbers m ng in
       omega arith
+
+  pub ranking-long : length ranking ≡ ng
+  unfolding rankingOf
+  ranking-long = length-sort (keyOf (keysOf groupPlanes)) (upTo (length groupPlanes)) ∙ upTo-length (length groupPlanes) ∙ long
+
+  pub ranking-below : Below ng ranking
+  unfolding rankingOf
+  ranking-below = below-sort (keyOf (keysOf groupPlanes)) ng (upTo (length groupPlanes)) (rw (long) (upTo-positions ng))
+
+  module _ (first uses : List ℕ) (once : OnceCounted area n numbers m first uses) where
+    abbrev bordered : ℕ → Plane
+    bordered = borderedIn area n gfloats gwords members first uses
+
+    bordered-is : (g : ℕ) → g < ng → bordered g ≡ borderedOf scene (planeAt groupPlanes g)
+    unfolding borderedIn borderedOf planeIn
+    bordered-is g l =
+        let row = rowOf gfloats gwords g in
+        let is = trisOf row members in
+        let edges : borderIn area n first uses is ≡ borderOf scene is =
+        ap (borderIn area n first uses) (tris g l) ∙ border-is area handles n m numbers first uses g once ∙ sym (ap (borderOf scene) (tris g l)) in
+        ap (planeOf row is) edges ∙ sym (ap (borderedOf scene) (plane-at gfloats gwords members [] ng g l))
+
+    all-bordered : (xs : List ℕ) → Below ng xs → map bordered xs ≡ map (borderedOf scene) (map (planeAt groupPlanes) xs)
+    all-bordered [] b = refl
+    all-bordered (g ∷ xs) b = both (bordered-is g (below-head ng g xs b)) (all-bordered xs (below-tail ng g xs b))
+      where
+        both : {p q : Plane} {ps qs : List Plane} → p ≡ q → ps ≡ qs → p ∷ ps ≡ q ∷ qs
+        both e f = rw (e, f)
+
+    -- THE planeOfS with their borders, where each of the first `few` in the areas is one of the order's
+    pub ranked-is :
+        (floats : List Float) (words : List ℕ) (edges : List Float) (most few : ℕ) → few ≤ ng → take few ranking ≡ take most ranking →
+        ((r : ℕ) → r < few → planeIn floats words members edges r ≡ bordered (getD (take few ranking) r 0)) →
+        planesIn floats words members edges few ≡ map (borderedOf scene) (rankedOf scene most groupPlanes)
+    unfolding planesIn rankedOf
+    ranked-is floats words edges most few low same each =
+        let xs = take few ranking in
+        let count : length xs ≡ few = length-take-le few ranking (rw (ranking-long) low) in
+        map-under _ (λ r. bordered (getD xs r 0)) few each ∙ map-read bordered xs few (rw (count) (le-refl few)) ∙ ap (map bordered) (take-all few xs (rw (count) (le-refl few)))
+        ∙ all-bordered xs (below-take ng few ranking ranking-below) ∙ ap (λ (l : List ℕ). map (borderedOf scene) (map (planeAt groupPlanes) l)) same
