@@ -1,6 +1,7 @@
 -- The laws of the planes, and scenes whose planes the Rust gave.
 pub mod Ranking
 pub mod Ranked
+pub mod Steps
 mod Probe
 mod SceneStar9
 mod SceneFirst

@@ -6,11 +6,11 @@ use mathlib.Core.List.{List, [], _∷_, _++_, map}
 use Prim.Native.Nat.{ℕ, zero, suc, _+_, _*_, _<_, _≤_}
 use native.Mathlib.Nat.{le-refl}
 use native.Mathlib.Omega.{arith}
-use lib.Dec.{eqb}
+use lib.Dec.{eqb, leb}
 use lib.ListN.{length, getD, take, drop, length-drop, length-append}
-use lib.Seq.{length-take-le, take-all, take-suc}
+use lib.Seq.{length-take-le, take-all, take-suc, take-append-le}
 use lib.Ieee.{Float}
-use borrow.Author.Tests.{eqb-true}
+use borrow.Author.Tests.{eqb-true, leb-true, leb-false}
 use Rattle.order.specs.Sort.{Perm, Below, sortBy, keyOf}
 use Rattle.order.specs.Sort.Perm.{none, skip, swap, then}
 use Rattle.order.specs.Runs.{upTo}
@@ -197,3 +197,28 @@ module _ (area : List Float) (handles : List ℕ) (n m : ℕ) (gfloats : List Fl
         let count : length xs ≡ few = length-take-le few ranking (rw (ranking-long) low) in
         map-under _ (λ r. bordered (getD xs r 0)) few each ∙ map-read bordered xs few (rw (count) (le-refl few)) ∙ ap (map bordered) (take-all few xs (rw (count) (le-refl few)))
         ∙ all-bordered xs (below-take ng few ranking ranking-below) ∙ ap (λ (l : List ℕ). map (borderedOf scene) (map (planeAt groupPlanes) l)) same
+
+    -- the same, where the numbers stand in an area
+    pub stored-is :
+        (index : List ℕ) (floats : List Float) (words : List ℕ) (edges : List Float) (most few : ℕ) → index ≡ take few ranking → few ≤ ng → take few ranking ≡ take most ranking →
+        ((r : ℕ) → r < length index → planeIn floats words members edges r ≡ bordered (getD index r 0)) →
+        planesIn floats words members edges few ≡ map (borderedOf scene) (rankedOf scene most groupPlanes)
+    stored-is index floats words edges most few e low same each =
+        let count : length index ≡ few = ap length e ∙ length-take-le few ranking (rw (ranking-long) low) in
+        ranked-is floats words edges most few low same (λ r l. each r (rw (count) l) ∙ ap (λ (xs : List ℕ). bordered (getD xs r 0)) e)
+
+  -- the ranking as the sort leaves it, with what the area holds beyond
+  pub order-is : (xs ys : List ℕ) (k few : ℕ) → xs ≡ rankingOf scene (planesIn gfloats gwords members [] k) → k ≡ ng → few ≤ ng → take few (xs ++ ys) ≡ take few ranking
+  order-is xs ys k few e c low =
+      let is : xs ≡ ranking = e ∙ ap (λ (j : ℕ). rankingOf scene (planesIn gfloats gwords members [] j)) c in
+      take-append-le few xs ys (rw (is, ranking-long) low) ∙ ap (take few) is
+
+  -- the first `most` planes are all of them, where there are no more
+  pub cut-is : (few most : ℕ) → (ng ≤ most → few ≡ ng) → (most ≤ ng → few ≡ most) → take few ranking ≡ take most ranking
+  cut-is few most all cut = go (leb ng most) refl
+    where
+      go : (b : Bool) → leb ng most ≡ b → take few ranking ≡ take most ranking
+      go true e =
+          let h = leb-true ng most e in
+          ap (λ (k : ℕ). take k ranking) (all h) ∙ take-all ng ranking (rw (ranking-long) (le-refl ng)) ∙ sym (take-all most ranking (rw (ranking-long) h))
+      go false e = let h = leb-false ng most e in ap (λ (k : ℕ). take k ranking) (cut (omega arith))

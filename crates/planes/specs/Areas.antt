@@ -5,7 +5,7 @@ use mathlib.Core.List.{List, [], _∷_}
 use lib.Ieee.{Float}
 use lib.ListN.{length}
 use Rattle.columns.specs.Columns.{columnCount}
-use Rattle.patches.specs.Rows.{patchFloats}
+use Rattle.patches.specs.Rows.{patchFloats, trisIn}
 use Rattle.patches.specs.Grid.{bucketCount}
 use Rattle.order.specs.Sort.{Below}
 use Rattle.links.specs.Words.{mostTriangles}
@@ -21,26 +21,37 @@ pub record TrianglesLent (area : List Float) (handles : List ℕ) (n m : ℕ) : 
   pub columns : columnCount * n ≤ length area
   pub named : n ≤ length handles
 
--- step 1
-pub record FacesLent (n : ℕ) (vhi vlo index words scratch id first : List ℕ) : Type 0 where
-  pub vhi-room : length vhi ≡ 3 * n
-  pub vlo-room : length vlo ≡ 3 * n
+-- steps 1 to 3. The grid's cells stand in `hi`, its heads in `linked`, the largest triangles in `next` and the flags in `first`.
+pub record OpenRoom (n : ℕ) (hi lo index words scratch id first linked next : List ℕ) (areas rows : List Float) (of : List ℕ) : Type 0 where
+  pub hi-room : length hi ≡ 3 * n
+  pub lo-room : length lo ≡ 3 * n
   pub index-room : length index ≡ 3 * n
   pub words-room : 3 * n ≤ length words
   pub scratch-room : 3 * n ≤ length scratch
   pub id-room : 3 * n ≤ length id
   pub first-room : n ≤ length first
+  pub heads-room : bucketCount ≤ length linked
+  pub next-room : n ≤ length next
+  pub areas-room : n ≤ length areas
+  pub rows-room : patchFloats * n ≤ length rows
+  pub of-room : n ≤ length of
 
--- steps 2 and 3
-pub record PatchesLent (m : ℕ) (cells heads next : List ℕ) (areas : List Float) (largest flags : List ℕ) (rows : List Float) (of : List ℕ) : Type 0 where
-  pub heads-room : length heads ≡ bucketCount
-  pub cells-room : 3 * m ≤ length cells
-  pub next-room : m ≤ length next
-  pub areas-room : m ≤ length areas
-  pub largest-room : m ≤ length largest
-  pub flags-room : m ≤ length flags
-  pub rows-room : patchFloats * m ≤ length rows
-  pub of-room : m ≤ length of
+-- step 4, and the planes of the groups. Seeds, then the planes of the triangles, stand in `first`; triangles by patch, then groups of
+-- patches, in `index`; where these begin, then where the planes' members do, in `next`; adjacent patches, then the planes' words, in
+-- `linked`; where those begin, then the members, in `members`.
+pub record GroupRoom (n : ℕ) (hi words scratch index next linked members first kept queue starts : List ℕ) (gfloats : List Float) : Type 0 where
+  pub hi-room : n ≤ length hi
+  pub words-room : 24 * n ≤ length words
+  pub scratch-room : 24 * n ≤ length scratch
+  pub index-room : n ≤ length index
+  pub next-room : n < length next
+  pub linked-room : 24 * n ≤ length linked
+  pub members-room : n < length members
+  pub first-room : n ≤ length first
+  pub kept-room : n ≤ length kept
+  pub queue-room : 3 * n ≤ length queue
+  pub starts-room : 3 * n < length starts
+  pub gfloats-room : planeFloats * n ≤ length gfloats
 
 -- ---- step 5
 
@@ -78,3 +89,44 @@ pub record RankedRoom (m count : ℕ) (floats : List Float) (words : List ℕ) (
   pub floats-room : planeFloats * count ≤ length floats
   pub words-room : planeWords * count ≤ length words
   pub edges-room : edgeFloats * (3 * m) ≤ length edges
+
+-- the edges of all planes, counted
+pub record EdgesRoom (n : ℕ) (hi lo index words scratch id queue starts : List ℕ) : Type 0 where
+  pub hi-room : length hi ≡ 3 * n
+  pub lo-room : length lo ≡ 3 * n
+  pub index-room : length index ≡ 3 * n
+  pub words-room : 3 * n ≤ length words
+  pub scratch-room : 3 * n ≤ length scratch
+  pub id-room : 3 * n ≤ length id
+  pub queue-room : 3 * n ≤ length queue
+  pub starts-room : 3 * n ≤ length starts
+
+-- the planes of the groups, each with the triangles that have its number
+pub record GroupPlanes (m ng : ℕ) (gfloats : List Float) (gwords members numbers : List ℕ) : Type 0 where
+  pub few : ng ≤ m
+  pub held : PlanesHeld gfloats gwords members [] m ng
+  pub tris : (g : ℕ) → g < ng → trisOf (rowOf gfloats gwords g) members ≡ trisIn numbers m g
+  pub numbered : m ≤ length numbers
+  pub small : length members < 4294967296
+
+-- ---- all areas of `build_planes`
+pub record PlanesRoom (n : ℕ) (hi lo words scratch index id first next of linked queue starts members kept : List ℕ) (rows gfloats edges : List Float) : Type 0 where
+  pub hi-room : length hi ≡ 3 * n
+  pub lo-room : length lo ≡ 3 * n
+  pub words-room : 24 * n ≤ length words
+  pub scratch-room : 24 * n ≤ length scratch
+  pub index-room : length index ≡ 3 * n
+  pub id-room : 3 * n ≤ length id
+  pub first-room : n ≤ length first
+  pub next-room : n < length next
+  pub of-room : n ≤ length of
+  pub heads-room : bucketCount ≤ length linked
+  pub linked-room : 24 * n ≤ length linked
+  pub queue-room : 3 * n ≤ length queue
+  pub starts-room : 3 * n < length starts
+  pub members-room : n < length members
+  pub members-small : length members < 4294967296
+  pub kept-room : planeWords * n ≤ length kept
+  pub rows-room : planeFloats * n ≤ length rows
+  pub gfloats-room : planeFloats * n ≤ length gfloats
+  pub edges-room : edgeFloats * (3 * n) ≤ length edges

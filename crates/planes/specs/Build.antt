@@ -4,6 +4,7 @@ use mathlib.Core.List.{List, map}
 use Rattle.vector.specs.declared.Ray.{Ray}
 use Rattle.geometry.specs.declared.Triangle.{Triangle}
 use Rattle.patches.specs.Patch.{Patch}
+use Rattle.scene.specs.declared.Settings as scene
 use Rattle.groups.specs.Settings.{Settings}
 use Rattle.mirror.specs.Plane.{Plane}
 use Rattle.patches.specs.Patches.{patchesOf}
@@ -12,6 +13,17 @@ use Rattle.groups.specs.Groups.{groupsOf}
 use Rattle.fit.specs.Fit.{planeOf}
 use Rattle.importance.specs.Importance.{rankedOf}
 use Rattle.borders.specs.Border.{borderedOf}
+
+-- what the query's settings say of planes
+abbrev pub planeSettings : scene.Settings → Settings
+planeSettings s =
+    record {
+      most = s .«max_reflection_planes»;
+      mergeOn = s .«plane_merge»;
+      mergeCos = s .«plane_merge_cos»;
+      mergeOffset = s .«plane_merge_offset»;
+      buried = s .«plane_buried_distance»;
+    }
 
 -- steps 1 to 3
 unfoldable pub openPatchesOf : Settings → (Ray → Bool) → List Triangle → List Patch

@@ -4,23 +4,28 @@
 use mirror::PlaneRow;
 ghost use mathlib.Core.Path.{_≡_};
 ghost use Prim.Native.Nat.{ℕ, _+_, _*_, _/_, _<_, _≤_};
-ghost use lib.ListN.{length, getD};
+ghost use lib.ListN.{length, getD, take};
+ghost use mathlib.Core.List.{[], map};
 ghost use Rattle.geometry.specs.declared.Triangle.{Triangle};
 ghost use Rattle.build.specs.Tree.{Tree};
 ghost use Rattle.trace.specs.Trace.{Held};
 ghost use Rattle.faces.specs.Key.{vertexKey};
 ghost use Rattle.faces.specs.Numbers as faces;
 ghost use Rattle.patches.specs.Triangles.{trianglesIn};
-ghost use Rattle.patches.specs.Rows.{patchesIn, Numbered};
+ghost use Rattle.patches.specs.Rows.{patchFloats, patchesIn, Numbered};
 ghost use Rattle.buried.specs.Probe.{probeOf, Traced};
 ghost use Rattle.groups.specs.Settings.{Settings};
-ghost use Rattle.planes.specs.Build.{openPatchesOf};
-ghost use Rattle.planes.specs.Areas.{TrianglesLent, FacesLent, PatchesLent, withEdges, borderedIn, RankedLent, RankedRoom};
+ghost use Rattle.planes.specs.Build.{openPatchesOf, groupPlanesOf};
+ghost use Rattle.planes.specs.Areas.{TrianglesLent, OpenRoom, GroupRoom, EdgesRoom, GroupPlanes, withEdges, borderedIn, RankedLent, RankedRoom};
 ghost use Rattle.order.specs.Sort.{Below};
-ghost use Rattle.mirror.specs.Rows.{edgeFloats, trisOf, planeIn, PlanesHeld};
-ghost use Rattle.borders.specs.Uses.{borderIn, Appended};
+ghost use Rattle.mirror.specs.Rows.{edgeFloats, trisOf, planeIn, planesIn, PlanesHeld};
+ghost use Rattle.importance.specs.Importance.{rankedOf};
+ghost use Rattle.borders.specs.Border.{borderedOf};
+ghost use Rattle.links.specs.Words.{mostTriangles};
+ghost use Rattle.borders.specs.Uses.{OnceCounted, borderIn, Appended};
 
-// STEPS 1 to 3: the patches that are not buried. Their number is returned; id becomes the numbers of the vertices.
+// STEPS 1 to 3: the patches that are not buried. Their number is returned; id becomes the numbers of the vertices. An area that a step
+// has done with serves the next one: hi holds the grid's cells, next the largest triangles, first the flags.
 fn open_patches(
     area: &[f32],
     handles: &[u32],
@@ -32,33 +37,40 @@ fn open_patches(
     perm: &[u32],
     leaves: &[f32],
     count: usize,
-    vhi: &mut [u64],
-    vlo: &mut [u64],
+    hi: &mut [u64],
+    lo: &mut [u64],
     index: &mut [u32],
     words: &mut [u64],
     scratch: &mut [u64],
     id: &mut [u32],
     first: &mut [u32],
-    cells: &mut [u64],
-    heads: &mut [u32],
+    linked: &mut [u32],
     next: &mut [u32],
     areas: &mut [f32],
-    largest: &mut [u32],
-    flags: &mut [u32],
     rows: &mut [f32],
     of: &mut [u32],
 ) -> usize
     requires { ⌜ TrianglesLent (now area) (now handles) n m ⌝ }
-    requires { ⌜ FacesLent n (now vhi) (now vlo) (now index) (now words) (now scratch) (now id) (now first) ⌝ }
-    requires { ⌜ PatchesLent m (now cells) (now heads) (now next) (now areas) (now largest) (now flags) (now rows) (now of) ⌝ }
+    requires { ⌜ OpenRoom n (now hi) (now lo) (now index) (now words) (now scratch) (now id) (now first) (now linked) (now next) (now areas) (now rows) (now of) ⌝ }
     requires { ⌜ Held (now padded) (now nodes) (now perm) (now leaves) count ⌝ }
     requires { ⌜ 0 < count ⌝ }
     ensures { λ r. ⌜ ((s : Settings) (tri : ℕ → Triangle) (k : Tree) → s .buried ≡ reach → Traced tri k (now (padded .entry)) (now (nodes .entry)) (now (perm .entry)) (now (leaves .entry)) (now (handles .entry)) → patchesIn (now (rows .exit)) (now (of .exit)) m r ≡ openPatchesOf s (probeOf tri k) (trianglesIn (now (area .entry)) (now (handles .entry)) n m)) ⌝ }
     ensures { λ r. ⌜ (r ≤ m) × Numbered (now (of .exit)) m r ⌝ }
     ensures { λ _. ⌜ faces.Numbered vertexKey (now (area .entry)) n n (now (id .exit)) ⌝ }
 {
-    faces::duplicates(area, n, vhi, vlo, index, words, scratch, id, first);
-    let np = patches::coplanar_patches(area, handles, n, m, first, cells, heads, next, rows, of);
+    faces::duplicates(area, n, hi, lo, index, words, scratch, id, first);
+    let np = patches::coplanar_patches(
+        area,
+        handles,
+        n,
+        m,
+        first,
+        hi,
+        &mut linked[..4096],
+        next,
+        rows,
+        of,
+    );
     buried::open_patches(
         area,
         handles,
@@ -72,11 +84,93 @@ fn open_patches(
         count,
         np,
         areas,
-        largest,
-        flags,
+        next,
+        first,
         rows,
         of,
     )
+}
+
+// STEP 4, and a plane for each group: there are as many as is returned. first becomes the plane of each triangle, linked the planes' words.
+fn group_planes(
+    area: &[f32],
+    handles: &[u32],
+    n: usize,
+    m: usize,
+    rows: &[f32],
+    of: &[u32],
+    np: usize,
+    id: &[u32],
+    on: bool,
+    least: f32,
+    most: f32,
+    hi: &mut [u64],
+    words: &mut [u64],
+    scratch: &mut [u64],
+    index: &mut [u32],
+    next: &mut [u32],
+    linked: &mut [u32],
+    members: &mut [u32],
+    first: &mut [u32],
+    kept: &mut [u32],
+    queue: &mut [u32],
+    starts: &mut [u32],
+    gfloats: &mut [f32],
+) -> usize
+    requires { ⌜ TrianglesLent (now area) (now handles) n m ⌝ }
+    requires { ⌜ (np ≤ m) × (patchFloats * np ≤ length (now rows)) × (m ≤ length (now of)) ⌝ }
+    requires { ⌜ (3 * n ≤ length (now id)) × faces.Numbered vertexKey (now area) n n (now id) ⌝ }
+    requires { ⌜ GroupRoom n (now hi) (now words) (now scratch) (now index) (now next) (now linked) (now members) (now first) (now kept) (now queue) (now starts) (now gfloats) ⌝ }
+    requires { ⌜ length (now members) < 4294967296 ⌝ }
+    ensures { λ r. ⌜ ((s : Settings) → s .mergeOn ≡ on → s .mergeCos ≡ least → s .mergeOffset ≡ most → planesIn (now (gfloats .exit)) (now (linked .exit)) (now (members .exit)) [] r ≡ groupPlanesOf s (trianglesIn (now (area .entry)) (now (handles .entry)) n m) (patchesIn (now (rows .entry)) (now (of .entry)) m np)) ⌝ }
+    ensures { λ r. ⌜ GroupPlanes m r (now (gfloats .exit)) (now (linked .exit)) (now (members .exit)) (now (first .exit)) ⌝ }
+{
+    let ng = groups::merge_patches(
+        area,
+        handles,
+        n,
+        m,
+        rows,
+        of,
+        np,
+        id,
+        3 * n,
+        on,
+        least,
+        most,
+        hi,
+        words,
+        scratch,
+        index,
+        next,
+        linked,
+        members,
+        first,
+        kept,
+        queue,
+        starts,
+    );
+    fit::group_planes(
+        area,
+        handles,
+        n,
+        m,
+        rows,
+        of,
+        np,
+        queue,
+        starts,
+        ng,
+        index,
+        words,
+        scratch,
+        first,
+        members,
+        next,
+        gfloats,
+        linked,
+    );
+    ng
 }
 
 // ---- step 5: the ranked planes with their borders
@@ -137,4 +231,124 @@ fn put_ranked(
         fit::put_plane(floats, words, r, p);
         r += 1;
     }
+}
+
+// Counts the edges of all planes: queue becomes the first edge that lies on each, starts how many do. numbers has the plane of each triangle.
+fn count_edges(
+    area: &[f32],
+    n: usize,
+    m: usize,
+    numbers: &[u32],
+    hi: &mut [u64],
+    lo: &mut [u64],
+    index: &mut [u32],
+    words: &mut [u64],
+    scratch: &mut [u64],
+    id: &mut [u32],
+    queue: &mut [u32],
+    starts: &mut [u32],
+)
+    requires { ⌜ (n ≤ mostTriangles) × (m ≤ n) × (9 * n ≤ length (now area)) × (m ≤ length (now numbers)) ⌝ }
+    requires { ⌜ EdgesRoom n (now hi) (now lo) (now index) (now words) (now scratch) (now id) (now queue) (now starts) ⌝ }
+    ensures { λ _. ⌜ Below (3 * m) (take (3 * m) (now (queue .exit))) ⌝ }
+    ensures { λ _. ⌜ OnceCounted (now (area .entry)) n (now (numbers .entry)) m (take (3 * m) (now (queue .exit))) (take (3 * m) (now (starts .exit))) ⌝ }
+{
+    borders::edge_numbers(area, n, hi, lo, index, words, scratch, id);
+    borders::count_edges(
+        id,
+        n,
+        numbers,
+        m,
+        &mut hi[..3 * m],
+        &mut lo[..3 * m],
+        &mut index[..3 * m],
+        words,
+        scratch,
+        &mut queue[..3 * m],
+        &mut starts[..3 * m],
+    );
+}
+
+fn fewer(a: usize, b: usize) -> usize
+    ensures { λ r. ⌜ (r ≤ a) × (r ≤ b) × (a ≤ b → r ≡ a) × (b ≤ a → r ≡ b) ⌝ }
+{
+    if a <= b { a } else { b }
+}
+
+// STEP 5: the most important planes, `most` of them, with their borders. There are as many as is returned; they stand in rows and kept.
+fn ranked_planes(
+    area: &[f32],
+    handles: &[u32],
+    n: usize,
+    m: usize,
+    most: usize,
+    numbers: &[u32],
+    gfloats: &[f32],
+    gwords: &[u32],
+    members: &[u32],
+    ng: usize,
+    hi: &mut [u64],
+    lo: &mut [u64],
+    index: &mut [u32],
+    words: &mut [u64],
+    scratch: &mut [u64],
+    id: &mut [u32],
+    queue: &mut [u32],
+    starts: &mut [u32],
+    next: &mut [u32],
+    rows: &mut [f32],
+    kept: &mut [u32],
+    edges: &mut [f32],
+) -> usize
+    requires { ⌜ TrianglesLent (now area) (now handles) n m ⌝ }
+    requires { ⌜ GroupPlanes m ng (now gfloats) (now gwords) (now members) (now numbers) ⌝ }
+    requires { ⌜ EdgesRoom n (now hi) (now lo) (now index) (now words) (now scratch) (now id) (now queue) (now starts) ⌝ }
+    requires { ⌜ (n ≤ length (now next)) × RankedRoom n n (now rows) (now kept) (now edges) ⌝ }
+    ensures { λ r. ⌜ planesIn (now (rows .exit)) (now (kept .exit)) (now (members .entry)) (now (edges .exit)) r ≡ (let ts = trianglesIn (now (area .entry)) (now (handles .entry)) n m in map (borderedOf ts) (rankedOf ts most (planesIn (now (gfloats .entry)) (now (gwords .entry)) (now (members .entry)) [] ng))) ⌝ }
+    ensures { λ r. ⌜ (r ≤ most) × PlanesHeld (now (rows .exit)) (now (kept .exit)) (now (members .entry)) (now (edges .exit)) m r ⌝ }
+{
+    importance::rank_planes(
+        area,
+        handles,
+        n,
+        m,
+        gfloats,
+        gwords,
+        members,
+        &mut hi[..ng],
+        &mut next[..ng],
+        words,
+        scratch,
+    );
+    count_edges(
+        area,
+        n,
+        m,
+        numbers,
+        hi,
+        lo,
+        index,
+        words,
+        scratch,
+        id,
+        queue,
+        starts,
+    );
+    let few = fewer(ng, most);
+    put_ranked(
+        area,
+        n,
+        m,
+        gfloats,
+        gwords,
+        members,
+        &next[..few],
+        ng,
+        &queue[..3 * m],
+        &starts[..3 * m],
+        rows,
+        kept,
+        edges,
+    );
+    few
 }
