@@ -1,7 +1,8 @@
 // The mirror planes of a scene, `build_planes`: `planesOf` of specs/Build.antt. Each step has a crate of its own: `faces`, `patches`, `buried`,
-// `links` and `groups`, `fit`, `importance`, `borders`; here they are called in turn: so far steps 1 to 3, and
-// the storing of the ranked planes with their borders.
+// `links` and `groups`, `fit`, `importance`, `borders`; here they are called in turn, and an area that a step has done with serves a
+// later one (specs/Areas.antt).
 use mirror::PlaneRow;
+use scene::Settings;
 ghost use mathlib.Core.Path.{_≡_};
 ghost use Prim.Native.Nat.{ℕ, _+_, _*_, _/_, _<_, _≤_};
 ghost use lib.ListN.{length, getD, take};
@@ -14,9 +15,9 @@ ghost use Rattle.faces.specs.Numbers as faces;
 ghost use Rattle.patches.specs.Triangles.{trianglesIn};
 ghost use Rattle.patches.specs.Rows.{patchFloats, patchesIn, Numbered};
 ghost use Rattle.buried.specs.Probe.{probeOf, Traced};
-ghost use Rattle.groups.specs.Settings.{Settings};
-ghost use Rattle.planes.specs.Build.{openPatchesOf, groupPlanesOf};
-ghost use Rattle.planes.specs.Areas.{TrianglesLent, OpenRoom, GroupRoom, EdgesRoom, GroupPlanes, withEdges, borderedIn, RankedLent, RankedRoom};
+ghost use Rattle.groups.specs.Settings as groups;
+ghost use Rattle.planes.specs.Build.{planeSettings, openPatchesOf, groupPlanesOf, planesOf};
+ghost use Rattle.planes.specs.Areas.{TrianglesLent, OpenRoom, GroupRoom, EdgesRoom, GroupPlanes, PlanesRoom, withEdges, borderedIn, RankedLent, RankedRoom};
 ghost use Rattle.order.specs.Sort.{Below};
 ghost use Rattle.mirror.specs.Rows.{edgeFloats, trisOf, planeIn, planesIn, PlanesHeld};
 ghost use Rattle.importance.specs.Importance.{rankedOf};
@@ -54,7 +55,7 @@ fn open_patches(
     requires { ⌜ OpenRoom n (now hi) (now lo) (now index) (now words) (now scratch) (now id) (now first) (now linked) (now next) (now areas) (now rows) (now of) ⌝ }
     requires { ⌜ Held (now padded) (now nodes) (now perm) (now leaves) count ⌝ }
     requires { ⌜ 0 < count ⌝ }
-    ensures { λ r. ⌜ ((s : Settings) (tri : ℕ → Triangle) (k : Tree) → s .buried ≡ reach → Traced tri k (now (padded .entry)) (now (nodes .entry)) (now (perm .entry)) (now (leaves .entry)) (now (handles .entry)) → patchesIn (now (rows .exit)) (now (of .exit)) m r ≡ openPatchesOf s (probeOf tri k) (trianglesIn (now (area .entry)) (now (handles .entry)) n m)) ⌝ }
+    ensures { λ r. ⌜ ((s : groups.Settings) (tri : ℕ → Triangle) (k : Tree) → s .buried ≡ reach → Traced tri k (now (padded .entry)) (now (nodes .entry)) (now (perm .entry)) (now (leaves .entry)) (now (handles .entry)) → patchesIn (now (rows .exit)) (now (of .exit)) m r ≡ openPatchesOf s (probeOf tri k) (trianglesIn (now (area .entry)) (now (handles .entry)) n m)) ⌝ }
     ensures { λ r. ⌜ (r ≤ m) × Numbered (now (of .exit)) m r ⌝ }
     ensures { λ _. ⌜ faces.Numbered vertexKey (now (area .entry)) n n (now (id .exit)) ⌝ }
 {
@@ -122,7 +123,7 @@ fn group_planes(
     requires { ⌜ (3 * n ≤ length (now id)) × faces.Numbered vertexKey (now area) n n (now id) ⌝ }
     requires { ⌜ GroupRoom n (now hi) (now words) (now scratch) (now index) (now next) (now linked) (now members) (now first) (now kept) (now queue) (now starts) (now gfloats) ⌝ }
     requires { ⌜ length (now members) < 4294967296 ⌝ }
-    ensures { λ r. ⌜ ((s : Settings) → s .mergeOn ≡ on → s .mergeCos ≡ least → s .mergeOffset ≡ most → planesIn (now (gfloats .exit)) (now (linked .exit)) (now (members .exit)) [] r ≡ groupPlanesOf s (trianglesIn (now (area .entry)) (now (handles .entry)) n m) (patchesIn (now (rows .entry)) (now (of .entry)) m np)) ⌝ }
+    ensures { λ r. ⌜ ((s : groups.Settings) → s .mergeOn ≡ on → s .mergeCos ≡ least → s .mergeOffset ≡ most → planesIn (now (gfloats .exit)) (now (linked .exit)) (now (members .exit)) [] r ≡ groupPlanesOf s (trianglesIn (now (area .entry)) (now (handles .entry)) n m) (patchesIn (now (rows .entry)) (now (of .entry)) m np)) ⌝ }
     ensures { λ r. ⌜ GroupPlanes m r (now (gfloats .exit)) (now (linked .exit)) (now (members .exit)) (now (first .exit)) ⌝ }
 {
     let ng = groups::merge_patches(
@@ -351,4 +352,118 @@ fn ranked_planes(
         edges,
     );
     few
+}
+
+// ---- all steps
+
+// `build_planes`: the mirror planes of the m triangles of the columns, in the order of their importance; there are as many as is returned.
+// They stand in rows, kept, members and edges (mirror's `plane_at` reads them); what the other areas then hold is not said.
+pub fn build_planes(
+    area: &[f32],
+    handles: &[u32],
+    n: usize,
+    m: usize,
+    settings: Settings,
+    padded: &[f32],
+    nodes: &[u32],
+    perm: &[u32],
+    leaves: &[f32],
+    count: usize,
+    hi: &mut [u64],
+    lo: &mut [u64],
+    words: &mut [u64],
+    scratch: &mut [u64],
+    index: &mut [u32],
+    id: &mut [u32],
+    first: &mut [u32],
+    next: &mut [u32],
+    of: &mut [u32],
+    linked: &mut [u32],
+    queue: &mut [u32],
+    starts: &mut [u32],
+    gfloats: &mut [f32],
+    members: &mut [u32],
+    rows: &mut [f32],
+    kept: &mut [u32],
+    edges: &mut [f32],
+) -> usize
+    requires { ⌜ TrianglesLent (now area) (now handles) n m ⌝ }
+    requires { ⌜ Held (now padded) (now nodes) (now perm) (now leaves) count × (0 < count) ⌝ }
+    requires { ⌜ PlanesRoom n (now hi) (now lo) (now words) (now scratch) (now index) (now id) (now first) (now next) (now of) (now linked) (now queue) (now starts) (now members) (now kept) (now rows) (now gfloats) (now edges) ⌝ }
+    ensures { λ r. ⌜ ((tri : ℕ → Triangle) (k : Tree) → Traced tri k (now (padded .entry)) (now (nodes .entry)) (now (perm .entry)) (now (leaves .entry)) (now (handles .entry)) → planesIn (now (rows .exit)) (now (kept .exit)) (now (members .exit)) (now (edges .exit)) r ≡ planesOf (planeSettings settings) (probeOf tri k) (trianglesIn (now (area .entry)) (now (handles .entry)) n m)) ⌝ }
+    ensures { λ r. ⌜ (r ≤ settings .«max_reflection_planes») × PlanesHeld (now (rows .exit)) (now (kept .exit)) (now (members .exit)) (now (edges .exit)) m r ⌝ }
+{
+    let np = open_patches(
+        area,
+        handles,
+        n,
+        m,
+        settings.plane_buried_distance,
+        padded,
+        nodes,
+        perm,
+        leaves,
+        count,
+        hi,
+        lo,
+        index,
+        words,
+        scratch,
+        id,
+        first,
+        linked,
+        next,
+        gfloats,
+        rows,
+        of,
+    );
+    let ng = group_planes(
+        area,
+        handles,
+        n,
+        m,
+        rows,
+        of,
+        np,
+        id,
+        settings.plane_merge,
+        settings.plane_merge_cos,
+        settings.plane_merge_offset,
+        hi,
+        words,
+        scratch,
+        index,
+        next,
+        linked,
+        members,
+        first,
+        kept,
+        queue,
+        starts,
+        gfloats,
+    );
+    ranked_planes(
+        area,
+        handles,
+        n,
+        m,
+        settings.max_reflection_planes as usize,
+        first,
+        gfloats,
+        linked,
+        members,
+        ng,
+        hi,
+        lo,
+        index,
+        words,
+        scratch,
+        id,
+        queue,
+        starts,
+        next,
+        rows,
+        kept,
+        edges,
+    )
 }
