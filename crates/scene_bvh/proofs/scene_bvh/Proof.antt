@@ -1,3 +1,4 @@
+-- `scene_bvh` meets its contract: `lent` for what the build asks, `returned` for what the areas then read as.
 use borrow.Author.Needs.{needs}
 use mathlib.Core.Path.{sym}
 use native.Mathlib.Omega.{arith}
@@ -5,8 +6,6 @@ use lib.Seq.{length-take-le, length-front}
 use Rattle.scene_bvh.proofs.Rooms.{lent, rooms, returned}
 use Rattle.scene_bvh.proofs.scene_bvh.Statement.{statement}
 use Rattle.scene_bvh.proofs.scene_bvh.Tie as tie
-
--- `scene_bvh` meets its contract: `lent` for what the build asks, `returned` for what the areas then read as.
 
 clear-from-requires : tie.Need-clear-from-requires
 clear-from-requires c κs = let R = c .before .before .before .before .before .before .before .before .before .before .before .before .before .before .before .pre in omega (arith, R .fewer, R .named)
