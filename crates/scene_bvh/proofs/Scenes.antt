@@ -22,7 +22,8 @@ use Rattle.scene.specs.Limits.{mostTriples}
 use Rattle.scene.specs.Refusals.{refusal1, refusal2, refusal3, refusal4, refusal5, first, triplesIn, lengthsRight, lengthsRightOf, meshesWhole, transformsRight, positionsRight, indicesRight, materialsRight}
 use Rattle.placing.specs.Corners.{refusal6, corners, triangles}
 use Rattle.placing.specs.Passing.{Reads}
-use Rattle.placing.specs.Loading.{firstRefusal, answerOf}
+use Rattle.placing.specs.Loading.{firstRefusal, answerOf, Loading}
+use Rattle.placing.specs.declared.Loaded.{Loaded}
 use Rattle.placing.specs.declared.Loaded.the-variants.{Triangles}
 use Rattle.placing.proofs.Passes.{whole-triples}
 use Rattle.placing.proofs.Accepts.{fits, few}
@@ -43,57 +44,85 @@ use Rattle.scene_bvh.proofs.Kept.{near-triangles, known-handles, triang
 
 -- ---- what no refusal says
 
-pub record NoRefusal (s : Scene) : Type 0 where
+-- none of the six applies
+pub record NoRefusal (st : Settings) (c : ℕ) (s : Scene) (a : Areas) : Type 0 where
+  pub settings : refusal1 st c ≡ false
   pub lengths : refusal2 s ≡ false
   pub known : refusal3 s ≡ false
   pub few : refusal4 s ≡ false
+  pub room : refusal5 s c a ≡ false
   pub near : refusal6 s ≡ false
 
-record Open (b2 b3 b4 b6 : Bool) : Type 0 where
-  pub second : b2 ≡ false
-  pub third : b3 ≡ false
-  pub fourth : b4 ≡ false
-  pub sixth : b6 ≡ false
+record Open (b1 b2 b3 b4 b5 b6 : Bool) : Type 0 where
+  pub one : b1 ≡ false
+  pub two : b2 ≡ false
+  pub three : b3 ≡ false
+  pub four : b4 ≡ false
+  pub five : b5 ≡ false
+  pub six : b6 ≡ false
 
-all-open : (b1 b2 b3 b4 b5 b6 : Bool) → first 1 (b1 ∷ b2 ∷ b3 ∷ b4 ∷ b5 ∷ b6 ∷ []) ≡ 0 → Open b2 b3 b4 b6
+all-open : (b1 b2 b3 b4 b5 b6 : Bool) → first 1 (b1 ∷ b2 ∷ b3 ∷ b4 ∷ b5 ∷ b6 ∷ []) ≡ 0 → Open b1 b2 b3 b4 b5 b6
 all-open true b2 b3 b4 b5 b6 e = absurd (let z : _≡_ {A = ℕ} 1 0 = e in omega arith)
 all-open false true b3 b4 b5 b6 e = absurd (let z : _≡_ {A = ℕ} 2 0 = e in omega arith)
 all-open false false true b4 b5 b6 e = absurd (let z : _≡_ {A = ℕ} 3 0 = e in omega arith)
 all-open false false false true b5 b6 e = absurd (let z : _≡_ {A = ℕ} 4 0 = e in omega arith)
 all-open false false false false true b6 e = absurd (let z : _≡_ {A = ℕ} 5 0 = e in omega arith)
 all-open false false false false false true e = absurd (let z : _≡_ {A = ℕ} 6 0 = e in omega arith)
-all-open false false false false false false e = record { second = refl; third = refl; fourth = refl; sixth = refl }
+all-open false false false false false false e = record { one = refl; two = refl; three = refl; four = refl; five = refl; six = refl }
 
-pub no-refusal : (st : Settings) (c : ℕ) (s : Scene) (a : Areas) → firstRefusal st c s a ≡ 0 → NoRefusal s
+pub no-refusal : (st : Settings) (c : ℕ) (s : Scene) (a : Areas) → firstRefusal st c s a ≡ 0 → NoRefusal st c s a
 unfolding firstRefusal
 no-refusal st c s a e =
     let o = all-open (refusal1 st c) (refusal2 s) (refusal3 s) (refusal4 s) (refusal5 s c a) (refusal6 s) e in
-    record { lengths = o .second; known = o .third; few = o .fourth; near = o .sixth }
+    record { settings = o .one; lengths = o .two; known = o .three; few = o .four; room = o .five; near = o .six }
 
-record Told (k : ℕ) (s : Scene) (m n : ℕ) : Type 0 where
+-- an answer with counts says that there is no refusal, and which counts
+pub record Told (k : ℕ) (s : Scene) (m n : ℕ) : Type 0 where
   pub none : k ≡ 0
   pub count : m ≡ length (triangles s)
   pub triples : n ≡ triplesIn s
 
-told : (k : ℕ) (s : Scene) (m p n : ℕ) → Triangles m p n ≡ answerOf k s → Told k s m n
+pub told : (k : ℕ) (s : Scene) (m p n : ℕ) → Triangles m p n ≡ answerOf k s → Told k s m n
 told zero s m p n e = record { none = refl; count = cc; triples = cc }
 told (suc k) s m p n e = let z : _≡_ {A = ℕ} 0 1 = cc in absurd (omega arith)
 
--- what is left of `SceneLoaded`: the counts, the reading of the areas as found, and that nothing refuses
+-- `SceneLoaded`, from what `load_scene` ensures
+pub loaded :
+    (st : Settings) (c : ℕ) (s : Scene) (a : Areas) (columns₀ : List Float) (handles₀ : List ℕ) (r : Loaded) (columns : List Float) (handles : List ℕ) (m p n : ℕ) →
+    r ≡ Triangles m p n → Loading (firstRefusal st c s a) s columns₀ handles₀ r columns handles → SceneLoaded s columns handles n m
+loaded st c s a columns₀ handles₀ r columns handles m p n e l =
+    record {
+      settings = st;
+      candidates = c;
+      areas = a;
+      found-columns = columns₀;
+      found-handles = handles₀;
+      placings = p;
+      loading = subst (λ (q : Loaded). Loading (firstRefusal st c s a) s columns₀ handles₀ q columns handles) e l;
+    }
+
+-- what is left of it: the counts, what no refusal says of the scene, and the reading of the areas as found
 pub record Facts (s : Scene) (columns : List Float) (handles : List ℕ) (n m : ℕ) : Type 0 where
   pub count : m ≡ length (triangles s)
   pub triples : n ≡ triplesIn s
-  pub unrefused : NoRefusal s
+  pub lengths : refusal2 s ≡ false
+  pub known : refusal3 s ≡ false
+  pub few : refusal4 s ≡ false
+  pub near : refusal6 s ≡ false
   pub reads : (i : ℕ) → i < m → Reads columns handles n i (triangleAt (triangles s) i)
 
 pub facts : (s : Scene) (columns : List Float) (handles : List ℕ) (n m : ℕ) → SceneLoaded s columns handles n m → Facts s columns handles n m
 unfolding triangleAt
 facts s columns handles n m l =
     let t = told (firstRefusal (l .settings) (l .candidates) s (l .areas)) s m (l .placings) n (l .loading .answer) in
+    let o = no-refusal (l .settings) (l .candidates) s (l .areas) (t .none) in
     record {
       count = t .count;
       triples = t .triples;
-      unrefused = no-refusal (l .settings) (l .candidates) s (l .areas) (t .none);
+      lengths = o .lengths;
+      known = o .known;
+      few = o .few;
+      near = o .near;
       reads = λ i h. rw (t .triples) (l .loading .reads (t .none) i noTriangle (rw (t .count) at h));
     }
 
@@ -105,12 +134,12 @@ pub record Limits (n m : ℕ) : Type 0 where
 pub limits : (s : Scene) (columns : List Float) (handles : List ℕ) (n m : ℕ) → SceneLoaded s columns handles n m → Limits n m
 limits s columns handles n m l =
     let f = facts s columns handles n m l in
-    let parts = fits s (triplesIn s) (f .unrefused .lengths) refl in
+    let parts = fits s (triplesIn s) (f .lengths) refl in
     let listed : indexSum (headers (s .meshes)) ≤ length (s .indices) = omega (arith, parts .listed) in
     let whole = whole-triples (headers (s .meshes)) (s .transforms) (s .positions) (s .indices) listed in
     record {
       fewer = omega (arith, f .count, f .triples, whole, triangles-fewer (meshesOf s));
-      most = few s n (f .unrefused .few) (sym (f .triples));
+      most = few s n (f .few) (sym (f .triples));
     }
 
 -- ---- the material table
@@ -162,7 +191,7 @@ missing ts i h = ap (λ (u : Triangle). u .«material_handle») (List·getD-eq-d
 
 -- ---- the triangles, with the handles cleared from m on
 module _ (s : Scene) (columns : List Float) (found : List ℕ) (n m : ℕ) (f : Facts s columns found n m) (room : m ≤ length found) where
-  -- (b) the triangle at i
+  -- the triangle at i
   pub triangle-is : (i : ℕ) → i < m → triangleAtOf columns (clearedFrom m found) n i ≡ triangleAt (triangles s) i
   triangle-is i h = handle-only columns (clearedFrom m found) found n i (below-kept m found room i h) ∙ f .reads i h .triangle
 
@@ -178,7 +207,7 @@ module _ (s : Scene) (columns : List Float) (found : List ℕ) (n m : ℕ) (f : 
   unfolding Edged
   edged i h = rw (triangle-is i h) (f .reads i h .edges)
 
-  -- (a) all of them
+  -- all of them
   pub all-read : trianglesIn columns (clearedFrom m found) n m ≡ triangles s
   unfolding trianglesIn triangleAt
   all-read =
@@ -187,25 +216,25 @@ module _ (s : Scene) (columns : List Float) (found : List ℕ) (n m : ℕ) (f : 
       ext-getD noTriangle (map at (upTo m)) (triangles s) (len ∙ f .count)
       (λ i h. let l : i < m = rw len at h in getD-map-upTo at m i noTriangle l ∙ triangle-is i l)
 
-  -- (c) bounded, so that the centroids are finite
+  -- bounded, so that the centroids are finite
   pub near-all : (i : ℕ) → i < m → NearTriangle 10000 (triangleAtOf columns (clearedFrom m found) n i)
   unfolding triangleAt
-  near-all i h = subst (NearTriangle 10000) (sym (triangle-is i h)) (near-triangles (corners s) (f .unrefused .near) i noTriangle (rw (f .count) at h))
+  near-all i h = subst (NearTriangle 10000) (sym (triangle-is i h)) (near-triangles (corners s) (f .near) i noTriangle (rw (f .count) at h))
 
   pub finite : finiteOf (centroidOf columns (clearedFrom m found) n) m ≡ true
   finite = finite-centroids columns (clearedFrom m found) n m 10000 (omega arith) near-all
 
-  -- (d) the handle of any number
+  -- the handle of any number
   pub handle-is : (i : ℕ) → triangleAt (triangles s) i .«material_handle» ≡ getD (clearedFrom m found) i 0
   handle-is i =
       by-order m i (λ h. missing (triangles s) i (omega (arith, f .count)) ∙ sym (above-zero m found room i h))
       (λ h. handle-at columns (clearedFrom m found) n i (triangleAt (triangles s) i) (triangle-is i h))
 
-  -- (e) its row of the table
+  -- its row of the table
   pub row-of : 0 < m → (i : ℕ) → materialFloats * getD (clearedFrom m found) i 0 + materialFloats ≤ length (s .materials)
   row-of some i =
-      let len = table-length s (f .unrefused .lengths) in
-      let below : (j : ℕ) → j < m → triangleAt (triangles s) j .«material_handle» < s .rows = λ j h. known s (f .unrefused .known) j (rw (f .count) at h) in
+      let len = table-length s (f .lengths) in
+      let below : (j : ℕ) → j < m → triangleAt (triangles s) j .«material_handle» < s .rows = λ j h. known s (f .known) j (rw (f .count) at h) in
       by-order m i (λ h. let z = above-zero m found room i h in let k = below 0 some in omega arith)
       (λ h. let z = handle-is i in let k = below i h in omega arith)
 
