@@ -1,0 +1,2 @@
+-- The laws of the query.
+pub mod Planes

@@ -1,0 +1,2 @@
+-- The query over a scene.
+pub mod Query
