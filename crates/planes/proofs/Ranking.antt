@@ -138,8 +138,8 @@ module _ (area : List Float) (n : ℕ) (gfloats : List Float) (gwords members in
 pub third : (k m : ℕ) → k ≡ 3 * m → k / 3 ≡ m
 third k m e = omega arith
 
-pub small-is : (plane p : PlaneRow) (at a b : ℕ) → p ≡ withEdges plane at (p .edges) → plane .first + plane .count ≤ a → a < 4294967296 → at + 3 * plane .count ≤ b → b < 4294967296 → p .edges ≤ 3 * plane .count → Small p
-small-is plane p at a b e l s k t few =
+pub small-is : (plane p : PlaneRow) (at b : ℕ) → p ≡ withEdges plane at (p .edges) → plane .first < 4294967296 → plane .count < 4294967296 → at + 3 * plane .count ≤ b → b < 4294967296 → p .edges ≤ 3 * plane .count → Small p
+small-is plane p at b e l s k t few =
     let f : p .first ≡ plane .first = ap (λ (q : PlaneRow). q .first) e in
     let c : p .count ≡ plane .count = ap (λ (q : PlaneRow). q .count) e in
     let d : p .edge ≡ at = ap (λ (q : PlaneRow). q .edge) e in

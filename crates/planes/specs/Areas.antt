@@ -23,9 +23,9 @@ pub record TrianglesLent (area : List Float) (handles : List ℕ) (n m : ℕ) : 
 
 -- steps 1 to 3. The grid's cells stand in `hi`, its heads in `linked`, the largest triangles in `next` and the flags in `first`.
 pub record OpenRoom (n : ℕ) (hi lo index words scratch id first linked next : List ℕ) (areas rows : List Float) (of : List ℕ) : Type 0 where
-  pub hi-room : length hi ≡ 3 * n
-  pub lo-room : length lo ≡ 3 * n
-  pub index-room : length index ≡ 3 * n
+  pub hi-room : 3 * n ≤ length hi
+  pub lo-room : 3 * n ≤ length lo
+  pub index-room : 3 * n ≤ length index
   pub words-room : 3 * n ≤ length words
   pub scratch-room : 3 * n ≤ length scratch
   pub id-room : 3 * n ≤ length id
@@ -81,7 +81,6 @@ pub record RankedLent (area : List Float) (n m : ℕ) (gfloats : List Float) (gw
   pub total : sumCounts gfloats gwords index ≤ m
   pub first-room : length first ≡ 3 * m
   pub first-below : Below (length uses) first
-  pub small : length members < 4294967296
   pub short : 3 * m < 4294967296
 
 -- where they are stored
@@ -92,9 +91,9 @@ pub record RankedRoom (m count : ℕ) (floats : List Float) (words : List ℕ) (
 
 -- the edges of all planes, counted
 pub record EdgesRoom (n : ℕ) (hi lo index words scratch id queue starts : List ℕ) : Type 0 where
-  pub hi-room : length hi ≡ 3 * n
-  pub lo-room : length lo ≡ 3 * n
-  pub index-room : length index ≡ 3 * n
+  pub hi-room : 3 * n ≤ length hi
+  pub lo-room : 3 * n ≤ length lo
+  pub index-room : 3 * n ≤ length index
   pub words-room : 3 * n ≤ length words
   pub scratch-room : 3 * n ≤ length scratch
   pub id-room : 3 * n ≤ length id
@@ -107,15 +106,14 @@ pub record GroupPlanes (m ng : ℕ) (gfloats : List Float) (gwords members numbe
   pub held : PlanesHeld gfloats gwords members [] m ng
   pub tris : (g : ℕ) → g < ng → trisOf (rowOf gfloats gwords g) members ≡ trisIn numbers m g
   pub numbered : m ≤ length numbers
-  pub small : length members < 4294967296
 
 -- ---- all areas of `build_planes`
 pub record PlanesRoom (n : ℕ) (hi lo words scratch index id first next of linked queue starts members kept : List ℕ) (rows gfloats edges : List Float) : Type 0 where
-  pub hi-room : length hi ≡ 3 * n
-  pub lo-room : length lo ≡ 3 * n
+  pub hi-room : 3 * n ≤ length hi
+  pub lo-room : 3 * n ≤ length lo
   pub words-room : 24 * n ≤ length words
   pub scratch-room : 24 * n ≤ length scratch
-  pub index-room : length index ≡ 3 * n
+  pub index-room : 3 * n ≤ length index
   pub id-room : 3 * n ≤ length id
   pub first-room : n ≤ length first
   pub next-room : n < length next
@@ -125,7 +123,6 @@ pub record PlanesRoom (n : ℕ) (hi lo words scratch index id first next of link
   pub queue-room : 3 * n ≤ length queue
   pub starts-room : 3 * n < length starts
   pub members-room : n < length members
-  pub members-small : length members < 4294967296
   pub kept-room : planeWords * n ≤ length kept
   pub rows-room : planeFloats * n ≤ length rows
   pub gfloats-room : planeFloats * n ≤ length gfloats

@@ -59,7 +59,17 @@ fn open_patches(
     ensures { λ r. ⌜ (r ≤ m) × Numbered (now (of .exit)) m r ⌝ }
     ensures { λ _. ⌜ faces.Numbered vertexKey (now (area .entry)) n n (now (id .exit)) ⌝ }
 {
-    faces::duplicates(area, n, hi, lo, index, words, scratch, id, first);
+    faces::duplicates(
+        area,
+        n,
+        &mut hi[..3 * n],
+        &mut lo[..3 * n],
+        &mut index[..3 * n],
+        words,
+        scratch,
+        id,
+        first,
+    );
     let np = patches::coplanar_patches(
         area,
         handles,
@@ -122,7 +132,6 @@ fn group_planes(
     requires { ⌜ (np ≤ m) × (patchFloats * np ≤ length (now rows)) × (m ≤ length (now of)) ⌝ }
     requires { ⌜ (3 * n ≤ length (now id)) × faces.Numbered vertexKey (now area) n n (now id) ⌝ }
     requires { ⌜ GroupRoom n (now hi) (now words) (now scratch) (now index) (now next) (now linked) (now members) (now first) (now kept) (now queue) (now starts) (now gfloats) ⌝ }
-    requires { ⌜ length (now members) < 4294967296 ⌝ }
     ensures { λ r. ⌜ ((s : groups.Settings) → s .mergeOn ≡ on → s .mergeCos ≡ least → s .mergeOffset ≡ most → planesIn (now (gfloats .exit)) (now (linked .exit)) (now (members .exit)) [] r ≡ groupPlanesOf s (trianglesIn (now (area .entry)) (now (handles .entry)) n m) (patchesIn (now (rows .entry)) (now (of .entry)) m np)) ⌝ }
     ensures { λ r. ⌜ GroupPlanes m r (now (gfloats .exit)) (now (linked .exit)) (now (members .exit)) (now (first .exit)) ⌝ }
 {
@@ -254,7 +263,16 @@ fn count_edges(
     ensures { λ _. ⌜ Below (3 * m) (take (3 * m) (now (queue .exit))) ⌝ }
     ensures { λ _. ⌜ OnceCounted (now (area .entry)) n (now (numbers .entry)) m (take (3 * m) (now (queue .exit))) (take (3 * m) (now (starts .exit))) ⌝ }
 {
-    borders::edge_numbers(area, n, hi, lo, index, words, scratch, id);
+    borders::edge_numbers(
+        area,
+        n,
+        &mut hi[..3 * n],
+        &mut lo[..3 * n],
+        &mut index[..3 * n],
+        words,
+        scratch,
+        id,
+    );
     borders::count_edges(
         id,
         n,

@@ -56,12 +56,14 @@ add-at c = let p = c .before .before .before .before .before .before .before .be
     omega (arith, room, p .short, c .before .before .before .bordered .ensures .0 .1)
 
 put-plane-requires : tie.Need-put-plane-requires Inv-loop μ-loop
-unfolding Below
+unfolding Below rowOf
 put-plane-requires c κs = let p = c .before .before .before .before .before .before .before .before .before .before .before .before .before .before .before .before .before .before .before .before .before .pre .0 in let q = c .before .before .before .before .before .before .before .before .before .before .before .before .before .before .before .before .before .before .before .before .before .pre .1 in let a = c .before .before .before .before .before .before .before .before .before .before .before .before .before .before .before .before .before .before .before .before .before .args in let l = c .before .before .before .before .before .before .before .before .before .before .loop in
     let b = p .below (l .r) (c .before .before .before .before .before .before .before .before .before .loop-test .taken) in
-    let runs = p .held .runs (getD (a .index .now) (l .r) 0) b in
+    let words = c .before .before .before .before .before .before .before .before .before .before .before .before .before .before .before .before .before .before .shared-slice-known3 .given in
+    let starts : getD (a .gwords .now) (5 * (getD (a .index .now) (l .r) 0)) 0 < 4294967296 = omega (arith, words (5 * (getD (a .index .now) (l .r) 0))) in
+    let counts : getD (a .gwords .now) (5 * (getD (a .index .now) (l .r) 0) + 1) 0 < 4294967296 = omega (arith, words (5 * (getD (a .index .now) (l .r) 0) + 1)) in
     let room = border-room _ _ _ _ _ _ _ (c .before .before .before .before .before .before .before .before .before .loop-test .taken) (l .inv .bound) (p .total) (ap (λ (q : PlaneRow). q .count) (c .before .before .before .before .before .before .before .plane-at .ensures)) in
-    (omega (arith, q .floats-room, l .inv .floats-long, c .before .before .before .before .before .before .before .before .before .loop-test .taken), (omega (arith, q .words-room, l .inv .words-long, c .before .before .before .before .before .before .before .before .before .loop-test .taken), small-is (c .before .before .before .before .before .before .before .plane-at .result) _ _ _ _ (c .before .before .before .before .before .bordered .ensures .0 .0) (rw (c .before .before .before .before .before .before .before .plane-at .ensures) (runs .members-room)) (p .small) room (p .short) (c .before .before .before .before .before .bordered .ensures .0 .1)))
+    (omega (arith, q .floats-room, l .inv .floats-long, c .before .before .before .before .before .before .before .before .before .loop-test .taken), (omega (arith, q .words-room, l .inv .words-long, c .before .before .before .before .before .before .before .before .before .loop-test .taken), small-is (c .before .before .before .before .before .before .before .plane-at .result) _ _ _ (c .before .before .before .before .before .bordered .ensures .0 .0) (rw (c .before .before .before .before .before .before .before .plane-at .ensures) starts) (rw (c .before .before .before .before .before .before .before .plane-at .ensures) counts) room (p .short) (c .before .before .before .before .before .bordered .ensures .0 .1)))
 
 add-r : tie.Need-add-r Inv-loop μ-loop
 add-r c = omega (arith, c .before .before .before .before .before .before .before .before .before .before .before .before .before .before .loop-test .taken, c .before .before .before .before .before .before .before .before .before .before .before .before .before .before .before .before .before .before .before .before .before .before .before .before .before .before .good)
