@@ -1,4 +1,5 @@
--- The laws of the taps: what is stored of them, that the writer takes them, and the call's steps together.
+-- The laws of the taps: what is stored of them, that the writer takes them, the call's steps together, and that the search finds such taps.
 pub mod Storing
 pub mod Sending
 pub mod Ending
+pub mod Found
