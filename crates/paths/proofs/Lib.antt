@@ -8,3 +8,7 @@ mod Ranges
 mod Signs
 mod Levels
 mod Bands
+mod Most
+mod Caps
+mod Finite
+mod Far
