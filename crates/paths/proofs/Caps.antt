@@ -1,12 +1,11 @@
 -- No band of what arrives is large: what the segments let through, what the triangles reflect and the edge weight are bounded, and so is the energy
 -- where the distance gain is at most 2 ^ 47.
-use mathlib.Core.Path.{_≡_, refl, sym, ap, subst, _∙_}
+use mathlib.Core.Path.{_≡_, sym, subst}
 use mathlib.Core.Bool.{Bool, true, false, cond}
 use mathlib.Core.List.{List, [], _∷_, foldl}
 use Prim.Native.Nat.{ℕ, zero, suc, _+_, _*_, _^_, _<_, _≤_}
 use native.Mathlib.Nat.{zero-lt-suc, le-refl, pow-succ', suc-mul}
 use native.Mathlib.Omega.{arith}
-use lib.Dec.{T}
 use lib.Pow.{pow-pos}
 use lib.ListN.{length}
 use lib.IntN.{pos}
@@ -47,8 +46,7 @@ use Rattle.segments.specs.Segment.{visibilityRays, probeCount, transmission, se
 use Rattle.paths.specs.declared.Way.{Way}
 use Rattle.paths.specs.Visibility.{startOf, goOf, goAllOf, wayOf}
 use Rattle.paths.specs.Gains.{reflectedOf, airGainOf, gainsOf}
-use Rattle.paths.specs.Numbers.{isNumber}
-use Rattle.paths.proofs.Most.{Most, Exact, most-round, mul-most, add-most, ninth-most, most-more, most-finite, exact-power, exact-eighths, exact-small, exact-times, clamp-most, one-most, zero-is-most, less-most, sqrt-most}
+use Rattle.paths.proofs.Most.{Most, Exact, mul-most, add-most, ninth-most, most-more, exact-power, exact-eighths, exact-small, exact-times, clamp-most, one-most, zero-is-most, less-most, sqrt-most}
 
 pub record Most8 (p q : ℕ) (g : Band8) : Type 0 where
   pub m0 : Most p q (g .b0)

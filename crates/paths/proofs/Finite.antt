@@ -1,8 +1,8 @@
 -- The energy of a path's candidate is finite: each factor of its gains is bounded (`Caps`), and so is the gain by distance (`Far`), where the distance
 -- model's numbers lie within document 01's limits and the path has at most 8 bounces.
-use mathlib.Core.Path.{_≡_, refl, ap, subst}
+use mathlib.Core.Path.{_≡_, subst}
 use mathlib.Core.Bool.{Bool, true, false, cond}
-use mathlib.Core.List.{List, [], _∷_}
+use mathlib.Core.List.{List, []}
 use Prim.Native.Nat.{ℕ, _+_, _*_, _^_, _<_, _≤_}
 use native.Mathlib.Omega.{arith}
 use lib.Dec.{T}
@@ -18,7 +18,7 @@ use Rattle.bands.specs.Band8.{mulOf, sumOfSquaresOf}
 use Rattle.bands.specs.Distance.{gainOf}
 use Rattle.build.specs.Tree.{Tree}
 use Rattle.scene.specs.declared.Settings.{Settings}
-use Rattle.scene.specs.Limits.{ratesOf}
+use Rattle.scene.specs.Limits.{ratesOf, modelNumbersOf}
 use Rattle.mirror.specs.Plane.{Plane}
 use Rattle.segments.specs.declared.Transmission.{Transmission}
 use Rattle.segments.specs.Materials.{transmissionOf}
@@ -33,10 +33,11 @@ use Rattle.paths.specs.declared.Fate.the-variants.{TooFar, NotCrossed, O
 use Rattle.paths.specs.Visibility.{wayOf}
 use Rattle.paths.specs.Gains.{leastEnergy, leastWeight, leastBlocker, usableOf, reflectedOf, gainsOf, rejectedOf, candidateOf, arrivedOf}
 use Rattle.paths.specs.Path.{verdict, lastOf, bouncedOf, pathWith}
-use Rattle.paths.specs.Numbers.{Numbers}
+use Rattle.paths.specs.Numbers.{ModelFits}
 use Rattle.paths.proofs.Bound.{Long, back-long}
-use Rattle.paths.proofs.Most.{Most, one-most, most-more, most-finite}
+use Rattle.paths.proofs.Most.{Most, one-most, most-finite}
 use Rattle.paths.proofs.Caps.{Most8, WeightMost, transmission8, soft8, way8, back-most, weight-few, gains8, energy-most}
+use Rattle.paths.proofs.Far.{gain-most}
 use Rattle.paths.proofs.Numbers.{path-numbers}
 
 abbrev Bounded : Fate → Type 0
@@ -111,10 +112,17 @@ module _ (limit : ℕ) (radius : Float) (s : Settings) (planes : List Plane) (tr
     picked true = bounced-bounded soft s materials tri (length seq) source listener few (soft8 (traceIn tri t) (transmissionOf materials) (transmission8 materials) limit radius) near found long heavy
     picked false = tt
 
-  pub path-finite-by :
+  path-finite-by :
       T (ratesOf (s .«max_reflection_distance») (s .«speed_of_sound») (s .«sample_rate»)) → 0 < length seq →
       (c : PathCandidate) → pathWith limit radius s planes tri t materials source listener seq .fate ≡ Passed c → T (isFinite (c .energy))
   path-finite-by within some c e =
       let bounded = path-bounded in
       let here : Most (8 * 2 ^ 124) 1 (c .energy) = rw e at bounded in
       most-finite (8 * 2 ^ 124) 1 (c .energy) here (path-numbers limit radius s planes tri t materials source listener seq within some c e .energy-number)
+
+module _ (limit : ℕ) (radius : Float) (s : Settings) (planes : List Plane) (tri : ℕ → Triangle) (t : Tree) (materials : List Float) (source listener : Vec3) (seq : List ℕ) where
+  pub path-finite :
+      T (ratesOf (s .«max_reflection_distance») (s .«speed_of_sound») (s .«sample_rate»)) → T (modelNumbersOf (s .«distance_model»)) → ModelFits (s .«distance_model») →
+      0 < length seq → length seq ≤ 8 → (c : PathCandidate) → pathWith limit radius s planes tri t materials source listener seq .fate ≡ Passed c → T (isFinite (c .energy))
+  path-finite within model fit some few c e =
+      path-finite-by limit radius s planes tri t materials source listener seq few (λ d. gain-most (s .«distance_model») d model fit) within some c e

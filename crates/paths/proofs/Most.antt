@@ -2,19 +2,19 @@
 -- value of the format (`Exact`).
 use mathlib.Core.Path.{_≡_, refl, sym, ap, subst, _∙_}
 use mathlib.Core.Bool.{Bool, true, false, not, cond, _&&_}
-use Prim.Native.Nat.{ℕ, zero, suc, _+_, _-_, _*_, _/_, _%_, _^_, _<_, _≤_}
+use Prim.Native.Nat.{ℕ, zero, suc, _+_, _-_, _*_, _/_, _^_, _<_, _≤_}
 use native.Mathlib.Nat.{add-mul, mul-pos, zero-lt-suc, zero-mul, mul-zero, mul-comm, mul-assoc, mul-one, mul-right-comm, mul-mul-mul-comm, mul-le-mul, le-trans, le-of-eq, le-refl, le-of-lt, lt-of-le-of-lt, lt-of-lt-of-le, mul-lt-mul-of-pos-right}
 use native.Mathlib.Omega.{arith}
-use borrow.Author.Tests.{le-ltb, eq-eqb, ne-eqb}
+use borrow.Author.Tests.{le-ltb, eq-eqb}
 use lib.Dec.{T, ltb, eqb, lt→ltb, nltb→le}
 use lib.Pow.{pow-pos, pow-add, pow-lt, shl-lt}
 use lib.IntN.{ℤ, pos}
-use lib.Ieee.{Float, nan, inf, fin, binary32, prec, emax, low, up, down, unlike, round, sum, neg, add, sub, mul, div, lt, le, eq, isNan, ofBits}
+use lib.Ieee.{Float, nan, inf, fin, binary32, low, up, down, unlike, round, sum, neg, add, sub, mul, div, lt, le, eq, isNan, ofBits}
 use lib.Ieee.Fits.{up-pos, down-pos}
 use lib.Ieee.Exact.{HasValue, round-exact}
 use lib.Ieee.Order.{round-mono}
 use lib.Ieee.Nearest.{div-mono}
-use lib.Ieee.Positive.{num, den, positive, den-pos, positive-of-value, value→cross, le→cross, through}
+use lib.Ieee.Positive.{num, den, den-pos, positive-of-value, value→cross, le→cross, through}
 use Rattle.float.specs.Literals.{zero32, one32}
 use Rattle.float.specs.Compare.{clampOf, isFinite}
 use Rattle.float.specs.Sqrt.{isqrt, rootOf, sqrtOf}
@@ -37,7 +37,7 @@ Exact p q = HasValue (round binary32 false p q) false p q
 
 -- ---- a rounded number
 
-none : (e : ℤ) (p q : ℕ) → 0 * up e * q ≤ p * down e
+pub none : (e : ℤ) (p q : ℕ) → 0 * up e * q ≤ p * down e
 none e p q = let a = zero-mul (up e) in let b = zero-mul q in rw (a, b) (omega arith)
 
 le-most : (x y : Float) (p q : ℕ) → 0 < p → NotNegative x → HasValue y false p q → T (le x y) → Most p q x
@@ -76,13 +76,13 @@ zero-most (fin false m e) s c p q hc v =
     let b = zero-mul q in
     rw (z, b) (omega arith)
 
-round-zero : (s : Bool) (a c p q : ℕ) → a ≡ 0 → 0 < c → Most p q (round binary32 s a c)
+pub round-zero : (s : Bool) (a c p q : ℕ) → a ≡ 0 → 0 < c → Most p q (round binary32 s a c)
 round-zero s a c p q e some =
     rw e
     (zero-most (round binary32 s 0 c) s c p q some
     (round-exact binary32 s 0 c 0 0 some (pow-pos 24) (pow-pos 277) (rw (zero-mul (2 ^ 149), zero-mul c))))
 
-none-of : (a b : ℕ) → 0 * a * b ≡ 0
+pub none-of : (a b : ℕ) → 0 * a * b ≡ 0
 none-of a b = rw (zero-mul a, zero-mul b)
 
 -- ---- products

@@ -10,6 +10,7 @@ use Rattle.float.specs.Literals.{zero32}
 use Rattle.float.specs.Compare.{isFinite}
 use Rattle.vector.specs.declared.Vec3.{Vec3}
 use Rattle.bands.specs.declared.Band8.{Band8}
+use Rattle.bands.specs.declared.DistanceModel.{DistanceModel}
 use Rattle.bands.specs.Band8.{sumOfSquaresOf}
 use Rattle.paths.specs.declared.PathCandidate.{PathCandidate}
 use Rattle.paths.specs.Gains.{leastEnergy}
@@ -83,3 +84,9 @@ pub record Numbers (c : PathCandidate) : Type 0 where
   pub gains-not-below : NotBelow8 (c .gains)
   pub direction-fits : Fits3 (c .direction)
   pub direction-finite : Finite3 (c .direction)
+
+-- of a distance model whose numbers are values of the format, as those of a program are, no energy is infinite: `path-finite` of proofs/Finite.antt
+pub record ModelFits (m : DistanceModel) : Type 0 where
+  pub reference : T (fits binary32 (m .«reference_distance»))
+  pub least : T (fits binary32 (m .«min_distance»))
+  pub greatest : T (fits binary32 (m .«max_distance»))
