@@ -1,11 +1,12 @@
--- The candidates that the search finds can be sent, where the settings are within their limits and no energy is infinite.
---     path-sound       a path that passes gives a sound tap
---     rows-sendable    so the rows of the search's end can be sent
+-- The candidates that the search finds can be sent, where the settings are within their limits.
+--     path-sound         a path that passes gives a sound tap
+--     rows-sendable      rows of a search's end can be sent, where the paths that pass give sound taps
+--     search-sendable    so can those of the search over real paths
 use Prim.Native.Nat.{ℕ, zero, suc, _-_, _*_, _≤_, _<_}
 use mathlib.Core.Path.{_≡_, refl, sym, ap, subst, _∙_}
 use mathlib.Core.Bool.{Bool, true, false, not}
 use mathlib.Core.List.{List, [], _∷_}
-use native.Mathlib.Nat.{mul-pos, zero-lt-suc, zero-mul}
+use native.Mathlib.Nat.{mul-pos, zero-lt-suc, zero-mul, le-trans}
 use native.Mathlib.Omega.{arith}
 use lib.ListN.{length, getD, take}
 use lib.Dec.{T, lt→ltb}
@@ -18,7 +19,7 @@ use Rattle.vector.specs.declared.Vec3.{Vec3}
 use Rattle.geometry.specs.declared.Triangle.{Triangle}
 use Rattle.build.specs.Tree.{Tree}
 use Rattle.scene.specs.declared.Settings.{Settings}
-use Rattle.scene.specs.Limits.{ratesOf}
+use Rattle.scene.specs.Limits.{ratesOf, modelNumbersOf}
 use Rattle.mirror.specs.Plane.{Plane}
 use Rattle.segments.specs.Segment.{maxCrossings, visibilityRadius}
 use Rattle.sequences.specs.Allowed.{visited}
@@ -34,8 +35,9 @@ use Rattle.paths.specs.declared.PathCandidate.{PathCandidate}
 use Rattle.paths.specs.declared.Fate.{Fate}
 use Rattle.paths.specs.declared.Fate.the-variants.{TooFar, NotCrossed, OffSurface, TooLong, Faded, Blocked, Faint, Passed}
 use Rattle.paths.specs.Path.{pathOf}
-use Rattle.paths.specs.Numbers.{Numbers}
+use Rattle.paths.specs.Numbers.{Numbers, ModelFits}
 use Rattle.paths.proofs.Numbers.{path-numbers, gains-finite}
+use Rattle.paths.proofs.Finite.{path-finite}
 use Rattle.claim.specs.Answer.{Found, Outcome, fails, passes, found}
 use Rattle.claim.specs.Answer as claimed
 use Rattle.claim.specs.Complete as complete
@@ -122,14 +124,14 @@ by-fate Faint q r f n s k h e = never q r f e
 by-fate (Passed c) q r f n s k h e = subst (λ (g : Found). Sound (claimed.tapOf n s g)) (ap (whatOf f) e) (sound-of c (k c refl) (h c refl) n s)
 
 module _ (s : Settings) (planes : List Plane) (tri : ℕ → Triangle) (t : Tree) (materials : List Float) (source listener : Vec3)
-    (within : T (ratesOf (s .«max_reflection_distance») (s .«speed_of_sound») (s .«sample_rate»))) where
+    (within : T (ratesOf (s .«max_reflection_distance») (s .«speed_of_sound») (s .«sample_rate»))) (model : T (modelNumbersOf (s .«distance_model»))) (fit : ModelFits (s .«distance_model»)) where
   pub path-sound :
-      (seq : List ℕ) (n r : ℕ) (f : Found) → 0 < length seq → ((c : PathCandidate) → pathOf s planes tri t materials source listener seq .fate ≡ Passed c → T (isFinite (c .energy))) →
-      outcomesOf s planes tri t materials source listener seq ≡ passes r f → Sound (claimed.tapOf n seq f)
+      (seq : List ℕ) (n r : ℕ) (f : Found) → 0 < length seq → length seq ≤ mostOrder → outcomesOf s planes tri t materials source listener seq ≡ passes r f → Sound (claimed.tapOf n seq f)
   unfolding outcomeOf pathOf
-  path-sound seq n r f some finite e =
+  path-sound seq n r f some few e =
       by-fate (pathOf s planes tri t materials source listener seq .fate) (pathOf s planes tri t materials source listener seq .rays) r f n seq
-      (path-numbers maxCrossings visibilityRadius s planes tri t materials source listener seq within some) finite e
+      (path-numbers maxCrossings visibilityRadius s planes tri t materials source listener seq within some)
+      (path-finite maxCrossings visibilityRadius s planes tri t materials source listener seq within model fit some few) e
 
 -- ---- the rows
 
@@ -178,3 +180,12 @@ module _ (on : List ℕ) (order : ℕ) (path : List ℕ → Outcome) (small : or
       let b : candidatesIn n fs ws ≡ take room (found path 1 (visited on order)) = ap (λ (w : Search). w .taps) f in
       subst (λ (k : ℕ). Sendable k (candidatesIn n fs ws)) (sym a)
       (subst (Sendable (length (visited on order))) (sym b) (found-sendable (visited on order) (is-visited on order) room))
+
+module _ (s : Settings) (planes : List Plane) (tri : ℕ → Triangle) (t : Tree) (materials : List Float) (source listener : Vec3)
+    (within : T (ratesOf (s .«max_reflection_distance») (s .«speed_of_sound») (s .«sample_rate»))) (model : T (modelNumbersOf (s .«distance_model»))) (fit : ModelFits (s .«distance_model»)) where
+  pub search-sendable :
+      (on : List ℕ) (order room n : ℕ) (fs : List Float) (ws : List ℕ) (m r : ℕ) (o : Bool) → order ≤ mostOrder →
+      search m r (candidatesIn n fs ws) o ≡ searched on order room (outcomesOf s planes tri t materials source listener) → Sendable m (candidatesIn n fs ws)
+  search-sendable on order room n fs ws m r o small e =
+      rows-sendable on order (outcomesOf s planes tri t materials source listener) small
+      (λ seq k q f a p. path-sound s planes tri t materials source listener within model fit seq k q f (a .some) (le-trans (a .few) small) p) room n fs ws m r o e
