@@ -87,7 +87,7 @@ at-found path n (s ∷ ss) (suc i) r w h e =
     more (fails q) h = h
     more (passes q v) h = inr h
 
-passed-found : (path : List ℕ → Outcome) (ss : List (List ℕ)) (c : Candidate) → Has c (found path 1 ss) → Passed path ss c
+pub passed-found : (path : List ℕ → Outcome) (ss : List (List ℕ)) (c : Candidate) → Has c (found path 1 ss) → Passed path ss c
 passed-found path ss c h =
     let a = found-at path 1 ss c h in
     let k = a .there in
@@ -113,7 +113,7 @@ found-passed path ss c p =
     subst (λ (x : Candidate). Has x (found path 1 ss)) same there
 
 -- no two taps found have one number: the numbers rise
-found-once : (path : List ℕ → Outcome) (n : ℕ) (ss : List (List ℕ)) → Once (found path n ss)
+pub found-once : (path : List ℕ → Outcome) (n : ℕ) (ss : List (List ℕ)) → Once (found path n ss)
 unfolding found
 found-once path n [] = tt
 found-once path n (s ∷ ss) = go (path s) (found-once path (suc n) ss)
@@ -127,7 +127,7 @@ found-once path n (s ∷ ss) = go (path s) (found-once path (suc n) ss)
 number-fits : (p v : ℕ) → p < v → v ≤ most → 1 + p < 2 ^ 32
 number-fits p v h k = omega arith
 
-in-at : (l : List (List ℕ)) (i : ℕ) → i < length l → In (getD l i []) l
+pub in-at : (l : List (List ℕ)) (i : ℕ) → i < length l → In (getD l i []) l
 in-at [] i h = absurd (omega arith)
 in-at (s ∷ l) zero h = inl refl
 in-at (s ∷ l) (suc i) h = inr (in-at l i (omega arith))

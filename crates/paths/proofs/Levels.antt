@@ -106,7 +106,7 @@ one-below : T (not (lt one32 one32))
 unfolding lt ofBits
 one-below = tt
 
-clamp-below : (x : Float) → T (not (lt one32 (clampOf x zero32 one32)))
+pub clamp-below : (x : Float) → T (not (lt one32 (clampOf x zero32 one32)))
 unfolding clampOf
 clamp-below x = picked (lt x zero32) (lt one32 x) (λ h. h) where
   picked : (a b : Bool) → (T (not b) → T (not (lt one32 x))) → T (not (lt one32 (cond a zero32 (cond b one32 x))))

@@ -9,7 +9,8 @@ use lib.Dec.{T}
 use lib.ListN.{length, getD}
 use lib.Ieee.{Float, nan, inf, fin, binary32, add, mul, div, lt, le, eq, fits, isNan, ofBits}
 use lib.Ieee.Positive.{positive, le-trans-positive}
-use lib.Ieee.Fits.{and-l, and-r, add-fits, div-fits}
+use lib.Ieee.Bits.{ofBits-fits}
+use lib.Ieee.Fits.{and-l, and-r, add-fits, mul-fits, div-fits}
 use Rattle.float.specs.Literals.{zero32, one32}
 use Rattle.float.specs.Compare.{isFinite}
 use Rattle.vector.specs.declared.Vec3.{Vec3}
@@ -35,7 +36,7 @@ use Rattle.paths.specs.declared.Fate.the-variants.{TooFar, NotCrossed, O
 use Rattle.paths.specs.Visibility.{startOf, goOf, goAllOf, wayOf}
 use Rattle.paths.specs.Gains.{leastEnergy, leastWeight, leastBlocker, usableOf, reflectedOf, gainsOf, rejectedOf, candidateOf, arrivedOf}
 use Rattle.paths.specs.Path.{verdict, lastOf, bouncedOf, pathWith}
-use Rattle.paths.specs.Numbers.{isNumber, Finite3, Finite8, Numbers8, NotBelow8, Numbers}
+use Rattle.paths.specs.Numbers.{isNumber, Fits3, Fits8, Finite3, Finite8, Numbers8, NotBelow8, Numbers}
 use Rattle.paths.proofs.Bound.{Long, back-long}
 use Rattle.paths.proofs.Floats.{above-number, number-left, number-right, finite-left, finite-right, number-square, finite-square, finite-root}
 use Rattle.paths.proofs.Signs.{NotNegative, one-not-negative, below-none}
@@ -167,6 +168,27 @@ module _ (v : Vec3) (h : T (isFinite (length3Of v))) where
         }
     picked false f = upward
 
+direction-fits : (v : Vec3) → Fits3 (normalize3Of v)
+unfolding normalize3Of
+direction-fits v = picked (lt tiny (length3Of v)) where
+  picked : (b : Bool) → Fits3 (cond b (vec (div binary32 (v .x) (length3Of v)) (div binary32 (v .y) (length3Of v)) (div binary32 (v .z) (length3Of v))) (vec zero32 zero32 one32))
+  picked true = record { hx = div-fits binary32 _ _; hy = div-fits binary32 _ _; hz = div-fits binary32 _ _ }
+  picked false = record { hx = ofBits-fits binary32 0; hy = ofBits-fits binary32 0; hz = ofBits-fits binary32 0x3f80_0000 }
+
+product-fits : (a b : Band8) → Fits8 (mulOf a b)
+unfolding mulOf
+product-fits a b =
+    record {
+      h0 = mul-fits binary32 (a .b0) (b .b0);
+      h1 = mul-fits binary32 (a .b1) (b .b1);
+      h2 = mul-fits binary32 (a .b2) (b .b2);
+      h3 = mul-fits binary32 (a .b3) (b .b3);
+      h4 = mul-fits binary32 (a .b4) (b .b4);
+      h5 = mul-fits binary32 (a .b5) (b .b5);
+      h6 = mul-fits binary32 (a .b6) (b .b6);
+      h7 = mul-fits binary32 (a .b7) (b .b7);
+    }
+
 energy-fits : (g : Band8) → T (fits binary32 (sumOfSquaresOf g))
 unfolding sumOfSquaresOf
 energy-fits g = add-fits binary32 _ _
@@ -211,9 +233,9 @@ not-below8 g h =
 
 candidate-numbers :
     (s : Settings) (last listener : Vec3) (total : Float) (g : Band8) → Rates s → Used s total → T (isFinite (distance3Of listener last)) →
-    T (lt leastEnergy (sumOfSquaresOf g)) → NotNegative8 g → Numbers (candidateOf s last listener total g)
+    T (lt leastEnergy (sumOfSquaresOf g)) → Fits8 g → NotNegative8 g → Numbers (candidateOf s last listener total g)
 unfolding candidateOf
-candidate-numbers s last listener total g r u near above level =
+candidate-numbers s last listener total g r u near above fit level =
     let number = above-number leastEnergy (sumOfSquaresOf g) above in
     record {
       energy-is = refl;
@@ -223,8 +245,10 @@ candidate-numbers s last listener total g r u near above level =
       delay-fits = div-fits binary32 (mul binary32 total (s .«sample_rate»)) (s .«speed_of_sound»);
       delay-number = positive-number _ (candidate-delay s total r u);
       delay-positive = candidate-delay s total r u;
+      gains-fit = fit;
       gains-numbers = gains-numbers g number;
       gains-not-below = not-below8 g level;
+      direction-fits = direction-fits (sub3Of last listener);
       direction-finite = direction-finite (sub3Of last listener) (rw (distance-turned listener last) at near);
     }
 
@@ -275,7 +299,7 @@ arrived-sound s last listener total weight g blocker r u near level blocked = pi
   picked :
       (a b : Bool) → (T b → T (lt leastEnergy (sumOfSquaresOf (mulOf g blocker)))) →
       Sound (cond a (cond b (Passed (candidateOf s last listener total (mulOf g blocker))) (rejectedOf weight blocker)) Faint)
-  picked true true f = candidate-numbers s last listener total (mulOf g blocker) r u near (f tt) (mul8 g blocker level blocked)
+  picked true true f = candidate-numbers s last listener total (mulOf g blocker) r u near (f tt) (product-fits g blocker) (mul8 g blocker level blocked)
   picked true false f = rejected-sound weight blocker
   picked false b f = tt
 

@@ -158,7 +158,7 @@ sqrt-not-negative (fin false (suc m) e) =
 
 -- ---- held to a range
 
-not-below : (x : Float) → T (not (lt x zero32)) → NotNegative x
+pub not-below : (x : Float) → T (not (lt x zero32)) → NotNegative x
 unfolding lt ofBits
 not-below nan h = tt
 not-below (inf true) h = absurd h

@@ -1,5 +1,5 @@
--- What the ranking and a packet need of a candidate: nothing in it is NaN, energy and delay are values of the format, the delay is above 0, the
--- direction finite, and no gain below 0. That a candidate of a path has it, where distance, speed and rate lie within document 01's limits, is `path-numbers` of
+-- What the ranking and a packet need of a candidate: nothing in it is NaN, all are values of the format, the delay is above 0, the direction
+-- finite, and no gain below 0. That a candidate of a path has it, where distance, speed and rate lie within document 01's limits, is `path-numbers` of
 -- proofs/Numbers.antt.
 use lib.Dec.{T}
 use lib.Ieee.{Float, binary32, lt, fits, isNan}
@@ -10,6 +10,7 @@ use Rattle.float.specs.Literals.{zero32}
 use Rattle.float.specs.Compare.{isFinite}
 use Rattle.vector.specs.declared.Vec3.{Vec3}
 use Rattle.bands.specs.declared.Band8.{Band8}
+use Rattle.bands.specs.declared.DistanceModel.{DistanceModel}
 use Rattle.bands.specs.Band8.{sumOfSquaresOf}
 use Rattle.paths.specs.declared.PathCandidate.{PathCandidate}
 use Rattle.paths.specs.Gains.{leastEnergy}
@@ -21,6 +22,22 @@ pub record Finite3 (v : Vec3) : Type 0 where
   pub fx : T (isFinite (v .x))
   pub fy : T (isFinite (v .y))
   pub fz : T (isFinite (v .z))
+
+-- values of the format
+pub record Fits3 (v : Vec3) : Type 0 where
+  pub hx : T (fits binary32 (v .x))
+  pub hy : T (fits binary32 (v .y))
+  pub hz : T (fits binary32 (v .z))
+
+pub record Fits8 (g : Band8) : Type 0 where
+  pub h0 : T (fits binary32 (g .b0))
+  pub h1 : T (fits binary32 (g .b1))
+  pub h2 : T (fits binary32 (g .b2))
+  pub h3 : T (fits binary32 (g .b3))
+  pub h4 : T (fits binary32 (g .b4))
+  pub h5 : T (fits binary32 (g .b5))
+  pub h6 : T (fits binary32 (g .b6))
+  pub h7 : T (fits binary32 (g .b7))
 
 pub record Numbers8 (g : Band8) : Type 0 where
   pub n0 : T (isNumber (g .b0))
@@ -62,6 +79,14 @@ pub record Numbers (c : PathCandidate) : Type 0 where
   pub delay-number : T (isNumber (c .delay))
   -- finite and above 0
   pub delay-positive : T (positive (c .delay))
+  pub gains-fit : Fits8 (c .gains)
   pub gains-numbers : Numbers8 (c .gains)
   pub gains-not-below : NotBelow8 (c .gains)
+  pub direction-fits : Fits3 (c .direction)
   pub direction-finite : Finite3 (c .direction)
+
+-- of a distance model whose numbers are values of the format, as those of a program are, no energy is infinite: `path-finite` of proofs/Finite.antt
+pub record ModelFits (m : DistanceModel) : Type 0 where
+  pub reference : T (fits binary32 (m .«reference_distance»))
+  pub least : T (fits binary32 (m .«min_distance»))
+  pub greatest : T (fits binary32 (m .«max_distance»))
