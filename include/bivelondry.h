@@ -75,6 +75,25 @@ bool biv_intersect(const float *padded, size_t padded_len, const uint32_t *nodes
                    const float *rows, size_t rows_len, const uint32_t *handles, size_t handles_len, size_t count,
                    const float *ray, size_t ray_len, float *hit, size_t hit_len, size_t *place, size_t place_len);
 
+/* ---- planes */
+
+/* planes/specs/Build.antt, planesOf. The mirror planes of the first m triangles of columns of n floats (what biv_load_scene left, with its
+ * handles; m <= n <= 4,096), over their tree of nodes_count above 0 nodes in padded, nodes, perm and leaves (rows of biv_build_flat_bvh), by
+ * the settings counts and setting_floats (as for biv_load_scene). Answers how many planes there are; they stand in rows (12 floats each),
+ * kept (5 words each), members and edges, as biv_path takes them. Lengths: hi, lo and index 3 n exactly; at least words and scratch 24 n, id
+ * and queue 3 n, first and of n, next and members n + 1, starts 3 n + 1, linked 24 n and 4,096, kept 5 n, rows and gfloats 12 n, edges 18 n.
+ * The caller keeps them. */
+size_t biv_build_planes(const float *columns, size_t columns_len, const uint32_t *handles, size_t handles_len, size_t n, size_t m,
+                        const uint32_t *counts, size_t counts_len, const float *setting_floats, size_t setting_floats_len,
+                        const float *padded, size_t padded_len, const uint32_t *nodes, size_t nodes_len, const uint32_t *perm, size_t perm_len,
+                        const float *leaves, size_t leaves_len, size_t nodes_count,
+                        uint64_t *hi, size_t hi_len, uint64_t *lo, size_t lo_len, uint64_t *words, size_t words_len,
+                        uint64_t *scratch, size_t scratch_len, uint32_t *index, size_t index_len, uint32_t *id, size_t id_len,
+                        uint32_t *first, size_t first_len, uint32_t *next, size_t next_len, uint32_t *of, size_t of_len,
+                        uint32_t *linked, size_t linked_len, uint32_t *queue, size_t queue_len, uint32_t *starts, size_t starts_len,
+                        float *gfloats, size_t gfloats_len, uint32_t *members, size_t members_len, float *rows, size_t rows_len,
+                        uint32_t *kept, size_t kept_len, float *edges, size_t edges_len);
+
 /* ---- paths */
 
 /* paths/specs/Path.antt, pathOf. The path from source by way of the planes seq (1 to 8 of them, source side first, each below count) to

@@ -39,7 +39,11 @@ ghost use Rattle.ranking.specs.Rows.{Ranked, Lent as Candidates, Rows as Candid
 ghost use Rattle.sequences.specs.Allowed.{mostPlanes};
 ghost use Rattle.claim.specs.Query.{search};
 ghost use Rattle.exports.specs.Searches.{searchedFrom};
-ghost use Rattle.mirror.specs.Rows.{planeFloats, planeWords, planesIn};
+ghost use Rattle.mirror.specs.Rows.{planeFloats, planeWords, planesIn, PlanesHeld};
+ghost use Rattle.patches.specs.Triangles.{trianglesIn};
+ghost use Rattle.buried.specs.Probe.{probeOf, Traced};
+ghost use Rattle.planes.specs.Build.{planeSettings, planesOf};
+ghost use Rattle.planes.specs.Areas.{TrianglesLent, PlanesRoom};
 ghost use Rattle.bounces.specs.Areas.{maxOrder};
 ghost use Rattle.paths.specs.Path.{pathOf};
 ghost use Rattle.paths.specs.Areas.{Lent as PathsLent, ReadAs};
@@ -426,6 +430,80 @@ pub extern "C" fn biv_intersect(
         return true;
     }
     false
+}
+
+// ---- planes
+
+// `build_planes` over the m triangles of columns of n floats, and the tree over them. The answer is how many planes there are; they stand in
+// rows, kept, members and edges, as `biv_path` takes them.
+#[no_mangle]
+pub extern "C" fn biv_build_planes(
+    columns: &[f32],
+    handles: &[u32],
+    n: usize,
+    m: usize,
+    counts: &[u32],
+    setting_floats: &[f32],
+    padded: &[f32],
+    nodes: &[u32],
+    perm: &[u32],
+    leaves: &[f32],
+    nodes_count: usize,
+    hi: &mut [u64],
+    lo: &mut [u64],
+    words: &mut [u64],
+    scratch: &mut [u64],
+    index: &mut [u32],
+    id: &mut [u32],
+    first: &mut [u32],
+    next: &mut [u32],
+    of: &mut [u32],
+    linked: &mut [u32],
+    queue: &mut [u32],
+    starts: &mut [u32],
+    gfloats: &mut [f32],
+    members: &mut [u32],
+    rows: &mut [f32],
+    kept: &mut [u32],
+    edges: &mut [f32],
+) -> usize
+    requires { ⌜ TrianglesLent (now columns) (now handles) n m ⌝ }
+    requires { ⌜ (length (now counts) ≡ 5) × (length (now «setting_floats») ≡ 11) ⌝ }
+    requires { ⌜ Held (now padded) (now nodes) (now perm) (now leaves) «nodes_count» × (0 < «nodes_count») ⌝ }
+    requires { ⌜ PlanesRoom n (now hi) (now lo) (now words) (now scratch) (now index) (now id) (now first) (now next) (now of) (now linked) (now queue) (now starts) (now members) (now kept) (now rows) (now gfloats) (now edges) ⌝ }
+    ensures { λ r. ⌜ ((tri : ℕ → Triangle) (t : Tree) → Traced tri t (now (padded .entry)) (now (nodes .entry)) (now (perm .entry)) (now (leaves .entry)) (now (handles .entry)) → planesIn (now (rows .exit)) (now (kept .exit)) (now (members .exit)) (now (edges .exit)) r ≡ planesOf (planeSettings (settingsFrom (now (counts .entry)) (now («setting_floats» .entry)))) (probeOf tri t) (trianglesIn (now (columns .entry)) (now (handles .entry)) n m)) ⌝ }
+    ensures { λ r. ⌜ (r ≤ settingsFrom (now (counts .entry)) (now («setting_floats» .entry)) .«max_reflection_planes») × PlanesHeld (now (rows .exit)) (now (kept .exit)) (now (members .exit)) (now (edges .exit)) m r ⌝ }
+{
+    let s = settings_from(counts, setting_floats);
+    planes::build_planes(
+        columns,
+        handles,
+        n,
+        m,
+        s,
+        padded,
+        nodes,
+        perm,
+        leaves,
+        nodes_count,
+        hi,
+        lo,
+        words,
+        scratch,
+        index,
+        id,
+        first,
+        next,
+        of,
+        linked,
+        queue,
+        starts,
+        gfloats,
+        members,
+        rows,
+        kept,
+        edges,
+    )
 }
 
 // ---- ranking

@@ -1,27 +1,32 @@
-//! Times of the port and of the Rust on the same input, in one process, in turn: the best of several rounds each, and their ratio.
+//! Times of the port and of the Rust on the same input, in one process, in turn: the best of several rounds each (planes: the median), and
+//! their ratio.
 //! Results are compared first. Areas are lent as they were left by the round before, not cleared, unless said.
 use oracle::{Case, Mesh, Row, Settings, Table, IDENTITY};
 use compare::front::{areas, lent};
-use compare::paths;
+use compare::{paths, planes};
 use compare::random::Random;
 use compare::ranking;
 use quasar_backends::cpu_simd::oracle_rank;
-use port::{Candidates, Loaded, Tree, OUTPUT, TAPS, TAP_WORDS};
+use port::{Areas, Candidates, Loaded, PlaneAreas, Tree, OUTPUT, TAPS, TAP_WORDS};
 use std::hint::black_box;
 use std::time::Instant;
 
 const ROUNDS: usize = 40;
 
+const PARTS: [(&str, fn()); 9] = [
+    ("roots", roots), ("sorts", sorts), ("fronts", fronts), ("trees", trees), ("planes", all_planes), ("paths", single_paths), ("searches", searches),
+    ("rankings", rankings), ("packets", packets),
+];
+
+/// All parts, or those named.
 fn main() {
+    let named: Vec<String> = std::env::args().skip(1).collect();
     println!("{:44} {:>12} {:>12} {:>7}", "", "port", "Rust", "ratio");
-    roots();
-    sorts();
-    fronts();
-    trees();
-    single_paths();
-    searches();
-    rankings();
-    packets();
+    for (name, part) in PARTS {
+        if named.is_empty() || named.iter().any(|n| n == name) {
+            part();
+        }
+    }
 }
 
 fn line(what: &str, port: f64, rust: f64) {
@@ -33,21 +38,29 @@ fn both<T>(make: impl FnMut() -> T, port: impl FnMut(&mut T), rust: impl FnMut(&
     rounds(ROUNDS, make, port, rust)
 }
 
-fn rounds<T>(count: usize, mut make: impl FnMut() -> T, mut port: impl FnMut(&mut T), mut rust: impl FnMut(&mut T)) -> (f64, f64) {
-    let mut best = (f64::MAX, f64::MAX);
+fn rounds<T>(count: usize, make: impl FnMut() -> T, port: impl FnMut(&mut T), rust: impl FnMut(&mut T)) -> (f64, f64) {
+    let (p, q) = times(count, make, port, rust);
+    (p[0], q[0])
+}
+
+/// The times of all rounds, the least first.
+fn times<T>(count: usize, mut make: impl FnMut() -> T, mut port: impl FnMut(&mut T), mut rust: impl FnMut(&mut T)) -> (Vec<f64>, Vec<f64>) {
+    let (mut ports, mut rusts) = (Vec::new(), Vec::new());
     for _ in 0..count {
         let mut input = make();
         let start = Instant::now();
         port(&mut input);
-        best.0 = best.0.min(start.elapsed().as_nanos() as f64);
+        ports.push(start.elapsed().as_nanos() as f64);
         black_box(&input);
         let mut input = make();
         let start = Instant::now();
         rust(&mut input);
-        best.1 = best.1.min(start.elapsed().as_nanos() as f64);
+        rusts.push(start.elapsed().as_nanos() as f64);
         black_box(&input);
     }
-    best
+    ports.sort_by(f64::total_cmp);
+    rusts.sort_by(f64::total_cmp);
+    (ports, rusts)
 }
 
 /// From 0 to 1.
@@ -176,6 +189,93 @@ fn hall(sheets: usize) -> Case {
     Case { name: format!("hall-{sheets}"), settings: Settings { room: 0, ..Settings::default() }, materials: vec![row], meshes: vec![m], source: [-2.3, 1.1, 0.4], listener: [2.6, 1.6, -0.7], separated: false }
 }
 
+fn grid(m: &mut Mesh, at: [f32; 3], u: [f32; 3], w: [f32; 3], a: usize, b: usize) {
+    let part = |v: [f32; 3], n: usize| v.map(|x| x / n as f32);
+    let (u, w) = (part(u, a), part(w, b));
+    for i in 0..a * b {
+        let (s, t) = ((i / b) as f32, (i % b) as f32);
+        quad(m, std::array::from_fn(|k| at[k] + s * u[k] + t * w[k]), u, w);
+    }
+}
+
+/// A room whose walls are grids of quads: four of a by b and two of c by d.
+fn tiled([a, b, c, d]: [usize; 4]) -> Case {
+    let (x, y, z) = ([8.0, 0.0, 0.0], [0.0, 3.0, 0.0], [0.0, 0.0, 6.0]);
+    let mut case = Case { name: "room".into(), ..hall(0) };
+    let m = &mut case.meshes[0];
+    (m.positions, m.indices) = (Vec::new(), Vec::new());
+    for (at, u, w) in [([-4.0, 0.0, -3.0], y, x), ([-4.0, 0.0, 3.0], x, y), ([-4.0, 0.0, -3.0], z, y), ([4.0, 0.0, -3.0], y, z)] {
+        grid(m, at, u, w, a, b);
+    }
+    grid(m, [-4.0, 0.0, -3.0], x, z, c, d);
+    grid(m, [-4.0, 3.0, -3.0], z, x, c, d);
+    case
+}
+
+/// A barrel of so many facets, each a row of quads: neighbours merge.
+fn barrel(facets: usize, row: usize) -> Case {
+    let mut case = Case { name: "barrel".into(), ..hall(0) };
+    (case.settings.merge_cos, case.settings.merge_offset) = (0.95, 0.5);
+    let m = &mut case.meshes[0];
+    (m.positions, m.indices) = (Vec::new(), Vec::new());
+    let point = |k: usize| { let a = std::f32::consts::TAU * k as f32 / facets as f32; [4.0 * a.sin(), 4.0 * a.cos(), -3.0] };
+    for k in 0..facets {
+        let (p, q) = (point(k), point(k + 1));
+        grid(m, p, [q[0] - p[0], q[1] - p[1], 0.0], [0.0, 0.0, 6.0], 1, row);
+    }
+    case
+}
+
+/// Ground of so many by so many quads, up to so much higher or lower at each corner: a plane a triangle, all of them neighbours.
+fn ground(a: usize, b: usize, height: f32) -> Case {
+    let mut case = Case { name: format!("ground {height}"), ..hall(0) };
+    let (m, mut r) = (&mut case.meshes[0], Random::new(5));
+    m.positions = (0..(a + 1) * (b + 1)).map(|k| [(k / (b + 1)) as f32, height * unit(&mut r), (k % (b + 1)) as f32]).collect();
+    m.indices = (0..a * b).flat_map(|k| { let p = (k / b * (b + 1) + k % b) as u32; let q = p + b as u32 + 1; [p, p + 1, q, q, p + 1, q + 1] }).collect();
+    case
+}
+
+/// So many sheets over one another, each in a plane of its own, then further triangles in the plane of the first.
+fn stack(sheets: usize, further: usize) -> Case {
+    let mut case = Case { name: format!("{sheets} sheets"), ..hall(0) };
+    let m = &mut case.meshes[0];
+    m.positions = (0..sheets + further).flat_map(|k| {
+        let (x, y) = if k < sheets { (0.0, 0.01 * k as f32) } else { ((k - sheets + 2) as f32, 0.0) };
+        [[x, y, 0.0], [x, y, 1.0], [x + 1.0, y, 0.0]]
+    }).collect();
+    m.indices = (0..3 * (sheets + further) as u32).collect();
+    case
+}
+
+/// A case loaded, and its tree.
+fn loaded(c: &Case) -> (Areas, usize, Tree) {
+    let mut a = areas(c.meshes[0].indices.len() / 3, 0);
+    let Loaded::Triangles { kept, triples, .. } = port::load_scene(&lent(c), &mut a) else { panic!("{} is refused", c.name) };
+    let mut tree = Tree::areas(kept);
+    assert!(tree.build(&a.columns, &a.handles, triples));
+    (a, triples, tree)
+}
+
+/// `build_planes`; medians.
+fn all_planes() {
+    for c in [tiled([1; 4]), tiled([8, 5, 9, 5]), tiled([18, 19, 17, 20]), barrel(64, 32), ground(64, 32, 0.02), ground(64, 32, 1.0), stack(4096, 0), stack(2048, 2048), soup(12), soup(500), soup(4096)] {
+        let (a, triples, tree) = loaded(&c);
+        let (backend, l, mut work) = (oracle::built(&c, false), lent(&c), PlaneAreas::new(triples));
+        let count = work.build(&tree, &a.columns, &l.counts, &l.floats);
+        let stats = backend.oracle_build_stats();
+        assert_eq!(count, stats.planes);
+        let sets = (2048 / triples).max(1);
+        let (p, q) = times(
+            ROUNDS,
+            || (),
+            |_| (0..sets).for_each(|_| { black_box(work.build(&tree, &a.columns, &l.counts, &l.floats)); }),
+            |_| (0..sets).for_each(|_| { black_box(backend.oracle_build_planes()); }),
+        );
+        line(&format!("build_planes, {}, {triples} triangles", c.name), p[ROUNDS / 2] / sets as f64, q[ROUNDS / 2] / sets as f64);
+        println!("  ({} patches, {} buried, {} groups, {} fitted, {count} planes)", stats.patches, stats.buried, stats.groups, stats.fitted);
+    }
+}
+
 /// All sequences of so many planes up to order 3, no plane twice in a row.
 fn sequences(count: usize) -> Vec<Vec<u32>> {
     let mut all: Vec<Vec<u32>> = (0..count as u32).map(|p| vec![p]).collect();
@@ -195,12 +295,9 @@ fn sequences(count: usize) -> Vec<Vec<u32>> {
 
 fn single_paths() {
     for (name, c) in [("booth", hall(0)), ("12 sheets", hall(12))] {
-        let mut a = areas(c.meshes[0].indices.len() / 3, 0);
-        let Loaded::Triangles { kept, triples, .. } = port::load_scene(&lent(&c), &mut a) else { panic!("{name} is refused") };
-        let backend = oracle::built(&c, false);
-        let mut tree = Tree::areas(kept);
-        assert!(tree.build(&a.columns, &a.handles, triples));
-        let (scene, table) = (paths::scene(&c, &backend, &a, triples, &tree), Table(&c.materials));
+        let (a, triples, tree) = loaded(&c);
+        let (backend, built) = (oracle::built(&c, false), planes::build(&c, &a, triples, &tree));
+        let (scene, table) = (paths::scene(&c, &a, triples, &tree, &built), Table(&c.materials));
         let path = |s: &[u32]| scene.path(s, &c.source, &c.listener);
         let rust = |s: &[usize]| backend.oracle_path(s, &c.source, &c.listener, &table);
         let all: Vec<(Vec<u32>, Vec<usize>)> = sequences(backend.oracle_planes().len()).into_iter().map(|s| { let t = s.iter().map(|&p| p as usize).collect(); (s, t) }).collect();
@@ -217,21 +314,18 @@ fn single_paths() {
             let n = (sets * of.len()) as f64;
             line(&format!("a path, {name}, {} {what}", of.len()), p / n, q / n);
         }
-        println!("  ({} triangles, {} rays for those traced)", kept, rays);
+        println!("  ({triples} triangles, {rays} rays for those traced)");
     }
 }
 
-/// The search and the ranking, over the Rust's planes: all images of an order.
+/// The search and the ranking: all images of an order.
 fn searches() {
     for (name, sheets, order) in [("booth", 0, 3), ("12 sheets", 12, 2), ("booth", 0, 8)] {
         let mut c = hall(sheets);
         c.settings.order = order;
-        let mut a = areas(c.meshes[0].indices.len() / 3, 0);
-        let Loaded::Triangles { kept, triples, .. } = port::load_scene(&lent(&c), &mut a) else { panic!("{name} is refused") };
-        let backend = oracle::built(&c, false);
-        let mut tree = Tree::areas(kept);
-        assert!(tree.build(&a.columns, &a.handles, triples));
-        let scene = paths::scene(&c, &backend, &a, triples, &tree);
+        let (a, triples, tree) = loaded(&c);
+        let (backend, built) = (oracle::built(&c, false), planes::build(&c, &a, triples, &tree));
+        let scene = paths::scene(&c, &a, triples, &tree, &built);
         let theirs = oracle::run_built(&c, &backend);
         let (mut rows, mut out) = (Candidates::with_room(theirs.candidates as usize), vec![0; TAPS]);
         let found = scene.search(&c.source, &c.listener, order as usize, &mut rows);

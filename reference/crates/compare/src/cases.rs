@@ -1,6 +1,7 @@
 //! Runs stages of the port and the Rust on generated cases and on files, stops at the first difference, and makes its case small.
 use crate::front::{self, Damage, DAMAGES};
 use crate::paths::{self, Walked};
+use crate::planes::{self, Built};
 use crate::taps::{self, Heard};
 use crate::scenes::{self, Kind, KINDS};
 use crate::tree::{self, Traced};
@@ -25,6 +26,7 @@ struct Coverage {
     deepest: u64,
     rays: u64,
     hits: u64,
+    built: Built,
     walked: Walked,
 }
 
@@ -38,6 +40,16 @@ impl Coverage {
         all.orders.iter_mut().zip(w.orders).for_each(|(a, b)| *a += b);
         all.rays += w.rays;
         all.dimmed += w.dimmed;
+    }
+
+    fn add_planes(&mut self, b: Built) {
+        let all = &mut self.built;
+        all.planes += b.planes;
+        all.fitted += b.fitted;
+        all.triangles += b.triangles;
+        all.edges += b.edges;
+        all.buried += b.buried;
+        all.cut += b.cut;
     }
 
     fn add_taps(&mut self, h: Heard) {
@@ -75,6 +87,8 @@ impl Coverage {
         }
         println!("  triangles: {}, at most {} in a scene", self.triangles, self.most);
         println!("  trees: {}, {} nodes, at most {} deep; {} rays, {} hits", self.trees, self.nodes, self.deepest, self.rays, self.hits);
+        let b = &self.built;
+        println!("  planes: {}, {} fitted, of {} triangles, {} border edges; {} patches buried, {} planes past the limit", b.planes, b.fitted, b.triangles, b.edges, b.buried, b.cut);
         println!("  searches: {}, {} images, {} candidates, {} taps", self.searches, self.images, self.candidates, self.taps);
         let w = &self.walked;
         println!("  paths: {}, {} rays", w.fates.iter().sum::<u64>(), w.rays);
@@ -119,32 +133,45 @@ fn fail(c: &Case, d: Damage, words: &str) -> ! {
     std::process::exit(1)
 }
 
-/// Slips of all stages: those of the front, then those of the tree, of the paths, and of the taps.
-const SLIPS: usize = front::SLIPS + tree::SLIPS + paths::SLIPS + taps::SLIPS;
+/// Slips of all stages: those of the front, then those of the tree, of the planes, of the paths, and of the taps.
+const STAGES: [usize; 5] = [front::SLIPS, tree::SLIPS, planes::SLIPS, paths::SLIPS, taps::SLIPS];
+const SLIPS: usize = front::SLIPS + tree::SLIPS + planes::SLIPS + paths::SLIPS + taps::SLIPS;
+
+/// The stage of a slip, and which of that stage's it is.
+fn slip_of(mut k: usize) -> (usize, usize) {
+    let mut stage = 0;
+    while k >= STAGES[stage] {
+        k -= STAGES[stage];
+        stage += 1;
+    }
+    (stage, k)
+}
 
 /// What a call went through.
 #[derive(Clone, Copy)]
 struct Went {
     answer: Loaded,
     traced: Traced,
+    built: Built,
     walked: Walked,
     heard: Heard,
 }
 
 /// One call, stage by stage. None where the damage or the slip does not apply.
 fn stages(c: &Case, d: Damage, planted: Option<usize>) -> Option<Result<Went, String>> {
-    let left = match front::run(c, d, planted.filter(|&k| k < front::SLIPS))? {
+    let planted = planted.map(slip_of);
+    let at = |stage: usize| planted.and_then(|(s, k)| (s == stage).then_some(k));
+    let ends_before = |stage: usize| planted.is_none_or(|(s, _)| s < stage);
+    let left = match front::run(c, d, at(0))? {
         Ok(left) => left,
         Err(words) => return Some(Err(words)),
     };
-    let later = planted.and_then(|k| k.checked_sub(front::SLIPS));
-    let last = later.and_then(|k| k.checked_sub(tree::SLIPS));
-    let mut went = Went { answer: left.answer, traced: Traced::default(), walked: Walked::default(), heard: Heard::default() };
+    let mut went = Went { answer: left.answer, traced: Traced::default(), built: Built::default(), walked: Walked::default(), heard: Heard::default() };
     let Loaded::Triangles { kept, triples, .. } = left.answer else {
-        return later.is_none().then_some(Ok(went));
+        return ends_before(1).then_some(Ok(went));
     };
     let mut backend = oracle::built(c, true);
-    let tree = match tree::run(c, &backend, &left.areas, kept, triples, later.filter(|&k| k < tree::SLIPS))? {
+    let tree = match tree::run(c, &backend, &left.areas, kept, triples, at(1))? {
         Ok((traced, tree)) => {
             went.traced = traced;
             tree
@@ -152,17 +179,24 @@ fn stages(c: &Case, d: Damage, planted: Option<usize>) -> Option<Result<Went, St
         Err(words) => return Some(Err(words)),
     };
     let Some(tree) = tree else {
-        return last.is_none().then_some(Ok(went));
+        return ends_before(2).then_some(Ok(went));
     };
-    match paths::run(c, &mut backend, &left.areas, triples, &tree, last.filter(|&k| k < paths::SLIPS))? {
+    let planes = match planes::run(c, &backend, &left.areas, triples, &tree, at(2))? {
+        Ok((built, planes)) => {
+            went.built = built;
+            planes
+        }
+        Err(words) => return Some(Err(words)),
+    };
+    if planes.is_empty() {
+        return ends_before(3).then_some(Ok(went));
+    }
+    let scene = paths::scene(c, &left.areas, triples, &tree, &planes);
+    match paths::run(c, &mut backend, &scene, planes.len(), at(3))? {
         Ok(walked) => went.walked = walked,
         Err(words) => return Some(Err(words)),
     }
-    let end = last.and_then(|k| k.checked_sub(paths::SLIPS));
-    if backend.oracle_planes().is_empty() {
-        return end.is_none().then_some(Ok(went));
-    }
-    match taps::run(c, &backend, &paths::scene(c, &backend, &left.areas, triples, &tree), end)? {
+    match taps::run(c, &backend, &scene, at(4))? {
         Ok(heard) => Some(Ok(Went { heard, ..went })),
         Err(words) => Some(Err(words)),
     }
@@ -174,6 +208,7 @@ fn check(c: &Case, cover: &mut Coverage) {
             Some(Ok(went)) => {
                 cover.add(went.answer);
                 cover.add_tree(went.traced);
+                cover.add_planes(went.built);
                 cover.add_paths(went.walked);
                 cover.add_taps(went.heard);
             }

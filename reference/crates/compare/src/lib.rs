@@ -3,6 +3,7 @@ pub mod cases;
 pub mod front;
 pub mod numbers;
 pub mod paths;
+pub mod planes;
 pub mod random;
 pub mod ranking;
 pub mod scenes;

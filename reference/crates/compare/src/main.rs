@@ -3,7 +3,7 @@ use compare::{cases, numbers, ranking};
 
 const USAGE: &str = "\
   compare numbers [SEED]         floats: sqrt, abs, round on all 2^32 patterns, the others on many millions of values
-  compare scenes [COUNT [SEED]]  generated scenes, 2,000 unless said: refusals, triangles, areas, tree, hits, single paths
+  compare scenes [COUNT [SEED]]  generated scenes, 2,000 unless said: refusals, triangles, areas, tree, hits, planes, single paths, whole queries
   compare ranking [COUNT [SEED]] generated lists of candidates, 2,000 unless said: which are kept, and their order
   compare file FILE ..           the cases of files (FORMAT.md)
   compare slips [COUNT [SEED]]   plants slips into the port's answers to generated scenes, and counts those found";

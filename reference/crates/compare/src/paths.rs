@@ -1,9 +1,9 @@
 //! Single paths against the Rust, sequence by sequence: fate, rays traced, and the candidate's energy, delay, direction and gains as bits.
-//! The port takes the Rust's own planes, their borders in another order (only the least distance to one is used).
+//! The port takes its own planes, their borders in another order than the Rust's (only the least distance to one is used).
 use crate::front;
 use crate::random::Random;
 use oracle::{Case, Table};
-use port::{Areas, Path, Plane, Planes, Scene, Tree, ORDER};
+use port::{Areas, Path, Planes, Scene, Tree, ORDER};
 use quasar_backends::cpu_simd::{CpuSimdComputeBackend, OraclePath};
 
 /// At most so many sequences of one plane, of two, and of more, in a scene.
@@ -28,7 +28,7 @@ pub struct Walked {
 pub const SLIPS: usize = 3;
 
 /// The same bits, or zeros of either sign, or what is no number.
-fn same(a: f32, b: f32) -> bool {
+pub(crate) fn same(a: f32, b: f32) -> bool {
     a.to_bits() == b.to_bits() || (a == 0.0 && b == 0.0) || (a.is_nan() && b.is_nan())
 }
 
@@ -52,17 +52,10 @@ fn slip(p: &mut Path, kind: usize) -> bool {
     true
 }
 
-/// The port's scene over the Rust's planes; the tree stands over the first triangles of columns of `triples` floats.
-pub fn scene(c: &Case, backend: &CpuSimdComputeBackend, areas: &Areas, triples: usize, tree: &Tree) -> Scene {
-    let mut planes = Planes::default();
-    for p in &backend.oracle_planes() {
-        planes.push(&Plane {
-            normal: p.normal, offset: p.offset, min: p.aabb.0, max: p.aabb.1, spread: p.spread, area: p.area,
-            triangles: &p.tris, border: &p.boundary, fitted: p.fitted,
-        });
-    }
+/// The port's scene; the tree stands over the first triangles of columns of `triples` floats.
+pub fn scene(c: &Case, areas: &Areas, triples: usize, tree: &Tree, planes: &Planes) -> Scene {
     let l = front::lent(c);
-    Scene::new(tree.clone(), areas.columns.clone(), triples, l.materials, planes, l.counts, l.floats)
+    Scene::new(tree.clone(), areas.columns.clone(), triples, l.materials, planes.clone(), l.counts, l.floats)
 }
 
 /// A plane other than the one before it, mostly.
@@ -175,14 +168,9 @@ impl Sides<'_> {
 }
 
 /// Compares the paths of a scene. None where the slip does not apply.
-pub fn run(c: &Case, backend: &mut CpuSimdComputeBackend, areas: &Areas, triples: usize, tree: &Tree, planted: Option<usize>) -> Option<Result<Walked, String>> {
-    let count = backend.oracle_planes().len();
-    if count == 0 {
-        return planted.is_none().then(|| Ok(Walked::default()));
-    }
-    let port = scene(c, backend, areas, triples, tree);
+pub fn run(c: &Case, backend: &mut CpuSimdComputeBackend, port: &Scene, count: usize, planted: Option<usize>) -> Option<Result<Walked, String>> {
     let mut sequences = Sequences { r: Random::new(c.name.bytes().fold(3, |h, b| h * 31 + b as u64)), count, turn: 0, good: Vec::new() };
-    let mut sides = Sides { case: c, port, rust: backend, planted, slipped: false, out: Walked::default() };
+    let mut sides = Sides { case: c, port: port.clone(), rust: backend, planted, slipped: false, out: Walked::default() };
     match sides.all(&mut sequences) {
         Ok(()) => (planted.is_none() || sides.slipped).then_some(Ok(sides.out)),
         Err(words) => Some(Err(words)),

@@ -1,4 +1,4 @@
-//! The whole search against the Rust, over the Rust's planes: images, rays, candidates, and the taps in their order.
+//! The whole query against the Rust: images, rays, candidates, and the taps in their order.
 use oracle::Case;
 use port::{Candidates, Scene, ORDER, TAPS};
 use quasar_backends::cpu_simd::CpuSimdComputeBackend;

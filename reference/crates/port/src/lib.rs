@@ -42,6 +42,18 @@ mod ffi {
             ray: *const f32, ray_len: usize, hit: *mut f32, hit_len: usize, place: *mut usize, place_len: usize,
         ) -> bool;
         #[rustfmt::skip]
+        pub fn biv_build_planes(
+            columns: *const f32, columns_len: usize, handles: *const u32, handles_len: usize, n: usize, m: usize,
+            counts: *const u32, counts_len: usize, setting_floats: *const f32, setting_floats_len: usize,
+            padded: *const f32, padded_len: usize, nodes: *const u32, nodes_len: usize, perm: *const u32, perm_len: usize,
+            leaves: *const f32, leaves_len: usize, nodes_count: usize,
+            hi: *mut u64, hi_len: usize, lo: *mut u64, lo_len: usize, words: *mut u64, words_len: usize, scratch: *mut u64, scratch_len: usize,
+            index: *mut u32, index_len: usize, id: *mut u32, id_len: usize, first: *mut u32, first_len: usize, next: *mut u32, next_len: usize,
+            of: *mut u32, of_len: usize, linked: *mut u32, linked_len: usize, queue: *mut u32, queue_len: usize, starts: *mut u32, starts_len: usize,
+            gfloats: *mut f32, gfloats_len: usize, members: *mut u32, members_len: usize, rows: *mut f32, rows_len: usize,
+            kept: *mut u32, kept_len: usize, edges: *mut f32, edges_len: usize,
+        ) -> usize;
+        #[rustfmt::skip]
         pub fn biv_path(
             padded: *const f32, padded_len: usize, nodes: *const u32, nodes_len: usize, perm: *const u32, perm_len: usize,
             rows: *const f32, rows_len: usize, handles: *const u32, handles_len: usize, nodes_count: usize,
@@ -271,7 +283,8 @@ impl Tree {
         };
         self.count = count;
         self.handles.clear();
-        self.handles.extend_from_slice(&handles[..n]);
+        self.handles.extend_from_slice(&handles[..m]);
+        self.handles.resize(n, 0); // rows past the tree's triangles were never written
         count > 0
     }
 
@@ -296,16 +309,16 @@ impl Tree {
 }
 
 /// A reflection plane.
-#[derive(Clone, Copy, Debug)]
-pub struct Plane<'a> {
+#[derive(Clone, Debug, PartialEq)]
+pub struct Plane {
     pub normal: [f32; 3],
     pub offset: f32,
     pub min: [f32; 3],
     pub max: [f32; 3],
     pub spread: f32,
     pub area: f32,
-    pub triangles: &'a [usize],
-    pub border: &'a [([f32; 3], [f32; 3])],
+    pub triangles: Vec<usize>,
+    pub border: Vec<([f32; 3], [f32; 3])>,
     pub fitted: bool,
 }
 
@@ -319,22 +332,98 @@ pub struct Planes {
     count: usize,
 }
 
-impl Planes {
-    pub fn push(&mut self, p: &Plane) {
-        let [first, edge] = [self.members.len(), self.edges.len() / 6];
-        self.floats.extend(p.normal.into_iter().chain([p.offset]).chain(p.min).chain(p.max).chain([p.spread, p.area]));
-        self.words.extend([first, p.triangles.len(), edge, p.border.len(), p.fitted as usize].map(|w| u32::try_from(w).expect("a small plane")));
-        self.members.extend(p.triangles.iter().map(|&i| u32::try_from(i).expect("a small index")));
-        self.edges.extend(p.border.iter().flat_map(|(a, b)| [a[0], a[1], a[2], b[0], b[1], b[2]]));
-        self.count += 1;
-    }
+fn three(l: &[f32]) -> [f32; 3] {
+    [l[0], l[1], l[2]]
+}
 
+impl Planes {
     pub fn len(&self) -> usize {
         self.count
     }
 
     pub fn is_empty(&self) -> bool {
         self.count == 0
+    }
+
+    pub fn all(&self) -> Vec<Plane> {
+        (0..self.count).map(|p| self.plane(&self.floats[12 * p..], &self.words[5 * p..])).collect()
+    }
+
+    fn plane(&self, f: &[f32], w: &[u32]) -> Plane {
+        let run = |k: usize| w[k] as usize..(w[k] + w[k + 1]) as usize;
+        Plane {
+            normal: three(f), offset: f[3], min: three(&f[4..]), max: three(&f[7..]), spread: f[10], area: f[11],
+            triangles: self.members[run(0)].iter().map(|&i| i as usize).collect(),
+            border: run(2).map(|e| (three(&self.edges[6 * e..]), three(&self.edges[6 * e + 3..]))).collect(),
+            fitted: w[4] != 0,
+        }
+    }
+}
+
+/// The areas that `build_planes` works in, for columns of n floats.
+#[derive(Clone, Debug)]
+pub struct PlaneAreas {
+    n: usize,
+    hi: Vec<u64>,
+    lo: Vec<u64>,
+    words: Vec<u64>,
+    scratch: Vec<u64>,
+    index: Vec<u32>,
+    id: Vec<u32>,
+    first: Vec<u32>,
+    next: Vec<u32>,
+    of: Vec<u32>,
+    linked: Vec<u32>,
+    queue: Vec<u32>,
+    starts: Vec<u32>,
+    gfloats: Vec<f32>,
+    members: Vec<u32>,
+    rows: Vec<f32>,
+    kept: Vec<u32>,
+    edges: Vec<f32>,
+}
+
+impl PlaneAreas {
+    pub fn new(n: usize) -> PlaneAreas {
+        assert!(n <= 4096, "{n} triangles are too many");
+        PlaneAreas {
+            n, hi: vec![0; 3 * n], lo: vec![0; 3 * n], words: vec![0; 24 * n], scratch: vec![0; 24 * n], index: vec![0; 3 * n], id: vec![0; 3 * n],
+            first: vec![0; n], next: vec![0; n + 1], of: vec![0; n], linked: vec![0; 4096.max(24 * n)], queue: vec![0; 3 * n],
+            starts: vec![0; 3 * n + 1], gfloats: vec![0.0; 12 * n], members: vec![0; n + 1], rows: vec![0.0; 12 * n], kept: vec![0; 5 * n],
+            edges: vec![0.0; 18 * n],
+        }
+    }
+
+    /// The planes of the triangles of a tree, built over these `columns`; how many they are. Counts and floats are the settings, as `Lent` has them.
+    pub fn build(&mut self, tree: &Tree, columns: &[f32], counts: &[u32; 5], floats: &[f32; 11]) -> usize {
+        let (n, m) = (self.n, tree.order.len());
+        assert!(m <= n && tree.handles.len() == n, "the tree stands over columns of {} floats, not of {n}", tree.handles.len());
+        assert!(columns.len() >= COLUMNS * n, "the columns are short of {n} triangles");
+        assert!(tree.count > 0 && 6 * tree.count <= tree.padded.len() && 4 * tree.count <= tree.nodes.len() && 10 * m <= tree.rows.len());
+        debug_assert!(sound(&tree.nodes, tree.count, m));
+        // SAFETY: as asserted; the areas have the lengths of `new`, each is distinct and goes with its own length.
+        #[rustfmt::skip]
+        let count = unsafe {
+            ffi::biv_build_planes(
+                columns.as_ptr(), columns.len(), tree.handles.as_ptr(), n, n, m, counts.as_ptr(), counts.len(), floats.as_ptr(), floats.len(),
+                tree.padded.as_ptr(), tree.padded.len(), tree.nodes.as_ptr(), tree.nodes.len(), tree.order.as_ptr(), m,
+                tree.rows.as_ptr(), tree.rows.len(), tree.count,
+                self.hi.as_mut_ptr(), self.hi.len(), self.lo.as_mut_ptr(), self.lo.len(), self.words.as_mut_ptr(), self.words.len(),
+                self.scratch.as_mut_ptr(), self.scratch.len(), self.index.as_mut_ptr(), self.index.len(), self.id.as_mut_ptr(), self.id.len(),
+                self.first.as_mut_ptr(), self.first.len(), self.next.as_mut_ptr(), self.next.len(), self.of.as_mut_ptr(), self.of.len(),
+                self.linked.as_mut_ptr(), self.linked.len(), self.queue.as_mut_ptr(), self.queue.len(), self.starts.as_mut_ptr(), self.starts.len(),
+                self.gfloats.as_mut_ptr(), self.gfloats.len(), self.members.as_mut_ptr(), self.members.len(), self.rows.as_mut_ptr(), self.rows.len(),
+                self.kept.as_mut_ptr(), self.kept.len(), self.edges.as_mut_ptr(), self.edges.len(),
+            )
+        };
+        count
+    }
+
+    /// The `count` planes that `build` left.
+    pub fn planes(&self, count: usize) -> Planes {
+        let words = self.kept[..5 * count].to_vec();
+        let end = |k: usize| words.chunks_exact(5).map(|w| (w[k] + w[k + 1]) as usize).max().unwrap_or(0);
+        Planes { floats: self.rows[..12 * count].to_vec(), members: self.members[..end(0)].to_vec(), edges: self.edges[..6 * end(2)].to_vec(), words, count }
     }
 }
 
@@ -381,7 +470,7 @@ impl Scene {
         assert!(!seq.is_empty() && seq.len() <= ORDER && seq.iter().all(|&p| (p as usize) < self.planes.count), "{seq:?} is no sequence of planes");
         let (t, p) = (&self.tree, &self.planes);
         let (mut found, mut rays) = ([0.0f32; CANDIDATE_FLOATS], [0u32]);
-        // SAFETY: as asserted here and in `new`; `push` keeps the runs of each plane within their areas; found and rays are distinct.
+        // SAFETY: as asserted here and in `new`; the runs of each plane are within their areas, as `build_planes` left them; found and rays are distinct.
         #[rustfmt::skip]
         let fate = unsafe {
             ffi::biv_path(
