@@ -17,12 +17,13 @@ use Rattle.scene.specs.declared.Settings.{Settings}
 use Rattle.mirror.specs.Plane.{Plane, noPoint, planeAt}
 use Rattle.segments.specs.declared.Transmission.{Transmission}
 use Rattle.bounces.specs.Image.{imageOf, imageAt}
-use Rattle.bounces.specs.Bounces.{backOf, planeOn, bouncesOf}
+use Rattle.bounces.specs.Bounces.{Bounces, notCrossed, offSurface, made, backOf, planeOn, bouncesOf}
+use Rattle.bounces.specs.Areas.{fateOf}
 use Rattle.bounces.proofs.Laws.{back-ext}
 use Rattle.paths.specs.declared.Way.{Way}
 use Rattle.paths.specs.declared.Fate.the-variants.{TooFar}
 use Rattle.paths.specs.Visibility.{goOf, goAllOf}
-use Rattle.paths.specs.Path.{verdict, bouncedOf, pathWith, pathOf}
+use Rattle.paths.specs.Path.{verdict, bouncedOf, pathWith, pathOf, lostFate}
 use Rattle.paths.specs.Areas.{softIn}
 
 -- ---- the loops
@@ -60,28 +61,46 @@ module _ {B : Type 0} (f : B → ℕ → B) (g : B) (l : List ℕ) (k n : ℕ) w
 pub last-taken : (points : List Vec3) (n : ℕ) → 0 < n → getD (take n points) (n - 1) noPoint ≡ getD points (n - 1) noPoint
 last-taken points n h = getD-take n points (n - 1) noPoint (omega arith)
 
--- ---- the path, once the images stand in a list
+-- ---- the path, once its images are known
 
 module _ (s : Settings) (planes : List Plane) (tri : ℕ → Triangle) (t : Tree) (materials : List Float) (source listener : Vec3) (seq : List ℕ)
-    (images : List Vec3) (n : ℕ) (fits : n ≤ length seq) (are : (j : ℕ) → j ≤ n → getD images j noPoint ≡ imageOf planes source (take j seq)) where
+    (image : ℕ → Vec3) (n : ℕ) (fits : n ≤ length seq) (are : (j : ℕ) → j ≤ n → image j ≡ imageOf planes source (take j seq)) where
   pub path-far :
-      le (distance3Of listener (getD images n noPoint)) (s .«max_reflection_distance») ≡ false →
+      le (distance3Of listener (image n)) (s .«max_reflection_distance») ≡ false →
       verdict TooFar 0 ≡ pathOf s planes tri t materials source listener (take n seq)
   unfolding pathOf pathWith
   path-far h = rw (← are n (omega arith), h)
 
   pub path-near :
-      le (distance3Of listener (getD images n noPoint)) (s .«max_reflection_distance») ≡ true →
+      le (distance3Of listener (image n)) (s .«max_reflection_distance») ≡ true →
       bouncedOf (softIn tri t materials) s materials tri n source listener
-      (backOf tri (s .«reflection_edge_fade») (planeOn planes seq) (λ j. getD images j noPoint) n listener one32 [] [])
+      (backOf tri (s .«reflection_edge_fade») (planeOn planes seq) image n listener one32 [] [])
       ≡ pathOf s planes tri t materials source listener (take n seq)
   unfolding pathOf pathWith bouncesOf
   path-near h =
       let long : length (take n seq) ≡ n = length-take-le n seq fits in
       let same :
-      backOf tri (s .«reflection_edge_fade») (planeOn planes seq) (λ j. getD images j noPoint) n listener one32 [] []
+      backOf tri (s .«reflection_edge_fade») (planeOn planes seq) image n listener one32 [] []
       ≡ backOf tri (s .«reflection_edge_fade») (planeOn planes (take n seq)) (imageAt planes source (take n seq)) n listener one32 [] [] =
-      back-ext tri (s .«reflection_edge_fade») (planeOn planes seq) (planeOn planes (take n seq)) (λ j. getD images j noPoint) (imageAt planes source (take n seq)) n listener one32 [] []
+      back-ext tri (s .«reflection_edge_fade») (planeOn planes seq) (planeOn planes (take n seq)) image (imageAt planes source (take n seq)) n listener one32 [] []
       (λ j b. ap (planeAt planes) (sym (getD-take n seq j 0 b)))
       (λ j b. are j b ∙ ap (imageOf planes source) (sym (take-take j n seq b))) in
       rw (long, ← are n (omega arith), h, same)
+
+  -- what fails before a ray is traced
+  pub path-lost :
+      (r : ℕ) → le (distance3Of listener (image n)) (s .«max_reflection_distance») ≡ true →
+      r ≡ fateOf (backOf tri (s .«reflection_edge_fade») (planeOn planes seq) image n listener one32 [] []) → (r ≡ 0 → ⊥) →
+      verdict (lostFate r) 0 ≡ pathOf s planes tri t materials source listener (take n seq)
+  unfolding bouncedOf fateOf lostFate
+  path-lost r h e ne = by (backOf tri (s .«reflection_edge_fade») (planeOn planes seq) image n listener one32 [] []) e ∙ path-near h where
+    by : (b : Bounces) → r ≡ fateOf b → verdict (lostFate r) 0 ≡ bouncedOf (softIn tri t materials) s materials tri n source listener b
+    by notCrossed f = rw f
+    by offSurface f = rw f
+    by (made points tris weight) f = absurd (ne f)
+
+  pub path-lost-far :
+      (r : ℕ) → le (distance3Of listener (image n)) (s .«max_reflection_distance») ≡ false → r ≡ 1 →
+      verdict (lostFate r) 0 ≡ pathOf s planes tri t materials source listener (take n seq)
+  unfolding lostFate
+  path-lost-far r h e = rw e (path-far h)
