@@ -24,6 +24,7 @@ use Rattle.claim.specs.Query.{Search, search, judged}
 use Rattle.paths.specs.declared.PathCandidate.{PathCandidate}
 use Rattle.paths.specs.declared.Fate.{Fate}
 use Rattle.paths.specs.declared.Fate.the-variants.{TooFar, NotCrossed, OffSurface, TooLong, Faded, Blocked, Faint, Passed}
+use Rattle.paths.specs.Path.{lostFate}
 use Rattle.paths.proofs.Fate as fate
 use denote.Enum.Declared.{tagOf}
 use types.Run.{OneOf}
@@ -96,7 +97,23 @@ module _ (room m n r q : ℕ) (fs : List Float) (ws : List ℕ) (o : Bool) (s : 
       (sym (candidates-length m fs ws))
       ∙ ap (λ (u : Outcome). judged room u before s) (sym e)
 
+-- where no ray was traced
+pub judged-lost :
+    (room m n r : ℕ) (fs : List Float) (ws : List ℕ) (o : Bool) (s : List ℕ) (out : Outcome) → out ≡ fails 0 →
+    search (n + 1) r (candidatesIn m fs ws) o ≡ judged room out (search n r (candidatesIn m fs ws) o) s
+judged-lost room m n r fs ws o s out e =
+    let z : r ≡ r + 0 = omega arith in
+    ap (λ (k : ℕ). search (n + 1) k (candidatesIn m fs ws) o) z ∙ judged-fails room m n r 0 fs ws o s out e
+
 -- ---- fates
+
+pub lost-fails : (k : ℕ) → byFate (lostFate k) 0 ≡ fails 0
+unfolding lostFate
+lost-fails k = by (eqb k 2) (eqb k 3) where
+  by : (b c : Bool) → byFate (cond b NotCrossed (cond c OffSurface TooFar)) 0 ≡ fails 0
+  by true c = refl
+  by false true = refl
+  by false false = refl
 
 abbrev tag : Fate → ℕ
 tag f = tagOf fate.the-type f
