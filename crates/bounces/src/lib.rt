@@ -207,7 +207,8 @@ pub fn back(
 
 // ---- the first bounce that fails
 
-// The bounce on plane p as in `bounce_on`, but its edges are not weighed.
+// The bounce on plane p as in `bounce_on`, but its edges are not weighed. The row is read anew once the plane is crossed: the crossing takes four
+// of its seventeen values.
 fn turn_on(
     columns: &[f32],
     n: usize,
@@ -224,10 +225,11 @@ fn turn_on(
     requires { ⌜ p < count ⌝ }
     ensures { λ r. ⌜ ((tri : ℕ → Triangle) (fade : Float) → PlanesRead tri (now (columns .entry)) n (now (floats .entry)) (now (words .entry)) (now (members .entry)) count → r ≡ turnOf (bounceOf tri fade (planeAt (planesIn (now (floats .entry)) (now (words .entry)) (now (members .entry)) (now (edges .entry)) count) p) prev target)) ⌝ }
 {
-    let plane = mirror::plane_at(floats, words, p);
-    let PlaneCrossing::At(b) = mirror::crossing(plane, prev, target) else {
+    let side = mirror::plane_at(floats, words, p);
+    let PlaneCrossing::At(b) = mirror::crossing(side, prev, target) else {
         return Turn::NotCrossed;
     };
+    let plane = mirror::plane_at(floats, words, p);
     let Spot::Inside(_, q) = mirror::surface(columns, n, plane, members, b) else {
         return Turn::OffSurface;
     };

@@ -1,6 +1,6 @@
 -- Laws on the definitions: one step of each loop, and the path of a sequence whose images stand in a list.
-use mathlib.Core.Path.{_≡_, sym, ap, _∙_}
-use mathlib.Core.Bool.{true, false}
+use mathlib.Core.Path.{_≡_, refl, sym, ap, _∙_}
+use mathlib.Core.Bool.{Bool, true, false}
 use mathlib.Core.List.{List, [], _∷_, foldl}
 use Prim.Native.Nat.{ℕ, suc, _+_, _-_, _<_, _≤_}
 use native.Mathlib.Numerals.{add-one}
@@ -21,9 +21,10 @@ use Rattle.bounces.specs.Bounces.{Bounces, notCrossed, offSurface, made, backOf
 use Rattle.bounces.specs.Areas.{fateOf}
 use Rattle.bounces.proofs.Laws.{back-ext}
 use Rattle.paths.specs.declared.Way.{Way}
-use Rattle.paths.specs.declared.Fate.the-variants.{TooFar}
+use Rattle.paths.specs.declared.Fate.the-variants.{TooFar, NotCrossed, OffSurface}
+use Rattle.paths.specs.declared.Verdict.{Verdict}
 use Rattle.paths.specs.Visibility.{goOf, goAllOf}
-use Rattle.paths.specs.Path.{verdict, bouncedOf, pathWith, pathOf, lostFate}
+use Rattle.paths.specs.Path.{verdict, bouncedOf, pathWith, pathOf}
 use Rattle.paths.specs.Areas.{softIn}
 
 -- ---- the loops
@@ -87,20 +88,20 @@ module _ (s : Settings) (planes : List Plane) (tri : ℕ → Triangle) (t : Tree
       (λ j b. are j b ∙ ap (imageOf planes source) (sym (take-take j n seq b))) in
       rw (long, ← are n (omega arith), h, same)
 
-  -- what fails before a ray is traced
+  -- where not all bounces are made no ray is traced, whatever the distance
   pub path-lost :
-      (r : ℕ) → le (distance3Of listener (image n)) (s .«max_reflection_distance») ≡ true →
-      r ≡ fateOf (backOf tri (s .«reflection_edge_fade») (planeOn planes seq) image n listener one32 [] []) → (r ≡ 0 → ⊥) →
-      verdict (lostFate r) 0 ≡ pathOf s planes tri t materials source listener (take n seq)
-  unfolding bouncedOf fateOf lostFate
-  path-lost r h e ne = by (backOf tri (s .«reflection_edge_fade») (planeOn planes seq) image n listener one32 [] []) e ∙ path-near h where
-    by : (b : Bounces) → r ≡ fateOf b → verdict (lostFate r) 0 ≡ bouncedOf (softIn tri t materials) s materials tri n source listener b
-    by notCrossed f = rw f
-    by offSurface f = rw f
-    by (made points tris weight) f = absurd (ne f)
+      {A : Type 0} (f : Verdict → A) (x : A) → f (verdict TooFar 0) ≡ x → f (verdict NotCrossed 0) ≡ x → f (verdict OffSurface 0) ≡ x →
+      (fateOf (backOf tri (s .«reflection_edge_fade») (planeOn planes seq) image n listener one32 [] []) ≡ 0 → ⊥) →
+      f (pathOf s planes tri t materials source listener (take n seq)) ≡ x
+  unfolding bouncedOf fateOf
+  path-lost {A} f x far uncrossed off ne = by (le (distance3Of listener (image n)) (s .«max_reflection_distance»)) refl where
+    bounced :
+        (b : Bounces) → (fateOf b ≡ 0 → ⊥) →
+        f (bouncedOf (softIn tri t materials) s materials tri n source listener b) ≡ x
+    bounced notCrossed k = uncrossed
+    bounced offSurface k = off
+    bounced (made points tris weight) k = absurd (k refl)
 
-  pub path-lost-far :
-      (r : ℕ) → le (distance3Of listener (image n)) (s .«max_reflection_distance») ≡ false → r ≡ 1 →
-      verdict (lostFate r) 0 ≡ pathOf s planes tri t materials source listener (take n seq)
-  unfolding lostFate
-  path-lost-far r h e = rw e (path-far h)
+    by : (b : Bool) → le (distance3Of listener (image n)) (s .«max_reflection_distance») ≡ b → f (pathOf s planes tri t materials source listener (take n seq)) ≡ x
+    by true h = sym (ap f (path-near h)) ∙ bounced (backOf tri (s .«reflection_edge_fade») (planeOn planes seq) image n listener one32 [] []) ne
+    by false h = sym (ap f (path-far h)) ∙ far

@@ -1,7 +1,6 @@
 -- A PATH, from settings, scene, positions and its own sequence of planes, and from nothing found for another image (document 01): the turn of
 -- `expand_images` that tests an image, and `validate_image_path`.
 use Prim.Native.Nat.{ℕ, _-_}
-use lib.Dec.{eqb}
 use lib.Ieee.{Float, le}
 use lib.ListN.{length, getD}
 use mathlib.Core.Bool.{cond}
@@ -70,7 +69,3 @@ fateNumber Faded = 5
 fateNumber Blocked = 6
 fateNumber Faint = 7
 fateNumber (Passed c) = 0
-
--- the fates of a path that fails before a ray is traced, by their numbers
-unfoldable pub lostFate : ℕ → Fate
-lostFate k = cond (eqb k 2) NotCrossed (cond (eqb k 3) OffSurface TooFar)

@@ -6,9 +6,7 @@ use bounces::Trail;
 use scene::Settings;
 use vector::Vec3;
 ghost use mathlib.Core.Path.{_≡_};
-ghost use mathlib.Core.List.{List};
 ghost use Prim.Native.Nat.{ℕ, _+_, _*_, _^_, _<_, _≤_};
-ghost use lib.Ieee.{Float};
 ghost use lib.ListN.{length, getD, take};
 ghost use Rattle.geometry.specs.declared.Triangle.{Triangle};
 ghost use Rattle.build.specs.Tree.{Tree};
@@ -18,10 +16,10 @@ ghost use Rattle.segments.specs.Materials.{materialFloats};
 ghost use Rattle.segments.specs.Segment.{maxCrossings};
 ghost use Rattle.segments.specs.Areas.{TreeReads, Traceable};
 ghost use Rattle.bounces.specs.Image.{imageOf};
-ghost use Rattle.bounces.specs.Areas.{PlanesLent, PlanesRead, maxOrder, madeFate, trailOf, pointFloats, pointIn, Going};
+ghost use Rattle.bounces.specs.Areas.{maxOrder, madeFate, trailOf, Going};
 ghost use Rattle.paths.specs.Visibility.{startOf, goOf, wayOf};
 ghost use Rattle.paths.specs.Gains.{usableOf, reflectedOf, airGainOf, gainsOf, rejectedOf, candidateOf, arrivedOf};
-ghost use Rattle.paths.specs.Path.{verdict, bouncedOf, pathOf, lostFate};
+ghost use Rattle.paths.specs.Path.{verdict, bouncedOf, pathOf};
 ghost use Rattle.paths.specs.Areas.{softIn, Lent, ReadAs};
 
 const LEAST_ENERGY: f32 = 1e-14;
@@ -29,9 +27,6 @@ const LEAST_ENERGY: f32 = 1e-14;
 const LEAST_WEIGHT: f32 = 1e-3;
 
 const LEAST_BLOCKER: f32 = 1e-6;
-
-// The number of the fate `TooFar`.
-const TOO_FAR: u32 = 1;
 
 // What is left of a sound on the way gone so far, its length, where it has come to, and the traces made.
 pub struct Way {
@@ -329,45 +324,6 @@ fn judge(
         return counted(Fate::NotCrossed, 0);
     }
     counted(Fate::OffSurface, 0)
-}
-
-// What a search asks of an image before anything else: whether its path fails before a ray is traced. The answer is the number of that fate, or 0.
-pub fn lost(
-    columns: &[f32],
-    n: usize,
-    floats: &[f32],
-    words: &[u32],
-    members: &[u32],
-    edges: &[f32],
-    count: usize,
-    far: f32,
-    seq: &[u32],
-    images: &[f32],
-    order: usize,
-    listener: Vec3,
-) -> u32
-    requires { ⌜ PlanesLent (now columns) n (now floats) (now words) (now members) (now edges) count ⌝ }
-    requires { ⌜ (order ≤ length (now seq)) × (pointFloats * order + pointFloats ≤ length (now images)) ⌝ }
-    requires { ⌜ ((j : ℕ) → j < order → getD (now seq) j 0 < count) ⌝ }
-    ensures { λ r. ⌜ ((tri : ℕ → Triangle) (t : Tree) (materials : List Float) (s : Settings) (source : Vec3) → PlanesRead tri (now (columns .entry)) n (now (floats .entry)) (now (words .entry)) (now (members .entry)) count → s .«max_reflection_distance» ≡ far → ((j : ℕ) → j ≤ order → pointIn (now (images .entry)) j ≡ imageOf (planesIn (now (floats .entry)) (now (words .entry)) (now (members .entry)) (now (edges .entry)) count) source (take j (now (seq .entry)))) → (r ≡ 0 → ⊥) → verdict (lostFate r) 0 ≡ pathOf s (planesIn (now (floats .entry)) (now (words .entry)) (now (members .entry)) (now (edges .entry)) count) tri t materials source listener (take order (now (seq .entry)))) ⌝ }
-{
-    let image = mirror::vec_in(images, 3 * order);
-    if vector::distance3(listener, image) <= far {
-        return bounces::fate_back(
-            columns,
-            n,
-            floats,
-            words,
-            members,
-            edges,
-            count,
-            seq,
-            images,
-            order,
-            listener,
-        );
-    }
-    TOO_FAR
 }
 
 // The path by way of the first `order` planes of `seq`, whose images stand in `images`.

@@ -24,7 +24,6 @@ use Rattle.claim.specs.Query.{Search, search, judged}
 use Rattle.paths.specs.declared.PathCandidate.{PathCandidate}
 use Rattle.paths.specs.declared.Fate.{Fate}
 use Rattle.paths.specs.declared.Fate.the-variants.{TooFar, NotCrossed, OffSurface, TooLong, Faded, Blocked, Faint, Passed}
-use Rattle.paths.specs.Path.{lostFate}
 use Rattle.paths.proofs.Fate as fate
 use denote.Enum.Declared.{tagOf}
 use types.Run.{OneOf}
@@ -106,14 +105,6 @@ judged-lost room m n r fs ws o s out e =
     ap (λ (k : ℕ). search (n + 1) k (candidatesIn m fs ws) o) z ∙ judged-fails room m n r 0 fs ws o s out e
 
 -- ---- fates
-
-pub lost-fails : (k : ℕ) → byFate (lostFate k) 0 ≡ fails 0
-unfolding lostFate
-lost-fails k = by (eqb k 2) (eqb k 3) where
-  by : (b c : Bool) → byFate (cond b NotCrossed (cond c OffSurface TooFar)) 0 ≡ fails 0
-  by true c = refl
-  by false true = refl
-  by false false = refl
 
 abbrev tag : Fate → ℕ
 tag f = tagOf fate.the-type f

@@ -1,10 +1,10 @@
 -- What the search's functions ask and promise.
 use Prim.Native.Nat.{ℕ, _+_, _*_, _≤_, _<_}
 use mathlib.Core.Path.{_≡_}
-use mathlib.Core.Bool.{Bool, true, cond}
+use mathlib.Core.Bool.{Bool, true, not, cond}
 use mathlib.Core.List.{List, [], _∷_, _++_}
 use lib.ListN.{length, getD, take, set}
-use lib.Dec.{ltb}
+use lib.Dec.{ltb, eqb}
 use lib.Ieee.{Float}
 use Rattle.geometry.specs.declared.Triangle.{Triangle}
 use Rattle.build.specs.Tree.{Tree}
@@ -64,7 +64,7 @@ pub record State : Type 0 where
   pub over : Bool
 
 abbrev pub state : List ℕ → List Float → Tally → State
-state seq images t = record { seq = seq; images = images; nodes = t .nodes; rays = t .rays; found = t .found; over = t .over }
+state seq images t = record { seq = seq; images = images; nodes = t .nodes; rays = t .rays; found = t .found; over = not (eqb (t .over) 0) }
 
 -- an area with the point v at `at`
 abbrev pub pointPut : List Float → ℕ → Vec3 → List Float
@@ -135,7 +135,7 @@ pub record Walked (S : Scene) (q : Task) (depth : ℕ) (qs : List (List ℕ)) (s
 
 -- what a tally says with its rows
 abbrev pub tallied : Tally → List Float → List ℕ → Search
-tallied t fs ws = search (t .nodes) (t .rays) (candidatesIn (t .found) fs ws) (t .over)
+tallied t fs ws = search (t .nodes) (t .rays) (candidatesIn (t .found) fs ws) (not (eqb (t .over) 0))
 
 -- the path c of `len` planes, which passes, is a candidate with that number, where there is room
 pub record Kept (room len number : ℕ) (c : PathCandidate) (s : Tally) (fs : List Float) (ws : List ℕ) (r : Tally) (fs′ : List Float) (ws′ : List ℕ) : Type 0 where
@@ -147,7 +147,7 @@ pub record Kept (room len number : ℕ) (c : PathCandidate) (s : Tally) (fs : Li
       tallied r fs′ ws′
       ≡ search (s .nodes) (s .rays)
       (cond (ltb (s .found) room) (candidatesIn (s .found) fs ws ++ tapOf number seq (foundOf c) ∷ []) (candidatesIn (s .found) fs ws))
-      (cond (ltb (s .found) room) (s .over) true)
+      (cond (ltb (s .found) room) (not (eqb (s .over) 0)) true)
 
 -- the first `len` planes of the sequence were visited
 pub record Visited (S : Scene) (q : Task) (len : ℕ) (seq : List ℕ) (s : Tally) (fs : List Float) (ws : List ℕ) (r : Tally) (fs′ : List Float) (ws′ : List ℕ) : Type 0 where

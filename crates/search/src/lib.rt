@@ -26,25 +26,25 @@ ghost use Rattle.search.specs.Contract.{scene, state, pointPut, firstsOf
 // Floats of a point in an area.
 const POINT_FLOATS: usize = 3;
 
-// What is searched for, and over how much: it does not change on the way.
+// What is searched for, and over how much: it does not change on the way. What each image needs stands first, in one piece of memory.
 struct Task {
-    nodes_count: usize,
+    listener: Vec3,
+    limit: u32,
     n: usize,
     count: usize,
-    settings: Settings,
-    source: Vec3,
-    listener: Vec3,
     order: usize,
+    nodes_count: usize,
     room: usize,
-    limit: u32,
+    source: Vec3,
+    settings: Settings,
 }
 
-// What the search has counted and found.
+// What the search has counted and found, and 1 where a candidate found no room. (A bool's padding would be copied along, byte by byte.)
 struct Tally {
     nodes: u32,
     rays: u32,
     found: usize,
-    over: bool,
+    over: usize,
 }
 
 // The end of a search: images visited, rays traced, candidates held, and whether one found no room.
@@ -136,7 +136,7 @@ fn keep(
         s.found = s.found + 1;
         return s;
     }
-    s.over = true;
+    s.over = 1;
     s
 }
 
@@ -230,7 +230,7 @@ fn judge(
     keep(q.room, len, number, c, s, fs, ws)
 }
 
-// Visits the first `len` planes: nearly every path is lost before a ray is traced, and then its image is only counted.
+// Visits the first `len` planes. Of nearly every path a bounce fails: its image is then only counted, however far it is, and no root is taken.
 fn visit(
     padded: &[f32],
     nodes: &[u32],
@@ -254,8 +254,7 @@ fn visit(
     requires { ⌜ Visitable (scene (now padded) (now nodes) (now perm) (now rows) (now handles) (now materials) (now columns) (now floats) (now words) (now members) (now edges)) q len (state (now seq) (now images) t) (now fs) (now ws) ⌝ }
     ensures { λ r. ⌜ Visited (scene (now (padded .entry)) (now (nodes .entry)) (now (perm .entry)) (now (rows .entry)) (now (handles .entry)) (now (materials .entry)) (now (columns .entry)) (now (floats .entry)) (now (words .entry)) (now (members .entry)) (now (edges .entry))) q len (now (seq .entry)) t (now (fs .entry)) (now (ws .entry)) r (now (fs .exit)) (now (ws .exit)) ⌝ }
 {
-    let far = q.settings.max_reflection_distance;
-    let lost = paths::lost(
+    let fate = bounces::fate_back(
         columns,
         q.n,
         floats,
@@ -263,13 +262,12 @@ fn visit(
         members,
         edges,
         q.count,
-        far,
         seq,
         images,
         len,
         q.listener,
     );
-    if lost != 0 {
+    if fate != bounces::MADE {
         let mut s = t;
         s.nodes = s.nodes + 1;
         return s;
@@ -480,21 +478,21 @@ pub fn search_images(
         };
     }
     let q = Task {
-        nodes_count,
+        listener,
+        limit: sequences::MAX_IMAGE_NODES as u32,
         n,
         count,
-        settings,
-        source,
-        listener,
         order,
+        nodes_count,
         room,
-        limit: sequences::MAX_IMAGE_NODES as u32,
+        source,
+        settings,
     };
     let nothing = Tally {
         nodes: 0,
         rays: 0,
         found: 0,
-        over: false,
+        over: 0,
     };
     let mut seq = [0u32; 8];
     let mut images = first_images(source);
@@ -522,6 +520,6 @@ pub fn search_images(
         images: s.nodes,
         rays: s.rays,
         found: s.found,
-        over: s.over,
+        over: s.over != 0,
     }
 }
