@@ -64,6 +64,22 @@ last-taken points n h = getD-take n points (n - 1) noPoint (omega arith)
 
 -- ---- the path, once its images are known
 
+-- the bounces of its sequence
+pub path-bounces :
+    (planes : List Plane) (tri : ℕ → Triangle) (source listener : Vec3) (seq : List ℕ) (image : ℕ → Vec3) (n : ℕ) → n ≤ length seq →
+    ((j : ℕ) → j ≤ n → image j ≡ imageOf planes source (take j seq)) → (fade : Float) →
+    backOf tri fade (planeOn planes seq) image n listener one32 [] [] ≡ bouncesOf tri fade planes source listener (take n seq)
+unfolding bouncesOf
+path-bounces planes tri source listener seq image n fits are fade =
+    let long : length (take n seq) ≡ n = length-take-le n seq fits in
+    let same :
+    backOf tri fade (planeOn planes seq) image n listener one32 [] []
+    ≡ backOf tri fade (planeOn planes (take n seq)) (imageAt planes source (take n seq)) n listener one32 [] [] =
+    back-ext tri fade (planeOn planes seq) (planeOn planes (take n seq)) image (imageAt planes source (take n seq)) n listener one32 [] []
+    (λ j b. ap (planeAt planes) (sym (getD-take n seq j 0 b)))
+    (λ j b. are j b ∙ ap (imageOf planes source) (sym (take-take j n seq b))) in
+    rw (long, same)
+
 module _ (s : Settings) (planes : List Plane) (tri : ℕ → Triangle) (t : Tree) (materials : List Float) (source listener : Vec3) (seq : List ℕ)
     (image : ℕ → Vec3) (n : ℕ) (fits : n ≤ length seq) (are : (j : ℕ) → j ≤ n → image j ≡ imageOf planes source (take j seq)) where
   pub path-far :
@@ -77,16 +93,10 @@ module _ (s : Settings) (planes : List Plane) (tri : ℕ → Triangle) (t : Tree
       bouncedOf (softIn tri t materials) s materials tri n source listener
       (backOf tri (s .«reflection_edge_fade») (planeOn planes seq) image n listener one32 [] [])
       ≡ pathOf s planes tri t materials source listener (take n seq)
-  unfolding pathOf pathWith bouncesOf
+  unfolding pathOf pathWith
   path-near h =
       let long : length (take n seq) ≡ n = length-take-le n seq fits in
-      let same :
-      backOf tri (s .«reflection_edge_fade») (planeOn planes seq) image n listener one32 [] []
-      ≡ backOf tri (s .«reflection_edge_fade») (planeOn planes (take n seq)) (imageAt planes source (take n seq)) n listener one32 [] [] =
-      back-ext tri (s .«reflection_edge_fade») (planeOn planes seq) (planeOn planes (take n seq)) image (imageAt planes source (take n seq)) n listener one32 [] []
-      (λ j b. ap (planeAt planes) (sym (getD-take n seq j 0 b)))
-      (λ j b. are j b ∙ ap (imageOf planes source) (sym (take-take j n seq b))) in
-      rw (long, ← are n (omega arith), h, same)
+      rw (long, ← are n (omega arith), h, path-bounces planes tri source listener seq image n fits are (s .«reflection_edge_fade»))
 
   -- where not all bounces are made no ray is traced, whatever the distance
   pub path-lost :

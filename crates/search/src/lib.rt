@@ -71,7 +71,7 @@ fn may(floats: &[f32], words: &[u32], q: Task, seq: &[u32], depth: usize, p: usi
 }
 
 // Stores a point.
-fn put_point(l: &mut [f32], at: usize, v: Vec3)
+pub fn put_point(l: &mut [f32], at: usize, v: Vec3)
     requires { ⌜ at + pointFloats ≤ length (now l) ⌝ }
     ensures { λ _. ⌜ now (l .exit) ≡ pointPut (now (l .entry)) at v ⌝ }
 {

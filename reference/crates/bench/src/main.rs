@@ -1,5 +1,5 @@
 //! Times of the port and of the Rust on the same input, in one process, in turn: the best of several rounds each, and their ratio.
-//! Results are compared first. Areas are lent as they were left by the round before, not cleared, unless said.
+//! Results are compared first. With the word `searches` the searches alone. Areas are lent as they were left by the round before, not cleared, unless said.
 use oracle::{Case, Mesh, Row, Settings, Table, IDENTITY};
 use compare::front::{areas, lent};
 use compare::paths;
@@ -13,6 +13,9 @@ use std::time::Instant;
 const ROUNDS: usize = 40;
 
 fn main() {
+    if std::env::args().nth(1).as_deref() == Some("searches") {
+        return searches();
+    }
     println!("{:44} {:>12} {:>12} {:>7}", "", "port", "Rust", "ratio");
     roots();
     sorts();
