@@ -699,9 +699,9 @@ pub extern "C" fn biv_bounces(
     requires { ⌜ (length (now source) ≡ 3) × (length (now listener) ≡ 3) × (pointFloats * maxOrder ≤ length (now points)) ⌝ }
     ensures { λ r. ⌜ ((tri : ℕ → Triangle) → PlanesRead tri (now (columns .entry)) n (now (floats .entry)) (now (words .entry)) (now (members .entry)) count → Bounced (bouncesOf tri fade (planesIn (now (floats .entry)) (now (words .entry)) (now (members .entry)) (now (edges .entry)) count) (pointFrom (now (source .entry))) (pointFrom (now (listener .entry))) (now (seq .entry))) r (now (points .exit))) ⌝ }
 {
-    let from = point_from(source);
-    let to = point_from(listener);
-    let course = course_of(floats, words, count, seq, from);
+    let start = point_from(source);
+    let end = point_from(listener);
+    let course = course_of(floats, words, count, seq, start);
     let planes = course.seq;
     let images = course.images;
     let order = seq.len();
@@ -718,7 +718,7 @@ pub extern "C" fn biv_bounces(
         images,
         order,
         order,
-        to,
+        end,
         bounces::no_bounces(),
     );
     let all = trail.points;
