@@ -113,6 +113,15 @@ uint32_t biv_path(const float *padded, size_t padded_len, const uint32_t *nodes,
                   const uint32_t *seq, size_t seq_len, const float *source, size_t source_len, const float *listener, size_t listener_len,
                   float *found, size_t found_len, uint32_t *rays, size_t rays_len);
 
+/* bounces/specs/Bounces.antt, bouncesOf. The bounces on the planes seq (as for biv_path), found from the listener back to the source. Answers 0
+ * where all are made, else 2 (a plane is not crossed) or 3 (a point is off the surface), whatever the image's distance. points (24 floats or
+ * more) gets the points where all are made, three floats each, the one next to the source first; else it holds nothing of use. fade is the
+ * width of the edge window. */
+uint32_t biv_bounces(const float *columns, size_t columns_len, size_t n, const float *floats, size_t floats_len,
+                     const uint32_t *words, size_t words_len, const uint32_t *members, size_t members_len,
+                     const float *edges, size_t edges_len, size_t count, float fade, const uint32_t *seq, size_t seq_len,
+                     const float *source, size_t source_len, const float *listener, size_t listener_len, float *points, size_t points_len);
+
 /* ---- ranking */
 
 /* ranking/specs/Rows.antt, Ranked. Puts the positions of the candidates kept, best first, into out; answers how many. A candidate is 13

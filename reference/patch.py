@@ -121,7 +121,7 @@ p("P3c", """                self.note_rejected(st, &pts[k - 1..n], crate::debug_
 """)
 p("P3d", """        if !(total.is_finite() && total > 0.0) || total > self.config.max_reflection_distance {
             return None;
-""", """        st.log.note_path(&blocker_gain, edge_w); // ORACLE P3: coverage figures only
+""", """        st.log.note_path(&blocker_gain, edge_w, &pts[..n]); // ORACLE P3: coverage figures and the bounces, only noted
         if !(total.is_finite() && total > 0.0) || total > self.config.max_reflection_distance {
             st.log.fate(st.nodes, 4); // ORACLE P3
             return None;

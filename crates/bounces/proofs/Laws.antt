@@ -1,6 +1,6 @@
 -- Laws on the definitions: an image in one plane more, the ways that a turn back goes, and that a way back depends only on the planes and
 -- images below its start.
-use mathlib.Core.Path.{_≡_, refl, sym, ap, _∙_}
+use mathlib.Core.Path.{_≡_, refl, sym, ap, subst⁻¹, _∙_}
 use mathlib.Core.List.{List, [], _∷_, _++_}
 use Prim.Native.Nat.{ℕ, zero, suc, _+_, _-_, _<_, _≤_}
 use native.Mathlib.Numerals.{add-one}
@@ -19,8 +19,10 @@ use Rattle.bounces.specs.Image.{imageOf}
 use Rattle.bounces.specs.declared.Bounce.{Bounce}
 use Rattle.bounces.specs.declared.Bounce.the-variants.{NotCrossed, OffSurface, On}
 use Rattle.bounces.specs.declared.Trail.{Trail}
-use Rattle.bounces.specs.Bounces.{bounceOf, Bounces, thenOf, backOf}
-use Rattle.bounces.specs.Areas.{madeFate, notCrossedFate, offSurfaceFate, trailOf}
+use Rattle.bounces.specs.declared.Turn.{Turn}
+use Rattle.bounces.specs.declared.Turn.the-variants as turn
+use Rattle.bounces.specs.Bounces.{bounceOf, turnOf, Bounces, thenOf, backOf}
+use Rattle.bounces.specs.Areas.{madeFate, notCrossedFate, offSurfaceFate, fateOf, trailOf}
 
 pub never : {A : Type 0} (x m : ℕ) → x ≡ suc m → x ≡ 0 → A
 never x m a b = let no : ⊥ = omega arith in absurd no
@@ -96,6 +98,52 @@ module _ (tri : ℕ → Triangle) (fade : Float) (plane : ℕ → Plane) (image 
         (i : ℕ) (w : Float) (q : Vec3) → b ≡ On i w q →
         backOf tri fade plane image (k - 1) q (mul binary32 weight w) (q ∷ ps) (i ∷ is) ≡ backOf tri fade plane image k prev weight ps is
     back-on i w q h = rw (back-step, h)
+
+-- ---- the fate of a way back, which depends on the points alone
+
+module _ (tri : ℕ → Triangle) (fade : Float) (plane : ℕ → Plane) (image : ℕ → Vec3) where
+  -- whatever weight, points and triangles there are already
+  fate-any :
+      (k : ℕ) (prev : Vec3) (w w′ : Float) (ps ps′ : List Vec3) (is is′ : List ℕ) →
+      fateOf (backOf tri fade plane image k prev w ps is) ≡ fateOf (backOf tri fade plane image k prev w′ ps′ is′)
+  unfolding fateOf backOf
+  fate-any zero prev w w′ ps ps′ is is′ = refl
+  fate-any (suc k) prev w w′ ps ps′ is is′ = by (bounceOf tri fade (plane k) prev (image (suc k))) (λ q v v′ qs qs′ js js′. fate-any k q v v′ qs qs′ js js′) where
+    by :
+        (b : Bounce) →
+        ((q : Vec3) (v v′ : Float) (qs qs′ : List Vec3) (js js′ : List ℕ) →
+        fateOf (backOf tri fade plane image k q v qs js) ≡ fateOf (backOf tri fade plane image k q v′ qs′ js′)) →
+        fateOf (thenOf (λ i u q. backOf tri fade plane image k q (mul binary32 w u) (q ∷ ps) (i ∷ is)) b)
+        ≡ fateOf (thenOf (λ i u q. backOf tri fade plane image k q (mul binary32 w′ u) (q ∷ ps′) (i ∷ is′)) b)
+    by NotCrossed f = refl
+    by OffSurface f = refl
+    by (On i u q) f = f q (mul binary32 w u) (mul binary32 w′ u) (q ∷ ps) (q ∷ ps′) (i ∷ is) (i ∷ is′)
+
+  pub fate-none : (k : ℕ) (prev : Vec3) (w : Float) (ps : List Vec3) (is : List ℕ) → k ≡ 0 → fateOf (backOf tri fade plane image k prev w ps is) ≡ madeFate
+  unfolding fateOf backOf
+  fate-none k prev w ps is z = rw z
+
+  module _ (k : ℕ) (prev : Vec3) (w : Float) (ps : List Vec3) (is : List ℕ) (some : 0 < k) where
+    -- by the turn on plane k - 1
+    abbrev next : Turn → Type 0
+    next turn.NotCrossed = fateOf (backOf tri fade plane image k prev w ps is) ≡ notCrossedFate
+    next turn.OffSurface = fateOf (backOf tri fade plane image k prev w ps is) ≡ offSurfaceFate
+    next (turn.On q) = fateOf (backOf tri fade plane image k prev w ps is) ≡ fateOf (backOf tri fade plane image (k - 1) q w ps is)
+
+    pub fate-next : (v : Vec3) (t : Turn) → v ≡ image k → t ≡ turnOf (bounceOf tri fade (plane (k - 1)) prev v) → next t
+    unfolding fateOf
+    fate-next v t at e =
+        subst⁻¹ next (e ∙ ap (λ (u : Vec3). turnOf (bounceOf tri fade (plane (k - 1)) prev u)) at) (by (bounceOf tri fade (plane (k - 1)) prev (image k)) refl)
+      where
+        step :
+            (b : Bounce) → b ≡ bounceOf tri fade (plane (k - 1)) prev (image k) →
+            backOf tri fade plane image k prev w ps is ≡ thenOf (λ i u q. backOf tri fade plane image (k - 1) q (mul binary32 w u) (q ∷ ps) (i ∷ is)) b
+        step b f = back-step tri fade plane image k prev w ps is b (λ z. omega arith) f
+
+        by : (b : Bounce) → b ≡ bounceOf tri fade (plane (k - 1)) prev (image k) → next (turnOf b)
+        by NotCrossed f = ap fateOf (step NotCrossed f)
+        by OffSurface f = ap fateOf (step OffSurface f)
+        by (On i u q) f = ap fateOf (step (On i u q) f) ∙ fate-any (k - 1) q (mul binary32 w u) w (q ∷ ps) ps (i ∷ is) is
 
 -- ---- what a way back depends on
 

@@ -8,7 +8,8 @@ use mathlib.Core.Bool.{cond}
 use mathlib.Core.List.{List}
 use Rattle.geometry.specs.declared.Triangle.{Triangle}
 use Rattle.columns.specs.Columns.{columnCount}
-use Rattle.mirror.specs.Rows.{rowOf, trisOf, PlanesHeld, AllRead}
+use Rattle.vector.specs.declared.Vec3.{Vec3}
+use Rattle.mirror.specs.Rows.{vecIn, rowOf, trisOf, PlanesHeld, AllRead}
 use Rattle.bounces.specs.declared.Trail.{Trail}
 use Rattle.bounces.specs.Bounces.{Bounces, notCrossed, offSurface, made}
 
@@ -34,6 +35,19 @@ notCrossedFate = 2
 
 abbrev pub offSurfaceFate : ℕ
 offSurfaceFate = 3
+
+-- the fate of bounces
+unfoldable pub fateOf : Bounces → ℕ
+fateOf notCrossed = notCrossedFate
+fateOf offSurface = offSurfaceFate
+fateOf (made points tris weight) = madeFate
+
+-- floats of a point, and point k of an area of points
+abbrev pub pointFloats : ℕ
+pointFloats = 3
+
+abbrev pub pointIn : List Float → ℕ → Vec3
+pointIn l k = vecIn l (pointFloats * k)
 
 -- what a trail of n bounces says
 unfoldable pub trailOf : Trail → ℕ → Bounces

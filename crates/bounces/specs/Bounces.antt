@@ -15,6 +15,8 @@ use Rattle.mirror.specs.declared.Located.{Located}
 use Rattle.mirror.specs.declared.Located.the-variants as located
 use Rattle.bounces.specs.declared.Bounce.{Bounce}
 use Rattle.bounces.specs.declared.Bounce.the-variants.{NotCrossed, OffSurface, On}
+use Rattle.bounces.specs.declared.Turn.{Turn}
+use Rattle.bounces.specs.declared.Turn.the-variants as turn
 use Rattle.bounces.specs.Image.{imageAt}
 
 abbrev pub locatedOf : Located → Bounce
@@ -28,6 +30,12 @@ crossedOf locate (At b) = locatedOf (locate b)
 -- one turn of the loop: the segment from `prev` to the image `target` must cross the plane, and on its surface
 unfoldable pub bounceOf : (ℕ → Triangle) → Float → Plane → Vec3 → Vec3 → Bounce
 bounceOf tri fade plane prev target = crossedOf (locateOnPlaneOf tri fade plane) (crossingOf plane prev target)
+
+-- the same by its point alone
+abbrev pub turnOf : Bounce → Turn
+turnOf NotCrossed = turn.NotCrossed
+turnOf OffSurface = turn.OffSurface
+turnOf (On i w q) = turn.On q
 
 -- all turns: a plane is not crossed, or a point is off the surface, or `pts`, `tri_of` (source side first) and `edge_w`
 pub data Bounces : Type 0 where

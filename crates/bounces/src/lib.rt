@@ -1,9 +1,10 @@
 // The bounces of a path by way of a sequence of planes, found from the listener back to the source, and the images that they aim at.
 use mirror::Located;
 use mirror::PlaneCrossing;
+use mirror::Spot;
 use vector::Vec3;
 ghost use mathlib.Core.Path.{_≡_};
-ghost use mathlib.Core.List.{List, _∷_};
+ghost use mathlib.Core.List.{List, [], _∷_};
 ghost use Prim.Native.Nat.{ℕ, _+_, _*_, _<_, _≤_};
 ghost use lib.ListN.{length, getD};
 ghost use lib.Seq.{slice};
@@ -14,18 +15,31 @@ ghost use Rattle.mirror.specs.Plane.{noPoint, planeAt};
 ghost use Rattle.mirror.specs.Mirror.{mirrorOf};
 ghost use Rattle.mirror.specs.Rows.{planeFloats, planeWords, planesIn};
 ghost use Rattle.bounces.specs.Image.{liesOnOf};
-ghost use Rattle.bounces.specs.Bounces.{bounceOf, backOf, planeOn};
-ghost use Rattle.bounces.specs.Areas.{PlanesLent, PlanesRead, maxOrder, madeFate, trailOf, Going};
+ghost use Rattle.bounces.specs.Bounces.{bounceOf, turnOf, backOf, planeOn};
+ghost use Rattle.bounces.specs.Areas.{PlanesLent, PlanesRead, maxOrder, madeFate, trailOf, fateOf, pointIn, pointFloats, Going};
+
+// What a trail's fate is where all its bounces are made.
+pub const MADE: u32 = 0;
 
 pub const NOT_CROSSED: u32 = 2;
 
 pub const OFF_SURFACE: u32 = 3;
+
+// Floats of a point in an area.
+const POINT_FLOATS: usize = 3;
 
 // One bounce: the triangle, the edge weight and the point.
 pub enum Bounce {
     NotCrossed,
     OffSurface,
     On(usize, f32, Vec3),
+}
+
+// One bounce by its point alone.
+pub enum Turn {
+    NotCrossed,
+    OffSurface,
+    On(Vec3),
 }
 
 // The bounces found so far, source side first, and the product of their weights. The fate is 0, or that of the first bounce that failed.
@@ -189,4 +203,81 @@ pub fn back(
             put(t, d, i, w, q),
         ),
     }
+}
+
+// ---- the first bounce that fails
+
+// The bounce on plane p as in `bounce_on`, but its edges are not weighed. The row is read anew once the plane is crossed: the crossing takes four
+// of its seventeen values.
+fn turn_on(
+    columns: &[f32],
+    n: usize,
+    floats: &[f32],
+    words: &[u32],
+    members: &[u32],
+    edges: &[f32],
+    count: usize,
+    p: usize,
+    prev: Vec3,
+    target: Vec3,
+) -> Turn
+    requires { ⌜ PlanesLent (now columns) n (now floats) (now words) (now members) (now edges) count ⌝ }
+    requires { ⌜ p < count ⌝ }
+    ensures { λ r. ⌜ ((tri : ℕ → Triangle) (fade : Float) → PlanesRead tri (now (columns .entry)) n (now (floats .entry)) (now (words .entry)) (now (members .entry)) count → r ≡ turnOf (bounceOf tri fade (planeAt (planesIn (now (floats .entry)) (now (words .entry)) (now (members .entry)) (now (edges .entry)) count) p) prev target)) ⌝ }
+{
+    let side = mirror::plane_at(floats, words, p);
+    let PlaneCrossing::At(b) = mirror::crossing(side, prev, target) else {
+        return Turn::NotCrossed;
+    };
+    let plane = mirror::plane_at(floats, words, p);
+    let Spot::Inside(_, q) = mirror::surface(columns, n, plane, members, b) else {
+        return Turn::OffSurface;
+    };
+    Turn::On(q)
+}
+
+// The fate of the bounces on the first `order` planes, whose images stand in `images`. Nothing is kept of them: of the sequences that a search
+// visits nearly all fail here, most at the first or second bounce.
+pub fn fate_back(
+    columns: &[f32],
+    n: usize,
+    floats: &[f32],
+    words: &[u32],
+    members: &[u32],
+    edges: &[f32],
+    count: usize,
+    seq: &[u32],
+    images: &[f32],
+    order: usize,
+    listener: Vec3,
+) -> u32
+    requires { ⌜ PlanesLent (now columns) n (now floats) (now words) (now members) (now edges) count ⌝ }
+    requires { ⌜ (order ≤ length (now seq)) × (pointFloats * order + pointFloats ≤ length (now images)) ⌝ }
+    requires { ⌜ ((j : ℕ) → j < order → getD (now seq) j 0 < count) ⌝ }
+    ensures { λ r. ⌜ ((tri : ℕ → Triangle) (fade : Float) → PlanesRead tri (now (columns .entry)) n (now (floats .entry)) (now (words .entry)) (now (members .entry)) count → r ≡ fateOf (backOf tri fade (planeOn (planesIn (now (floats .entry)) (now (words .entry)) (now (members .entry)) (now (edges .entry)) count) (now (seq .entry))) (pointIn (now (images .entry))) order listener one32 [] [])) ⌝ }
+{
+    let mut prev = listener;
+    let mut k = order;
+    while 0 < k {
+        let target = mirror::vec_in(images, POINT_FLOATS * k);
+        k -= 1;
+        let p = seq[k] as usize;
+        match turn_on(
+            columns,
+            n,
+            floats,
+            words,
+            members,
+            edges,
+            count,
+            p,
+            prev,
+            target,
+        ) {
+            Turn::NotCrossed => return NOT_CROSSED,
+            Turn::OffSurface => return OFF_SURFACE,
+            Turn::On(q) => prev = q,
+        }
+    }
+    MADE
 }

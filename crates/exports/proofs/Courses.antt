@@ -1,19 +1,26 @@
 -- Laws on a course of planes: none, one plane more, all of them; and the number of a path.
-use mathlib.Core.Path.{_≡_, refl, sym, ap, _∙_}
+use mathlib.Core.Path.{_≡_, refl, sym, ap, subst, _∙_}
+use mathlib.Core.Bool.{Bool, true, false, cond}
 use mathlib.Core.List.{List, [], _∷_, _++_}
-use Prim.Native.Nat.{ℕ, zero, suc, _+_, _<_, _≤_}
+use Prim.Native.Nat.{ℕ, zero, suc, _+_, _*_, _<_, _≤_}
 use native.Mathlib.Numerals.{add-one}
 use native.Mathlib.Omega.{arith}
 use lib.Ieee.{Float}
-use lib.ListN.{length, getD, set, take, length-set}
-use lib.Seq.{sets, take-suc, take-suc-set, take-all}
+use lib.Dec.{eqb}
+use lib.ListN.{length, getD, set, take, length-set, length-take}
+use lib.Seq.{sets, take-suc, take-suc-set, take-all, getD-take}
+use Rattle.float.proofs.Numbers.{by-order}
 use borrow.Author.Tests.{ne-eqb}
 use Rattle.vector.specs.declared.Vec3.{Vec3}
 use Rattle.mirror.specs.Plane.{noPoint, planeAt}
 use Rattle.mirror.specs.Mirror.{mirrorOf}
 use Rattle.mirror.specs.Rows.{planesIn}
 use Rattle.bounces.specs.Image.{imageOf}
-use Rattle.bounces.specs.Areas.{maxOrder}
+use Rattle.bounces.specs.declared.Trail.{Trail}
+use Rattle.bounces.specs.Bounces.{Bounces, notCrossed, offSurface, made}
+use Rattle.bounces.specs.Areas.{maxOrder, madeFate, notCrossedFate, offSurfaceFate, fateOf, trailOf, pointFloats, pointIn}
+use Rattle.search.specs.Contract.{pointPut}
+use Rattle.search.proofs.Points.{put-same, put-other}
 use Rattle.bounces.proofs.Laws.{images-put}
 use Rattle.paths.specs.declared.Fate.{Fate}
 use Rattle.paths.specs.declared.Fate.the-variants.{TooFar, NotCrossed, OffSurface, TooLong, Faded, Blocked, Faint, Passed}
@@ -21,7 +28,7 @@ use Rattle.paths.specs.Path.{fateNumber}
 use Rattle.paths.specs.declared.Verdict.{Verdict}
 use Rattle.exports.specs.declared.Course.{Course}
 use Rattle.exports.specs.declared.FlatPath.{FlatPath}
-use Rattle.exports.specs.Paths.{Coursed, nothingOf, flatPathOf, pathFloats, Walked}
+use Rattle.exports.specs.Paths.{Coursed, nothingOf, flatPathOf, pathFloats, Walked, trailFate, pointsOf, Bounced}
 
 abbrev pub course : List ℕ → List Vec3 → Course
 course seq images = record { seq = seq; images = images }
@@ -101,3 +108,52 @@ pub walked-not :
 walked-not v p found rays e z =
     let n : fateNumber (v .fate) ≡ p .number = sym (number-of (v .fate)) ∙ rw (← e) in
     record { fate-is = sym n; floats = rw (n, ne-eqb (p .number) 0 z); traced = refl }
+
+-- ---- the points of bounces
+
+module _ (t : Trail) (n : ℕ) where
+  abbrev said : Bool → Bool → Bounces
+  said c d = cond c (made (take n (t .points)) (take n (t .tris)) (t .weight)) (cond d notCrossed offSurface)
+
+  trail-number : trailFate (t .fate) ≡ fateOf (trailOf t n)
+  unfolding trailFate trailOf fateOf
+  trail-number = by (eqb (t .fate) madeFate) (eqb (t .fate) notCrossedFate) where
+    by : (c d : Bool) → cond c madeFate (cond d notCrossedFate offSurfaceFate) ≡ fateOf (said c d)
+    by true d = refl
+    by false true = refl
+    by false false = refl
+
+  -- a point that a trail has
+  trail-point :
+      (j : ℕ) → j < length (pointsOf (trailOf t n)) → (j < n) × (getD (t .points) j noPoint ≡ getD (pointsOf (trailOf t n)) j noPoint)
+  unfolding trailOf
+  trail-point j = by (eqb (t .fate) madeFate) (eqb (t .fate) notCrossedFate) where
+    by : (c d : Bool) → j < length (pointsOf (said c d)) → (j < n) × (getD (t .points) j noPoint ≡ getD (pointsOf (said c d)) j noPoint)
+    by true d h = let k : j < n = omega (arith, length-take n (t .points)) in (k, sym (getD-take n (t .points) j noPoint k))
+    by false true h = absurd (let no : ⊥ = omega arith in no)
+    by false false h = absurd (let no : ⊥ = omega arith in no)
+
+  -- what a trail says, by its fate's number and its points
+  pub bounced-trail :
+      (b : Bounces) (r : ℕ) (points : List Float) → n ≤ maxOrder → trailOf t n ≡ b → r ≡ trailFate (t .fate) →
+      ((j : ℕ) → j < maxOrder → pointIn points j ≡ getD (t .points) j noPoint) → Bounced b r points
+  bounced-trail b r points few is e are =
+      subst (λ (u : Bounces). Bounced u r points) is
+      (record {
+        fate-is = e ∙ trail-number;
+        points-are = λ j h. let k = trail-point j h in are j (omega (arith, k .0)) ∙ k .1;
+      })
+
+-- one point more
+pub points-more :
+    (l : List Float) (all : List Vec3) (k : ℕ) → pointFloats * maxOrder ≤ length l → k < maxOrder →
+    ((j : ℕ) → j < k → pointIn l j ≡ getD all j noPoint) →
+    (j : ℕ) → j < k + 1 → pointIn (pointPut l (pointFloats * k) (getD all k noPoint)) j ≡ getD all j noPoint
+points-more l all k room low are j h =
+    by-order k j
+    (λ e.
+    let z : j ≡ k = omega arith in
+    ap (pointIn (pointPut l (pointFloats * k) (getD all k noPoint))) z
+    ∙ put-same l (pointFloats * k) (getD all k noPoint) (omega arith)
+    ∙ ap (λ (i : ℕ). getD all i noPoint) (sym z))
+    (λ b. put-other l (pointFloats * k) (getD all k noPoint) (pointFloats * j) (omega arith) ∙ are j b)

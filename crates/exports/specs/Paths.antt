@@ -1,5 +1,5 @@
 -- A path as numbers: the course of a sequence of planes, and what `biv_path` leaves for a verdict of `validate_image_path`.
-use Prim.Native.Nat.{ℕ, _+_, _≤_}
+use Prim.Native.Nat.{ℕ, _+_, _≤_, _<_}
 use lib.Dec.{eqb}
 use lib.Ieee.{Float, nan}
 use lib.ListN.{length, getD, take}
@@ -14,7 +14,8 @@ use Rattle.bands.specs.Band8.{splatOf}
 use Rattle.mirror.specs.Plane.{noPoint}
 use Rattle.mirror.specs.Rows.{planesIn}
 use Rattle.bounces.specs.Image.{imageOf}
-use Rattle.bounces.specs.Areas.{maxOrder}
+use Rattle.bounces.specs.Bounces.{Bounces, notCrossed, offSurface, made}
+use Rattle.bounces.specs.Areas.{maxOrder, madeFate, notCrossedFate, offSurfaceFate, fateOf, pointIn}
 use Rattle.paths.specs.declared.Fate.{Fate}
 use Rattle.paths.specs.declared.Fate.the-variants.{TooFar, NotCrossed, OffSurface, TooLong, Faded, Blocked, Faint, Passed}
 use Rattle.paths.specs.declared.Verdict.{Verdict}
@@ -60,3 +61,18 @@ pub record Walked (v : Verdict) (found : List Float) (rays : List ℕ) (r : ℕ)
   pub fate-is : r ≡ fateNumber (v .fate)
   pub floats : found′ ≡ cond (eqb (fateNumber (v .fate)) 0) (sets found 0 (pathFloats (flatPathOf (v .fate)))) found
   pub traced : rays′ ≡ sets rays 0 (v .rays ∷ [])
+
+-- the number of a trail's fate: it is one of three
+unfoldable pub trailFate : ℕ → ℕ
+trailFate k = cond (eqb k madeFate) madeFate (cond (eqb k notCrossedFate) notCrossedFate offSurfaceFate)
+
+-- the points of bounces that were all made
+abbrev pub pointsOf : Bounces → List Vec3
+pointsOf notCrossed = []
+pointsOf offSurface = []
+pointsOf (made points tris weight) = points
+
+-- the answer is the fate's number; the points stand one after the other
+pub record Bounced (b : Bounces) (r : ℕ) (points : List Float) : Type 0 where
+  pub fate-is : r ≡ fateOf b
+  pub points-are : (j : ℕ) → j < length (pointsOf b) → pointIn points j ≡ getD (pointsOf b) j noPoint

@@ -44,10 +44,12 @@ ghost use Rattle.patches.specs.Triangles.{trianglesIn};
 ghost use Rattle.buried.specs.Probe.{probeOf, Traced};
 ghost use Rattle.planes.specs.Build.{planeSettings, planesOf};
 ghost use Rattle.planes.specs.Areas.{TrianglesLent, PlanesRoom};
-ghost use Rattle.bounces.specs.Areas.{maxOrder};
+ghost use Rattle.mirror.specs.Plane.{noPoint};
+ghost use Rattle.bounces.specs.Bounces.{bouncesOf};
+ghost use Rattle.bounces.specs.Areas.{maxOrder, PlanesLent, PlanesRead, pointFloats, pointIn};
 ghost use Rattle.paths.specs.Path.{pathOf};
 ghost use Rattle.paths.specs.Areas.{Lent as PathsLent, ReadAs};
-ghost use Rattle.exports.specs.Paths.{pointFrom, Coursed, nothingOf, flatPathOf, pathFloats, Walked};
+ghost use Rattle.exports.specs.Paths.{pointFrom, Coursed, nothingOf, flatPathOf, pathFloats, Walked, trailFate, Bounced};
 
 // ---- numbers
 
@@ -725,6 +727,81 @@ pub extern "C" fn biv_path(
         return 0;
     }
     path.number
+}
+
+// The eight points of a trail, one after the other.
+fn put_points(points: &mut [f32], all: [Vec3; 8])
+    requires { ⌜ pointFloats * maxOrder ≤ length (now points) ⌝ }
+    ensures { λ _. ⌜ ((j : ℕ) → j < maxOrder → pointIn (now (points .exit)) j ≡ getD all j noPoint) ⌝ }
+{
+    let mut k = 0;
+    while k < 8 {
+        search::put_point(points, 3 * k, all[k]);
+        k += 1;
+    }
+}
+
+// A trail's fate by its number.
+fn fate_number(fate: u32) -> u32
+    ensures { λ r. ⌜ r ≡ trailFate fate ⌝ }
+{
+    if fate == bounces::MADE {
+        return bounces::MADE;
+    }
+    if fate == bounces::NOT_CROSSED {
+        return bounces::NOT_CROSSED;
+    }
+    bounces::OFF_SURFACE
+}
+
+// The bounces of one sequence of 1 to 8 planes, as `validate_image_path` finds them. The answer is the fate's number, 0 where all are made:
+// `points` then has them, the one next to the source first.
+#[no_mangle]
+pub extern "C" fn biv_bounces(
+    columns: &[f32],
+    n: usize,
+    floats: &[f32],
+    words: &[u32],
+    members: &[u32],
+    edges: &[f32],
+    count: usize,
+    fade: f32,
+    seq: &[u32],
+    source: &[f32],
+    listener: &[f32],
+    points: &mut [f32],
+) -> u32
+    requires { ⌜ PlanesLent (now columns) n (now floats) (now words) (now members) (now edges) count ⌝ }
+    requires { ⌜ (1 ≤ length (now seq)) × (length (now seq) ≤ maxOrder) ⌝ }
+    requires { ⌜ ((j : ℕ) → j < length (now seq) → getD (now seq) j 0 < count) ⌝ }
+    requires { ⌜ (length (now source) ≡ 3) × (length (now listener) ≡ 3) × (pointFloats * maxOrder ≤ length (now points)) ⌝ }
+    ensures { λ r. ⌜ ((tri : ℕ → Triangle) → PlanesRead tri (now (columns .entry)) n (now (floats .entry)) (now (words .entry)) (now (members .entry)) count → Bounced (bouncesOf tri fade (planesIn (now (floats .entry)) (now (words .entry)) (now (members .entry)) (now (edges .entry)) count) (pointFrom (now (source .entry))) (pointFrom (now (listener .entry))) (now (seq .entry))) r (now (points .exit))) ⌝ }
+{
+    let start = point_from(source);
+    let end = point_from(listener);
+    let course = course_of(floats, words, count, seq, start);
+    let planes = course.seq;
+    let images = course.images;
+    let order = seq.len();
+    let trail = bounces::back(
+        columns,
+        n,
+        floats,
+        words,
+        members,
+        edges,
+        count,
+        fade,
+        planes,
+        images,
+        order,
+        order,
+        end,
+        bounces::no_bounces(),
+    );
+    let all = trail.points;
+    put_points(points, all);
+    fate_number(trail.fate)
 }
 
 // `expand_images`: all sequences of up to `order` planes in turn, each with its path. `found` gets images, rays and candidates; the rows of the

@@ -1,6 +1,6 @@
 -- The laws that the proofs cite: the plane at an index, the runs of a plane, and one step of each loop over them.
 use mathlib.Core.Path.{_≡_, refl, ap, _∙_}
-use mathlib.Core.Bool.{cond}
+use mathlib.Core.Bool.{Bool, true, false, cond}
 use mathlib.Core.List.{List, [], _∷_, _++_, map, foldl}
 use Prim.Native.Nat.{ℕ, zero, suc, _+_, _-_, _<_, _≤_}
 use native.Mathlib.Numerals.{add-one}
@@ -15,12 +15,14 @@ use Rattle.geometry.specs.declared.Triangle.{Triangle}
 use Rattle.geometry.specs.Intersect.{intersectMaxOf}
 use Rattle.geometry.specs.Contains.{containsOf, containsPointOf}
 use Rattle.columns.specs.Columns.{vecAtOf, edgesAtOf, dotsAtOf}
-use Rattle.mirror.specs.Plane.{noPlane, planeAt}
-use Rattle.mirror.specs.Border.{nearerOf}
-use Rattle.mirror.specs.Locate.{snapOf, snapEdgesOf, snapAllOf, findOf}
+use Rattle.mirror.specs.Plane.{Plane, noPlane, planeAt}
+use Rattle.mirror.specs.Border.{nearerOf, weightOf}
+use Rattle.mirror.specs.Locate.{snapOf, snapEdgesOf, snapAllOf, findOf, containsInBoxOf, spotOf, surfaceOf, weighedOf, locateOnPlaneOf}
 use Rattle.mirror.specs.Rows.{edgeIn, edgesIn, planeIn, planesIn, ReadsAs}
 use Rattle.mirror.specs.declared.Snap.{Snap}
+use Rattle.mirror.specs.declared.Spot.{Spot}
 use Rattle.mirror.specs.declared.Spot.the-variants.{Outside, Inside}
+use Rattle.mirror.specs.declared.Located.the-variants.{Off}
 
 -- ---- the plane at an index
 
@@ -107,3 +109,15 @@ module _ (tri : ℕ → Triangle) (members : List ℕ) (k : ℕ) where
   pub find-done : (p : Vec3) → length members ≤ k → findOf tri p (drop k members) ≡ Outside
   unfolding findOf
   find-done p h = rw (drop-of-length-le members h)
+
+-- ---- the surface
+
+-- a point is located where it has a spot, which is then weighed
+pub locate-surface :
+    (tri : ℕ → Triangle) (fade : Float) (plane : Plane) (p : Vec3) →
+    locateOnPlaneOf tri fade plane p ≡ weighedOf (weightOf (plane .border) fade) (surfaceOf tri plane p)
+unfolding locateOnPlaneOf surfaceOf
+locate-surface tri fade plane p = by (containsInBoxOf plane p) where
+  by : (b : Bool) → cond b (weighedOf (weightOf (plane .border) fade) (spotOf tri plane p)) Off ≡ weighedOf (weightOf (plane .border) fade) (cond b (spotOf tri plane p) Outside)
+  by true = refl
+  by false = refl

@@ -80,6 +80,10 @@ unfoldable pub spotOf : (ℕ → Triangle) → Plane → Vec3 → Spot
 spotOf tri plane p =
     cond (plane .fitted) (snappedOf plane p (snapAllOf tri (normalRayOf plane p) (plane .tris) Missed)) (findOf tri p (plane .tris))
 
+-- the spot of a point in the plane's box
+unfoldable pub surfaceOf : (ℕ → Triangle) → Plane → Vec3 → Spot
+surfaceOf tri plane p = cond (containsInBoxOf plane p) (spotOf tri plane p) Outside
+
 abbrev pub weighedOf : (Vec3 → Float) → Spot → Located
 weighedOf weight Outside = Off
 weighedOf weight (Inside i q) = On i (weight q) q

@@ -14,7 +14,7 @@ ghost use Rattle.columns.specs.Columns.{columnCount};
 ghost use Rattle.mirror.specs.Plane.{Edge};
 ghost use Rattle.mirror.specs.Mirror.{signedDistanceOf, mirrorOf, alongOf, crossingOf};
 ghost use Rattle.mirror.specs.Border.{nearestOf, pointSegmentDistanceOf, borderDistanceOf, smoothOf, weightOf};
-ghost use Rattle.mirror.specs.Locate.{withinOf, containsInBoxOf, snapEdgesOf, snapAllOf, normalRayOf, findOf, spotOf, locateOnPlaneOf};
+ghost use Rattle.mirror.specs.Locate.{withinOf, containsInBoxOf, snapEdgesOf, snapAllOf, normalRayOf, findOf, spotOf, surfaceOf, locateOnPlaneOf};
 ghost use Rattle.mirror.specs.Rows.{planeFloats, planeWords, edgeFloats, vecIn, rowOf, edgeIn, edgesIn, trisOf, borderOf, planeOf, RunsIn, AllRead};
 
 pub const PLANE_SIDE_EPS: f32 = 1e-4;
@@ -73,7 +73,7 @@ fn wide(x: u32) -> usize
     x as usize
 }
 
-fn vec_in(l: &[f32], at: usize) -> Vec3
+pub fn vec_in(l: &[f32], at: usize) -> Vec3
     requires { ⌜ at + 3 ≤ length (now l) ⌝ }
     ensures { λ r. ⌜ r ≡ vecIn (now (l .entry)) at ⌝ }
 {
@@ -323,6 +323,20 @@ fn spot_on(columns: &[f32], n: usize, plane: PlaneRow, members: &[u32], p: Vec3)
     find(columns, n, p, members)
 }
 
+// Where a point of the plane lies on the surface: the box is asked before the point is moved.
+pub fn surface(columns: &[f32], n: usize, plane: PlaneRow, members: &[u32], p: Vec3) -> Spot
+    requires { ⌜ columnCount * n ≤ length (now columns) ⌝ }
+    requires { ⌜ (plane .first + plane .count ≤ length (now members)) × Below n (trisOf plane (now members)) ⌝ }
+    ensures { λ r. ⌜ ((tri : ℕ → Triangle) (es : List Edge) → AllRead tri (now (columns .entry)) n (trisOf plane (now (members .entry))) → r ≡ surfaceOf tri (planeOf plane (trisOf plane (now (members .entry))) es) p) ⌝ }
+{
+    if contains_in_box(plane, p) {
+        let first = plane.first;
+        let end = first + plane.count;
+        return spot_on(columns, n, plane, &members[first..end], p);
+    }
+    Spot::Outside
+}
+
 pub fn locate_on_plane(
     columns: &[f32],
     n: usize,
@@ -336,13 +350,8 @@ pub fn locate_on_plane(
     requires { ⌜ RunsIn plane n (now members) (now edges) ⌝ }
     ensures { λ r. ⌜ ((tri : ℕ → Triangle) → AllRead tri (now (columns .entry)) n (trisOf plane (now (members .entry))) → r ≡ locateOnPlaneOf tri fade (planeOf plane (trisOf plane (now (members .entry))) (borderOf plane (now (edges .entry)))) p) ⌝ }
 {
-    if contains_in_box(plane, p) {
-        let first = plane.first;
-        let end = first + plane.count;
-        let Spot::Inside(i, q) = spot_on(columns, n, plane, &members[first..end], p) else {
-            return Located::Off;
-        };
-        return Located::On(i, weight(edges, plane.edge, plane.edges, fade, q), q);
-    }
-    Located::Off
+    let Spot::Inside(i, q) = surface(columns, n, plane, members, p) else {
+        return Located::Off;
+    };
+    Located::On(i, weight(edges, plane.edge, plane.edges, fade, q), q)
 }

@@ -1,6 +1,6 @@
 -- Laws on the definitions: one step of each loop, and the path of a sequence whose images stand in a list.
-use mathlib.Core.Path.{_≡_, sym, ap, _∙_}
-use mathlib.Core.Bool.{true, false}
+use mathlib.Core.Path.{_≡_, refl, sym, ap, _∙_}
+use mathlib.Core.Bool.{Bool, true, false}
 use mathlib.Core.List.{List, [], _∷_, foldl}
 use Prim.Native.Nat.{ℕ, suc, _+_, _-_, _<_, _≤_}
 use native.Mathlib.Numerals.{add-one}
@@ -17,10 +17,12 @@ use Rattle.scene.specs.declared.Settings.{Settings}
 use Rattle.mirror.specs.Plane.{Plane, noPoint, planeAt}
 use Rattle.segments.specs.declared.Transmission.{Transmission}
 use Rattle.bounces.specs.Image.{imageOf, imageAt}
-use Rattle.bounces.specs.Bounces.{backOf, planeOn, bouncesOf}
+use Rattle.bounces.specs.Bounces.{Bounces, notCrossed, offSurface, made, backOf, planeOn, bouncesOf}
+use Rattle.bounces.specs.Areas.{fateOf}
 use Rattle.bounces.proofs.Laws.{back-ext}
 use Rattle.paths.specs.declared.Way.{Way}
-use Rattle.paths.specs.declared.Fate.the-variants.{TooFar}
+use Rattle.paths.specs.declared.Fate.the-variants.{TooFar, NotCrossed, OffSurface}
+use Rattle.paths.specs.declared.Verdict.{Verdict}
 use Rattle.paths.specs.Visibility.{goOf, goAllOf}
 use Rattle.paths.specs.Path.{verdict, bouncedOf, pathWith, pathOf}
 use Rattle.paths.specs.Areas.{softIn}
@@ -60,28 +62,56 @@ module _ {B : Type 0} (f : B → ℕ → B) (g : B) (l : List ℕ) (k n : ℕ) w
 pub last-taken : (points : List Vec3) (n : ℕ) → 0 < n → getD (take n points) (n - 1) noPoint ≡ getD points (n - 1) noPoint
 last-taken points n h = getD-take n points (n - 1) noPoint (omega arith)
 
--- ---- the path, once the images stand in a list
+-- ---- the path, once its images are known
+
+-- the bounces of its sequence
+pub path-bounces :
+    (planes : List Plane) (tri : ℕ → Triangle) (source listener : Vec3) (seq : List ℕ) (image : ℕ → Vec3) (n : ℕ) → n ≤ length seq →
+    ((j : ℕ) → j ≤ n → image j ≡ imageOf planes source (take j seq)) → (fade : Float) →
+    backOf tri fade (planeOn planes seq) image n listener one32 [] [] ≡ bouncesOf tri fade planes source listener (take n seq)
+unfolding bouncesOf
+path-bounces planes tri source listener seq image n fits are fade =
+    let long : length (take n seq) ≡ n = length-take-le n seq fits in
+    let same :
+    backOf tri fade (planeOn planes seq) image n listener one32 [] []
+    ≡ backOf tri fade (planeOn planes (take n seq)) (imageAt planes source (take n seq)) n listener one32 [] [] =
+    back-ext tri fade (planeOn planes seq) (planeOn planes (take n seq)) image (imageAt planes source (take n seq)) n listener one32 [] []
+    (λ j b. ap (planeAt planes) (sym (getD-take n seq j 0 b)))
+    (λ j b. are j b ∙ ap (imageOf planes source) (sym (take-take j n seq b))) in
+    rw (long, same)
 
 module _ (s : Settings) (planes : List Plane) (tri : ℕ → Triangle) (t : Tree) (materials : List Float) (source listener : Vec3) (seq : List ℕ)
-    (images : List Vec3) (n : ℕ) (fits : n ≤ length seq) (are : (j : ℕ) → j ≤ n → getD images j noPoint ≡ imageOf planes source (take j seq)) where
+    (image : ℕ → Vec3) (n : ℕ) (fits : n ≤ length seq) (are : (j : ℕ) → j ≤ n → image j ≡ imageOf planes source (take j seq)) where
   pub path-far :
-      le (distance3Of listener (getD images n noPoint)) (s .«max_reflection_distance») ≡ false →
+      le (distance3Of listener (image n)) (s .«max_reflection_distance») ≡ false →
       verdict TooFar 0 ≡ pathOf s planes tri t materials source listener (take n seq)
   unfolding pathOf pathWith
   path-far h = rw (← are n (omega arith), h)
 
   pub path-near :
-      le (distance3Of listener (getD images n noPoint)) (s .«max_reflection_distance») ≡ true →
+      le (distance3Of listener (image n)) (s .«max_reflection_distance») ≡ true →
       bouncedOf (softIn tri t materials) s materials tri n source listener
-      (backOf tri (s .«reflection_edge_fade») (planeOn planes seq) (λ j. getD images j noPoint) n listener one32 [] [])
+      (backOf tri (s .«reflection_edge_fade») (planeOn planes seq) image n listener one32 [] [])
       ≡ pathOf s planes tri t materials source listener (take n seq)
-  unfolding pathOf pathWith bouncesOf
+  unfolding pathOf pathWith
   path-near h =
       let long : length (take n seq) ≡ n = length-take-le n seq fits in
-      let same :
-      backOf tri (s .«reflection_edge_fade») (planeOn planes seq) (λ j. getD images j noPoint) n listener one32 [] []
-      ≡ backOf tri (s .«reflection_edge_fade») (planeOn planes (take n seq)) (imageAt planes source (take n seq)) n listener one32 [] [] =
-      back-ext tri (s .«reflection_edge_fade») (planeOn planes seq) (planeOn planes (take n seq)) (λ j. getD images j noPoint) (imageAt planes source (take n seq)) n listener one32 [] []
-      (λ j b. ap (planeAt planes) (sym (getD-take n seq j 0 b)))
-      (λ j b. are j b ∙ ap (imageOf planes source) (sym (take-take j n seq b))) in
-      rw (long, ← are n (omega arith), h, same)
+      rw (long, ← are n (omega arith), h, path-bounces planes tri source listener seq image n fits are (s .«reflection_edge_fade»))
+
+  -- where not all bounces are made no ray is traced, whatever the distance
+  pub path-lost :
+      {A : Type 0} (f : Verdict → A) (x : A) → f (verdict TooFar 0) ≡ x → f (verdict NotCrossed 0) ≡ x → f (verdict OffSurface 0) ≡ x →
+      (fateOf (backOf tri (s .«reflection_edge_fade») (planeOn planes seq) image n listener one32 [] []) ≡ 0 → ⊥) →
+      f (pathOf s planes tri t materials source listener (take n seq)) ≡ x
+  unfolding bouncedOf fateOf
+  path-lost {A} f x far uncrossed off ne = by (le (distance3Of listener (image n)) (s .«max_reflection_distance»)) refl where
+    bounced :
+        (b : Bounces) → (fateOf b ≡ 0 → ⊥) →
+        f (bouncedOf (softIn tri t materials) s materials tri n source listener b) ≡ x
+    bounced notCrossed k = uncrossed
+    bounced offSurface k = off
+    bounced (made points tris weight) k = absurd (k refl)
+
+    by : (b : Bool) → le (distance3Of listener (image n)) (s .«max_reflection_distance») ≡ b → f (pathOf s planes tri t materials source listener (take n seq)) ≡ x
+    by true h = sym (ap f (path-near h)) ∙ bounced (backOf tri (s .«reflection_edge_fade») (planeOn planes seq) image n listener one32 [] []) ne
+    by false h = sym (ap f (path-far h)) ∙ far

@@ -96,6 +96,14 @@ module _ (room m n r q : ℕ) (fs : List Float) (ws : List ℕ) (o : Bool) (s : 
       (sym (candidates-length m fs ws))
       ∙ ap (λ (u : Outcome). judged room u before s) (sym e)
 
+-- where no ray was traced
+pub judged-lost :
+    (room m n r : ℕ) (fs : List Float) (ws : List ℕ) (o : Bool) (s : List ℕ) (out : Outcome) → out ≡ fails 0 →
+    search (n + 1) r (candidatesIn m fs ws) o ≡ judged room out (search n r (candidatesIn m fs ws) o) s
+judged-lost room m n r fs ws o s out e =
+    let z : r ≡ r + 0 = omega arith in
+    ap (λ (k : ℕ). search (n + 1) k (candidatesIn m fs ws) o) z ∙ judged-fails room m n r 0 fs ws o s out e
+
 -- ---- fates
 
 abbrev tag : Fate → ℕ

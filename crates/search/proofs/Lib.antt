@@ -3,3 +3,4 @@ pub mod Laws
 pub mod Walks
 pub mod Ends
 pub mod Answers
+pub mod Points

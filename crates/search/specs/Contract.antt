@@ -1,17 +1,17 @@
 -- What the search's functions ask and promise.
 use Prim.Native.Nat.{ℕ, _+_, _*_, _≤_, _<_}
 use mathlib.Core.Path.{_≡_}
-use mathlib.Core.Bool.{true, cond}
+use mathlib.Core.Bool.{Bool, true, not, cond}
 use mathlib.Core.List.{List, [], _∷_, _++_}
 use lib.ListN.{length, getD, take, set}
-use lib.Dec.{ltb}
+use lib.Dec.{ltb, eqb}
 use lib.Ieee.{Float}
 use Rattle.geometry.specs.declared.Triangle.{Triangle}
 use Rattle.build.specs.Tree.{Tree}
-use Rattle.mirror.specs.Plane.{Plane, noPoint, planeAt}
-use Rattle.mirror.specs.Mirror.{mirrorOf}
+use Rattle.vector.specs.declared.Vec3.{Vec3}
+use Rattle.mirror.specs.Plane.{Plane}
 use Rattle.mirror.specs.Rows.{planesIn}
-use Rattle.bounces.specs.Areas.{maxOrder}
+use Rattle.bounces.specs.Areas.{maxOrder, pointFloats, pointIn}
 use Rattle.bounces.specs.Image.{imageOf}
 use Rattle.sequences.specs.Allowed.{most, mostPlanes}
 use Rattle.sequences.specs.Run.{run}
@@ -21,7 +21,7 @@ use Rattle.paths.specs.Areas.{Lent, ReadAs}
 use Rattle.claim.specs.Answer.{Outcome, tapOf}
 use Rattle.claim.specs.Query.{Search, search, visitPath}
 use Rattle.search.specs.declared.Task.{Task}
-use Rattle.search.specs.declared.ImageSearch.{ImageSearch}
+use Rattle.search.specs.declared.Tally.{Tally}
 use Rattle.search.specs.Outcome.{onOf, foundOf, outcomesOf}
 
 -- the areas of a scene
@@ -54,6 +54,22 @@ scene padded nodes perm rows handles materials columns floats words members edge
       edges = edges;
     }
 
+-- the sequence that the search is at with the image of each beginning, and what it has counted and found
+pub record State : Type 0 where
+  pub seq : List ℕ
+  pub images : List Float
+  pub nodes : ℕ
+  pub rays : ℕ
+  pub found : ℕ
+  pub over : Bool
+
+abbrev pub state : List ℕ → List Float → Tally → State
+state seq images t = record { seq = seq; images = images; nodes = t .nodes; rays = t .rays; found = t .found; over = not (eqb (t .over) 0) }
+
+-- an area with the point v at `at`
+abbrev pub pointPut : List Float → ℕ → Vec3 → List Float
+pointPut l at v = set (set (set l at (v .x)) (at + 1) (v .y)) (at + 2) (v .z)
+
 -- what a path takes at most: 162 × 9 rays
 abbrev pub mostRays : ℕ
 mostRays = 1458
@@ -80,14 +96,16 @@ module _ (S : Scene) (q : Task) where
   runIn tri t w qs = run (λ (v : Search). v .images) (visitPath (q .room) (pathIn tri t)) (q .limit) w qs
 
   -- the first `depth` planes of the state are planes, their images stand beside them, and counts are within their limits
-  pub record Sound (depth : ℕ) (s : ImageSearch) : Type 0 where
+  pub record Sound (depth : ℕ) (s : State) : Type 0 where
+    pub seq-room : length (s .seq) ≡ maxOrder
+    pub images-room : length (s .images) ≡ pointFloats * (maxOrder + 1)
     pub planes : (j : ℕ) → j < depth → getD (s .seq) j 0 < q .count
-    pub are : (j : ℕ) → j ≤ depth → getD (s .images) j noPoint ≡ imageOf planesOf (q .source) (take j (s .seq))
+    pub are : (j : ℕ) → j ≤ depth → pointIn (s .images) j ≡ imageOf planesOf (q .source) (take j (s .seq))
     pub few : s .found ≤ q .room
     pub cost : s .rays ≤ mostRays * s .nodes
 
   -- what the search asks at a place
-  pub record Ready (depth : ℕ) (s : ImageSearch) (fs : List Float) (ws : List ℕ) : Type 0 where
+  pub record Ready (depth : ℕ) (s : State) (fs : List Float) (ws : List ℕ) : Type 0 where
     pub deep : depth < q .order
     pub within : q .order ≤ maxOrder
     pub small : q .count ≤ mostPlanes
@@ -97,7 +115,7 @@ module _ (S : Scene) (q : Task) where
     pub sound : Sound depth s
 
   -- what a visit of the first `len` planes of the state asks
-  pub record Visitable (len : ℕ) (s : ImageSearch) (fs : List Float) (ws : List ℕ) : Type 0 where
+  pub record Visitable (len : ℕ) (s : State) (fs : List Float) (ws : List ℕ) : Type 0 where
     pub some : 0 < len
     pub within : len ≤ maxOrder
     pub under : s .nodes < most
@@ -106,45 +124,34 @@ module _ (S : Scene) (q : Task) where
     pub sound : Sound len s
 
 -- what the search holds
-abbrev pub heldIn : ImageSearch → List Float → List ℕ → Search
+abbrev pub heldIn : State → List Float → List ℕ → Search
 heldIn s fs ws = search (s .nodes) (s .rays) (candidatesIn (s .found) fs ws) (s .over)
 
 -- the sequences `qs` were run over, for all that the areas read as, and the first `depth` planes of the state stand as they did
-pub record Walked (S : Scene) (q : Task) (depth : ℕ) (qs : List (List ℕ)) (s : ImageSearch) (fs : List Float) (ws : List ℕ) (r : ImageSearch) (fs′ : List Float) (ws′ : List ℕ) : Type 0 where
+pub record Walked (S : Scene) (q : Task) (depth : ℕ) (qs : List (List ℕ)) (s : State) (fs : List Float) (ws : List ℕ) (r : State) (fs′ : List Float) (ws′ : List ℕ) : Type 0 where
   pub ran : (tri : ℕ → Triangle) (t : Tree) → Reads S q tri t → heldIn r fs′ ws′ ≡ runIn S q tri t (heldIn s fs ws) qs
   pub stays : take depth (r .seq) ≡ take depth (s .seq)
   pub sound : Sound S q depth r
 
--- the plane p and its image were put at place `depth`
-pub record Pushed (planes : List Plane) (depth p : ℕ) (s r : ImageSearch) : Type 0 where
-  pub seq-room : length (s .seq) ≡ maxOrder
-  pub images-room : length (s .images) ≡ maxOrder + 1
-  pub seq-is : r .seq ≡ set (s .seq) depth p
-  pub images-are : r .images ≡ set (s .images) (depth + 1) (mirrorOf (planeAt planes p) (getD (s .images) depth noPoint))
-  pub same-nodes : r .nodes ≡ s .nodes
-  pub same-rays : r .rays ≡ s .rays
-  pub same-found : r .found ≡ s .found
-  pub same-over : r .over ≡ s .over
+-- what a tally says with its rows
+abbrev pub tallied : Tally → List Float → List ℕ → Search
+tallied t fs ws = search (t .nodes) (t .rays) (candidatesIn (t .found) fs ws) (not (eqb (t .over) 0))
 
 -- the path c of `len` planes, which passes, is a candidate with that number, where there is room
-pub record Kept (room len number : ℕ) (c : PathCandidate) (s : ImageSearch) (fs : List Float) (ws : List ℕ) (r : ImageSearch) (fs′ : List Float) (ws′ : List ℕ) : Type 0 where
-  pub same-seq : r .seq ≡ s .seq
-  pub same-images : r .images ≡ s .images
+pub record Kept (room len number : ℕ) (c : PathCandidate) (s : Tally) (fs : List Float) (ws : List ℕ) (r : Tally) (fs′ : List Float) (ws′ : List ℕ) : Type 0 where
   pub same-nodes : r .nodes ≡ s .nodes
   pub same-rays : r .rays ≡ s .rays
   pub few : r .found ≤ room
   pub held :
       (seq : List ℕ) → length seq ≡ len →
-      heldIn r fs′ ws′
+      tallied r fs′ ws′
       ≡ search (s .nodes) (s .rays)
       (cond (ltb (s .found) room) (candidatesIn (s .found) fs ws ++ tapOf number seq (foundOf c) ∷ []) (candidatesIn (s .found) fs ws))
-      (cond (ltb (s .found) room) (s .over) true)
+      (cond (ltb (s .found) room) (not (eqb (s .over) 0)) true)
 
--- the first `len` planes of the state were visited
-pub record Visited (S : Scene) (q : Task) (len : ℕ) (s : ImageSearch) (fs : List Float) (ws : List ℕ) (r : ImageSearch) (fs′ : List Float) (ws′ : List ℕ) : Type 0 where
-  pub same-seq : r .seq ≡ s .seq
-  pub same-images : r .images ≡ s .images
+-- the first `len` planes of the sequence were visited
+pub record Visited (S : Scene) (q : Task) (len : ℕ) (seq : List ℕ) (s : Tally) (fs : List Float) (ws : List ℕ) (r : Tally) (fs′ : List Float) (ws′ : List ℕ) : Type 0 where
   pub counted : r .nodes ≡ s .nodes + 1
   pub cost : r .rays ≤ s .rays + mostRays
   pub few : r .found ≤ q .room
-  pub seen : (tri : ℕ → Triangle) (t : Tree) → Reads S q tri t → heldIn r fs′ ws′ ≡ visitPath (q .room) (pathIn S q tri t) (heldIn s fs ws) (take len (s .seq))
+  pub seen : (tri : ℕ → Triangle) (t : Tree) → Reads S q tri t → tallied r fs′ ws′ ≡ visitPath (q .room) (pathIn S q tri t) (tallied s fs ws) (take len seq)

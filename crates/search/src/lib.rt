@@ -6,44 +6,45 @@ use ranking::Candidate;
 use scene::Settings;
 use vector::Vec3;
 ghost use mathlib.Core.Path.{_≡_};
-ghost use mathlib.Core.Bool.{false};
 ghost use mathlib.Core.List.{List};
 ghost use Prim.Native.Nat.{ℕ, _+_, _-_, _*_, _<_, _≤_};
-ghost use lib.ListN.{length, getD, take};
+ghost use lib.ListN.{length, getD, take, set};
 ghost use lib.Ieee.{Float};
 ghost use Rattle.geometry.specs.declared.Triangle.{Triangle};
 ghost use Rattle.build.specs.Tree.{Tree};
-ghost use Rattle.mirror.specs.Plane.{noPoint};
+ghost use Rattle.mirror.specs.Plane.{noPoint, planeAt};
+ghost use Rattle.mirror.specs.Mirror.{mirrorOf};
 ghost use Rattle.mirror.specs.Rows.{planeFloats, planeWords, planesIn};
 ghost use Rattle.sequences.specs.Allowed as spec;
-ghost use Rattle.bounces.specs.Areas.{maxOrder};
+ghost use Rattle.bounces.specs.Areas.{maxOrder, pointFloats, pointIn};
 ghost use Rattle.ranking.specs.Rows.{Rows, candidatesIn};
 ghost use Rattle.paths.specs.Areas.{Lent, ReadAs};
 ghost use Rattle.claim.specs.Query.{search, searched};
 ghost use Rattle.search.specs.Outcome.{onOf, outcomesOf};
-ghost use Rattle.search.specs.Contract.{scene, firstsOf, Ready, Visitable, Walked, Pushed, Kept, Visited};
+ghost use Rattle.search.specs.Contract.{scene, state, pointPut, firstsOf, Ready, Visitable, Walked, Kept, Visited};
 
-// What is searched for, and over how much: it does not change on the way.
+// Floats of a point in an area.
+const POINT_FLOATS: usize = 3;
+
+// What is searched for, and over how much: it does not change on the way. What each image needs stands first, in one piece of memory.
 struct Task {
-    nodes_count: usize,
+    listener: Vec3,
+    limit: u32,
     n: usize,
     count: usize,
-    settings: Settings,
-    source: Vec3,
-    listener: Vec3,
     order: usize,
+    nodes_count: usize,
     room: usize,
-    limit: u32,
+    source: Vec3,
+    settings: Settings,
 }
 
-// The sequence that the search is at with the image of each beginning, and what it has counted and found.
-struct ImageSearch {
-    seq: [u32; 8],
-    images: [Vec3; 9],
+// What the search has counted and found, and 1 where a candidate found no room. (A bool's padding would be copied along, byte by byte.)
+struct Tally {
     nodes: u32,
     rays: u32,
     found: usize,
-    over: bool,
+    over: usize,
 }
 
 // The end of a search: images visited, rays traced, candidates held, and whether one found no room.
@@ -54,11 +55,13 @@ pub struct Found {
     pub over: bool,
 }
 
+// ---- one image more
+
 // Whether plane `p` may stand at place `depth`.
-fn may(floats: &[f32], words: &[u32], q: Task, seq: [u32; 8], depth: usize, p: usize) -> bool
-    requires { ⌜ (depth ≤ maxOrder) × (p < q .count) ⌝ }
+fn may(floats: &[f32], words: &[u32], q: Task, seq: &[u32], depth: usize, p: usize) -> bool
+    requires { ⌜ (depth ≤ length (now seq)) × (p < q .count) ⌝ }
     requires { ⌜ (planeFloats * q .count ≤ length (now floats)) × (planeWords * q .count ≤ length (now words)) ⌝ }
-    ensures { λ r. ⌜ ((members : List ℕ) (edges : List Float) → r ≡ spec.may (onOf (planesIn (now (floats .entry)) (now (words .entry)) members edges (q .count)) (q .source)) (take depth seq) p) ⌝ }
+    ensures { λ r. ⌜ ((members : List ℕ) (edges : List Float) → r ≡ spec.may (onOf (planesIn (now (floats .entry)) (now (words .entry)) members edges (q .count)) (q .source)) (take depth (now (seq .entry))) p) ⌝ }
 {
     if depth == 0 {
         !bounces::lies_on(floats, words, p, q.source)
@@ -67,26 +70,41 @@ fn may(floats: &[f32], words: &[u32], q: Task, seq: [u32; 8], depth: usize, p: u
     }
 }
 
+// Stores a point.
+pub fn put_point(l: &mut [f32], at: usize, v: Vec3)
+    requires { ⌜ at + pointFloats ≤ length (now l) ⌝ }
+    ensures { λ _. ⌜ now (l .exit) ≡ pointPut (now (l .entry)) at v ⌝ }
+{
+    l[at] = v.x;
+    l[at + 1] = v.y;
+    l[at + 2] = v.z;
+}
+
 // Puts plane `p` and its image at place `depth`.
 fn push(
     floats: &[f32],
     words: &[u32],
-    q: Task,
+    count: usize,
     depth: usize,
     p: usize,
-    st: ImageSearch,
-) -> ImageSearch
-    requires { ⌜ (depth < maxOrder) × (p < q .count) × (q .count ≤ spec.mostPlanes) ⌝ }
-    requires { ⌜ (planeFloats * q .count ≤ length (now floats)) × (planeWords * q .count ≤ length (now words)) ⌝ }
-    ensures { λ r. ⌜ ((members : List ℕ) (edges : List Float) → Pushed (planesIn (now (floats .entry)) (now (words .entry)) members edges (q .count)) depth p st r) ⌝ }
+    seq: &mut [u32],
+    images: &mut [f32],
+)
+    requires { ⌜ (depth < length (now seq)) × (pointFloats * (depth + 2) ≤ length (now images)) × (p < count) × (count ≤ spec.mostPlanes) ⌝ }
+    requires { ⌜ (planeFloats * count ≤ length (now floats)) × (planeWords * count ≤ length (now words)) ⌝ }
+    ensures { λ _. ⌜ now (seq .exit) ≡ set (now (seq .entry)) depth p ⌝ }
+    ensures { λ _. ⌜ ((members : List ℕ) (edges : List Float) → now (images .exit) ≡ pointPut (now (images .entry)) (pointFloats * (depth + 1)) (mirrorOf (planeAt (planesIn (now (floats .entry)) (now (words .entry)) members edges count) p) (pointIn (now (images .entry)) depth))) ⌝ }
 {
-    let mut s = st;
-    let from = s.images[depth];
-    let image = bounces::next_image(floats, words, p, from);
-    s.seq[depth] = p as u32;
-    s.images[depth + 1] = image;
-    s
+    let from = mirror::vec_in(images, POINT_FLOATS * depth);
+    seq[depth] = p as u32;
+    put_point(
+        images,
+        POINT_FLOATS * (depth + 1),
+        bounces::next_image(floats, words, p, from),
+    );
 }
+
+// ---- a visit
 
 // The path of `len` planes passes: it is a candidate, if there is room.
 fn keep(
@@ -94,15 +112,15 @@ fn keep(
     len: usize,
     number: u32,
     c: PathCandidate,
-    st: ImageSearch,
+    t: Tally,
     fs: &mut [f32],
     ws: &mut [u32],
-) -> ImageSearch
-    requires { ⌜ (len ≤ maxOrder) × (st .found ≤ room) ⌝ }
+) -> Tally
+    requires { ⌜ (len ≤ maxOrder) × (t .found ≤ room) ⌝ }
     requires { ⌜ Rows room (now fs) (now ws) ⌝ }
-    ensures { λ r. ⌜ Kept room len number c st (now (fs .entry)) (now (ws .entry)) r (now (fs .exit)) (now (ws .exit)) ⌝ }
+    ensures { λ r. ⌜ Kept room len number c t (now (fs .entry)) (now (ws .entry)) r (now (fs .exit)) (now (ws .exit)) ⌝ }
 {
-    let mut s = st;
+    let mut s = t;
     if s.found < room {
         let direction = c.direction;
         let gains = c.gains;
@@ -118,13 +136,45 @@ fn keep(
         s.found = s.found + 1;
         return s;
     }
-    s.over = true;
+    s.over = 1;
     s
 }
 
-// Visits the first `len` planes of the state: counts the image, judges its path, and keeps it if it passes.
-fn visit_by_value(
-    st: ImageSearch,
+// The sequence and the images as arrays, for the few paths that are traced.
+fn all_planes(seq: &[u32]) -> [u32; 8]
+    requires { ⌜ length (now seq) ≡ maxOrder ⌝ }
+    ensures { λ r. ⌜ r ≡ now (seq .entry) ⌝ }
+{
+    [
+        seq[0],
+        seq[1],
+        seq[2],
+        seq[3],
+        seq[4],
+        seq[5],
+        seq[6],
+        seq[7],
+    ]
+}
+
+fn all_points(images: &[f32]) -> [Vec3; 9]
+    requires { ⌜ length (now images) ≡ pointFloats * (maxOrder + 1) ⌝ }
+    ensures { λ r. ⌜ ((j : ℕ) → j ≤ maxOrder → getD r j noPoint ≡ pointIn (now (images .entry)) j) ⌝ }
+{
+    let a = mirror::vec_in(images, 0);
+    let b = mirror::vec_in(images, 3);
+    let c = mirror::vec_in(images, 6);
+    let d = mirror::vec_in(images, 9);
+    let e = mirror::vec_in(images, 12);
+    let f = mirror::vec_in(images, 15);
+    let g = mirror::vec_in(images, 18);
+    let h = mirror::vec_in(images, 21);
+    let i = mirror::vec_in(images, 24);
+    [a, b, c, d, e, f, g, h, i]
+}
+
+// Counts the image of the first `len` planes, judges its path, and keeps it if it passes.
+fn judge(
     padded: &[f32],
     nodes: &[u32],
     perm: &[u32],
@@ -138,14 +188,15 @@ fn visit_by_value(
     edges: &[f32],
     q: Task,
     len: usize,
+    t: Tally,
+    seq: &[u32],
+    images: &[f32],
     fs: &mut [f32],
     ws: &mut [u32],
-) -> ImageSearch
-    requires { ⌜ Visitable (scene (now padded) (now nodes) (now perm) (now rows) (now handles) (now materials) (now columns) (now floats) (now words) (now members) (now edges)) q len st (now fs) (now ws) ⌝ }
-    ensures { λ r. ⌜ Visited (scene (now (padded .entry)) (now (nodes .entry)) (now (perm .entry)) (now (rows .entry)) (now (handles .entry)) (now (materials .entry)) (now (columns .entry)) (now (floats .entry)) (now (words .entry)) (now (members .entry)) (now (edges .entry))) q len st (now (fs .entry)) (now (ws .entry)) r (now (fs .exit)) (now (ws .exit)) ⌝ }
+) -> Tally
+    requires { ⌜ Visitable (scene (now padded) (now nodes) (now perm) (now rows) (now handles) (now materials) (now columns) (now floats) (now words) (now members) (now edges)) q len (state (now seq) (now images) t) (now fs) (now ws) ⌝ }
+    ensures { λ r. ⌜ Visited (scene (now (padded .entry)) (now (nodes .entry)) (now (perm .entry)) (now (rows .entry)) (now (handles .entry)) (now (materials .entry)) (now (columns .entry)) (now (floats .entry)) (now (words .entry)) (now (members .entry)) (now (edges .entry))) q len (now (seq .entry)) t (now (fs .entry)) (now (ws .entry)) r (now (fs .exit)) (now (ws .exit)) ⌝ }
 {
-    let seq = st.seq;
-    let images = st.images;
     let v = paths::validate_image_path(
         padded,
         nodes,
@@ -162,13 +213,13 @@ fn visit_by_value(
         edges,
         q.count,
         q.settings,
-        seq,
-        images,
+        all_planes(seq),
+        all_points(images),
         len,
         q.source,
         q.listener,
     );
-    let mut s = st;
+    let mut s = t;
     s.nodes = s.nodes + 1;
     let number = s.nodes;
     s.rays = s.rays + v.rays;
@@ -179,51 +230,8 @@ fn visit_by_value(
     keep(q.room, len, number, c, s, fs, ws)
 }
 
-// The thin step: the state is changed in place.
-fn visit_in_place(
-    st: &mut ImageSearch,
-    padded: &[f32],
-    nodes: &[u32],
-    perm: &[u32],
-    rows: &[f32],
-    handles: &[u32],
-    materials: &[f32],
-    columns: &[f32],
-    floats: &[f32],
-    words: &[u32],
-    members: &[u32],
-    edges: &[f32],
-    q: Task,
-    len: usize,
-    fs: &mut [f32],
-    ws: &mut [u32],
-)
-    requires { ⌜ Visitable (scene (now padded) (now nodes) (now perm) (now rows) (now handles) (now materials) (now columns) (now floats) (now words) (now members) (now edges)) q len (now st) (now fs) (now ws) ⌝ }
-    ensures { λ _. ⌜ Visited (scene (now (padded .entry)) (now (nodes .entry)) (now (perm .entry)) (now (rows .entry)) (now (handles .entry)) (now (materials .entry)) (now (columns .entry)) (now (floats .entry)) (now (words .entry)) (now (members .entry)) (now (edges .entry))) q len (now (st .entry)) (now (fs .entry)) (now (ws .entry)) (now (st .exit)) (now (fs .exit)) (now (ws .exit)) ⌝ }
-{
-    *st = visit_by_value(
-        *st,
-        padded,
-        nodes,
-        perm,
-        rows,
-        handles,
-        materials,
-        columns,
-        floats,
-        words,
-        members,
-        edges,
-        q,
-        len,
-        fs,
-        ws,
-    );
-}
-
-// The visit as the search calls it: by value, over a local that is lent to the thin step.
+// Visits the first `len` planes. Of nearly every path a bounce fails: its image is then only counted, however far it is, and no root is taken.
 fn visit(
-    st: ImageSearch,
     padded: &[f32],
     nodes: &[u32],
     perm: &[u32],
@@ -237,15 +245,34 @@ fn visit(
     edges: &[f32],
     q: Task,
     len: usize,
+    t: Tally,
+    seq: &[u32],
+    images: &[f32],
     fs: &mut [f32],
     ws: &mut [u32],
-) -> ImageSearch
-    requires { ⌜ Visitable (scene (now padded) (now nodes) (now perm) (now rows) (now handles) (now materials) (now columns) (now floats) (now words) (now members) (now edges)) q len st (now fs) (now ws) ⌝ }
-    ensures { λ r. ⌜ Visited (scene (now (padded .entry)) (now (nodes .entry)) (now (perm .entry)) (now (rows .entry)) (now (handles .entry)) (now (materials .entry)) (now (columns .entry)) (now (floats .entry)) (now (words .entry)) (now (members .entry)) (now (edges .entry))) q len st (now (fs .entry)) (now (ws .entry)) r (now (fs .exit)) (now (ws .exit)) ⌝ }
+) -> Tally
+    requires { ⌜ Visitable (scene (now padded) (now nodes) (now perm) (now rows) (now handles) (now materials) (now columns) (now floats) (now words) (now members) (now edges)) q len (state (now seq) (now images) t) (now fs) (now ws) ⌝ }
+    ensures { λ r. ⌜ Visited (scene (now (padded .entry)) (now (nodes .entry)) (now (perm .entry)) (now (rows .entry)) (now (handles .entry)) (now (materials .entry)) (now (columns .entry)) (now (floats .entry)) (now (words .entry)) (now (members .entry)) (now (edges .entry))) q len (now (seq .entry)) t (now (fs .entry)) (now (ws .entry)) r (now (fs .exit)) (now (ws .exit)) ⌝ }
 {
-    let mut s = st;
-    visit_in_place(
-        &mut s,
+    let fate = bounces::fate_back(
+        columns,
+        q.n,
+        floats,
+        words,
+        members,
+        edges,
+        q.count,
+        seq,
+        images,
+        len,
+        q.listener,
+    );
+    if fate != bounces::MADE {
+        let mut s = t;
+        s.nodes = s.nodes + 1;
+        return s;
+    }
+    judge(
         padded,
         nodes,
         perm,
@@ -259,13 +286,18 @@ fn visit(
         edges,
         q,
         len,
+        t,
+        seq,
+        images,
         fs,
         ws,
-    );
-    s
+    )
 }
 
-// Each plane in turn at place `depth`, with all that goes on from it.
+// ---- the search
+
+// Each plane in turn at place `depth`, with all that goes on from it. The sequence and the image of each of its beginnings stand in `seq` and
+// `images`.
 fn expand_images(
     padded: &[f32],
     nodes: &[u32],
@@ -280,14 +312,16 @@ fn expand_images(
     edges: &[f32],
     q: Task,
     depth: usize,
-    st: ImageSearch,
+    t: Tally,
+    seq: &mut [u32],
+    images: &mut [f32],
     fs: &mut [f32],
     ws: &mut [u32],
-) -> ImageSearch
-    requires { ⌜ Ready (scene (now padded) (now nodes) (now perm) (now rows) (now handles) (now materials) (now columns) (now floats) (now words) (now members) (now edges)) q depth st (now fs) (now ws) ⌝ }
-    ensures { λ r. ⌜ Walked (scene (now (padded .entry)) (now (nodes .entry)) (now (perm .entry)) (now (rows .entry)) (now (handles .entry)) (now (materials .entry)) (now (columns .entry)) (now (floats .entry)) (now (words .entry)) (now (members .entry)) (now (edges .entry))) q depth (spec.below (firstsOf (scene (now (padded .entry)) (now (nodes .entry)) (now (perm .entry)) (now (rows .entry)) (now (handles .entry)) (now (materials .entry)) (now (columns .entry)) (now (floats .entry)) (now (words .entry)) (now (members .entry)) (now (edges .entry))) q) (q .order - depth) (take depth (st .seq))) st (now (fs .entry)) (now (ws .entry)) r (now (fs .exit)) (now (ws .exit)) ⌝ }
+) -> Tally
+    requires { ⌜ Ready (scene (now padded) (now nodes) (now perm) (now rows) (now handles) (now materials) (now columns) (now floats) (now words) (now members) (now edges)) q depth (state (now seq) (now images) t) (now fs) (now ws) ⌝ }
+    ensures { λ r. ⌜ Walked (scene (now (padded .entry)) (now (nodes .entry)) (now (perm .entry)) (now (rows .entry)) (now (handles .entry)) (now (materials .entry)) (now (columns .entry)) (now (floats .entry)) (now (words .entry)) (now (members .entry)) (now (edges .entry))) q depth (spec.below (firstsOf (scene (now (padded .entry)) (now (nodes .entry)) (now (perm .entry)) (now (rows .entry)) (now (handles .entry)) (now (materials .entry)) (now (columns .entry)) (now (floats .entry)) (now (words .entry)) (now (members .entry)) (now (edges .entry))) q) (q .order - depth) (take depth (now (seq .entry)))) (state (now (seq .entry)) (now (images .entry)) t) (now (fs .entry)) (now (ws .entry)) (state (now (seq .exit)) (now (images .exit)) r) (now (fs .exit)) (now (ws .exit)) ⌝ }
 {
-    let mut s = st;
+    let mut s = t;
     let mut p = 0;
     while p < q.count {
         s = node(
@@ -306,6 +340,8 @@ fn expand_images(
             depth,
             p,
             s,
+            seq,
+            images,
             fs,
             ws,
         );
@@ -330,22 +366,22 @@ fn node(
     q: Task,
     depth: usize,
     p: usize,
-    st: ImageSearch,
+    t: Tally,
+    seq: &mut [u32],
+    images: &mut [f32],
     fs: &mut [f32],
     ws: &mut [u32],
-) -> ImageSearch
+) -> Tally
     requires { ⌜ p < q .count ⌝ }
-    requires { ⌜ Ready (scene (now padded) (now nodes) (now perm) (now rows) (now handles) (now materials) (now columns) (now floats) (now words) (now members) (now edges)) q depth st (now fs) (now ws) ⌝ }
-    ensures { λ r. ⌜ Walked (scene (now (padded .entry)) (now (nodes .entry)) (now (perm .entry)) (now (rows .entry)) (now (handles .entry)) (now (materials .entry)) (now (columns .entry)) (now (floats .entry)) (now (words .entry)) (now (members .entry)) (now (edges .entry))) q depth (spec.at (firstsOf (scene (now (padded .entry)) (now (nodes .entry)) (now (perm .entry)) (now (rows .entry)) (now (handles .entry)) (now (materials .entry)) (now (columns .entry)) (now (floats .entry)) (now (words .entry)) (now (members .entry)) (now (edges .entry))) q) (q .order - (depth + 1)) (take depth (st .seq)) p) st (now (fs .entry)) (now (ws .entry)) r (now (fs .exit)) (now (ws .exit)) ⌝ }
+    requires { ⌜ Ready (scene (now padded) (now nodes) (now perm) (now rows) (now handles) (now materials) (now columns) (now floats) (now words) (now members) (now edges)) q depth (state (now seq) (now images) t) (now fs) (now ws) ⌝ }
+    ensures { λ r. ⌜ Walked (scene (now (padded .entry)) (now (nodes .entry)) (now (perm .entry)) (now (rows .entry)) (now (handles .entry)) (now (materials .entry)) (now (columns .entry)) (now (floats .entry)) (now (words .entry)) (now (members .entry)) (now (edges .entry))) q depth (spec.at (firstsOf (scene (now (padded .entry)) (now (nodes .entry)) (now (perm .entry)) (now (rows .entry)) (now (handles .entry)) (now (materials .entry)) (now (columns .entry)) (now (floats .entry)) (now (words .entry)) (now (members .entry)) (now (edges .entry))) q) (q .order - (depth + 1)) (take depth (now (seq .entry))) p) (state (now (seq .entry)) (now (images .entry)) t) (now (fs .entry)) (now (ws .entry)) (state (now (seq .exit)) (now (images .exit)) r) (now (fs .exit)) (now (ws .exit)) ⌝ }
 {
-    if q.limit <= st.nodes {
-        return st;
+    if q.limit <= t.nodes {
+        return t;
     }
-    let seq = st.seq;
     if may(floats, words, q, seq, depth, p) {
-        let s = push(floats, words, q, depth, p, st);
-        let t = visit(
-            s,
+        push(floats, words, q.count, depth, p, seq, images);
+        let u = visit(
             padded,
             nodes,
             perm,
@@ -359,6 +395,9 @@ fn node(
             edges,
             q,
             depth + 1,
+            t,
+            seq,
+            images,
             fs,
             ws,
         );
@@ -377,30 +416,27 @@ fn node(
                 edges,
                 q,
                 depth + 1,
-                t,
+                u,
+                seq,
+                images,
                 fs,
                 ws,
             );
         }
-        return t;
+        return u;
     }
-    st
+    t
 }
 
-// Nothing visited yet.
-fn begin(source: Vec3) -> ImageSearch
-    ensures { λ r. ⌜ (getD (r .images) 0 noPoint ≡ source) × (r .nodes ≡ 0) × (r .rays ≡ 0) × (r .found ≡ 0) × (r .over ≡ false) ⌝ }
+// The images before the search: the source stands first.
+fn first_images(source: Vec3) -> [f32; 27]
+    ensures { λ r. ⌜ (pointIn r 0 ≡ source) × (length r ≡ pointFloats * (maxOrder + 1)) ⌝ }
 {
-    let seq = [0u32; 8];
-    let images = [source; 9];
-    ImageSearch {
-        seq,
-        images,
-        nodes: 0,
-        rays: 0,
-        found: 0,
-        over: false,
-    }
+    let mut images = [0.0f32; 27];
+    images[0] = source.x;
+    images[1] = source.y;
+    images[2] = source.z;
+    images
 }
 
 // The search from nothing: at most 250,000 images of at most `order` planes, and at most `room` candidates, in rows of `fs` and `ws`.
@@ -442,16 +478,24 @@ pub fn search_images(
         };
     }
     let q = Task {
-        nodes_count,
+        listener,
+        limit: sequences::MAX_IMAGE_NODES as u32,
         n,
         count,
-        settings,
-        source,
-        listener,
         order,
+        nodes_count,
         room,
-        limit: sequences::MAX_IMAGE_NODES as u32,
+        source,
+        settings,
     };
+    let nothing = Tally {
+        nodes: 0,
+        rays: 0,
+        found: 0,
+        over: 0,
+    };
+    let mut seq = [0u32; 8];
+    let mut images = first_images(source);
     let s = expand_images(
         padded,
         nodes,
@@ -466,7 +510,9 @@ pub fn search_images(
         edges,
         q,
         0,
-        begin(source),
+        nothing,
+        &mut seq,
+        &mut images,
         fs,
         ws,
     );
@@ -474,6 +520,6 @@ pub fn search_images(
         images: s.nodes,
         rays: s.rays,
         found: s.found,
-        over: s.over,
+        over: s.over != 0,
     }
 }

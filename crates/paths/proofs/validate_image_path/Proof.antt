@@ -2,7 +2,9 @@
 use Prim.Native.Nat.{_-_}
 use native.Mathlib.Omega.{arith}
 use borrow.Author.Needs.{needs}
+use lib.ListN.{getD}
 use lib.Seq.{slice-empty}
+use Rattle.mirror.specs.Plane.{noPoint}
 use Rattle.mirror.specs.Rows.{planesIn}
 use Rattle.paths.proofs.Laws.{path-near, path-far}
 use Rattle.paths.proofs.validate_image_path.Statement.{statement}
@@ -23,7 +25,7 @@ returns c =
     let planes = planesIn (a .floats .now) (a .words .now) (a .members .now) (a .edges .now) (a .count) in (
       λ tri t h.
           rw (c .judge .ensures .0 tri t (h .tree), rw (c .before .before .no-bounces .ensures .1, slice-empty (a .order) (c .before .before .no-bounces .result .points), slice-empty (a .order) (c .before .before .no-bounces .result .tris)) at (c .before .back .ensures .0 tri (h .planes)))
-          (path-near (a .s) planes tri t (a .materials .now) (a .source) (a .listener) (a .seq) (a .t17) (a .order) (omega (arith, c .before .before .before .before .before .before .before .before .before .before .before .before .before .before .before .before .before .before .pre .1 .0)) (c .before .before .before .before .before .before .before .before .before .before .before .before .before .before .before .before .before .before .pre .1 .1 .1) (rw (c .before .before .before .before .before .distance3 .ensures) at (c .before .before .before .if1 .taken))),
+          (path-near (a .s) planes tri t (a .materials .now) (a .source) (a .listener) (a .seq) (λ j. getD (a .t17) j noPoint) (a .order) (omega (arith, c .before .before .before .before .before .before .before .before .before .before .before .before .before .before .before .before .before .before .pre .1 .0)) (c .before .before .before .before .before .before .before .before .before .before .before .before .before .before .before .before .before .before .pre .1 .1 .1) (rw (c .before .before .before .before .before .distance3 .ensures) at (c .before .before .before .if1 .taken))),
       c .judge .ensures .1,
     )
 
@@ -31,7 +33,7 @@ returns-2 : tie.Need-returns-2
 returns-2 c =
     let a = c .before .before .before .before .before .before .before .before .before .before .before .before .before .before .before .before .args in
     let planes = planesIn (a .floats .now) (a .words .now) (a .members .now) (a .edges .now) (a .count) in (
-      λ tri t h. rw (c .counted .ensures) (path-far (a .s) planes tri t (a .materials .now) (a .source) (a .listener) (a .seq) (a .t17) (a .order) (omega (arith, c .before .before .before .before .before .before .before .before .before .before .before .before .before .before .before .before .pre .1 .0)) (c .before .before .before .before .before .before .before .before .before .before .before .before .before .before .before .before .pre .1 .1 .1) (rw (c .before .before .before .distance3 .ensures) at (c .before .if1 .left))),
+      λ tri t h. rw (c .counted .ensures) (path-far (a .s) planes tri t (a .materials .now) (a .source) (a .listener) (a .seq) (λ j. getD (a .t17) j noPoint) (a .order) (omega (arith, c .before .before .before .before .before .before .before .before .before .before .before .before .before .before .before .before .pre .1 .0)) (c .before .before .before .before .before .before .before .before .before .before .before .before .before .before .before .before .pre .1 .1 .1) (rw (c .before .before .before .distance3 .ensures) at (c .before .if1 .left))),
       rw (c .counted .ensures) (omega arith),
     )
 

@@ -1,5 +1,7 @@
 use mathlib.Core.Path.{refl}
+use mathlib.Core.Bool.{not}
 use native.Mathlib.Omega.{arith}
+use lib.Dec.{eqb}
 use Rattle.claim.specs.Answer.{tapOf}
 use Rattle.search.specs.Outcome.{foundOf}
 use Rattle.search.proofs.Laws.{keep-some, keep-none}
@@ -26,28 +28,24 @@ same-length-2 c = c .before .before .before .before .before .put-candidate .kept
 returns : tie.Need-returns
 returns c = let a = c .before .before .before .before .before .before .before .before .before .before .before .before .before .before .args in
     record {
-      same-seq = refl;
-      same-images = refl;
       same-nodes = refl;
       same-rays = refl;
       few = let t = c .before .before .before .before .before .before .before .before .before .before .if1 .taken in omega arith;
       held =
           λ seq e.
-          keep-some (a .room) (a .st .found) (a .st .nodes) (a .st .rays) (a .fs .now) (c .before .before .before .before .before .put-candidate .last .0) (a .ws .now) (c .before .before .before .before .before .put-candidate .last .1 .0) (a .st .over) (tapOf (a .number) seq (foundOf (a .c)))
+          keep-some (a .room) (a .t .found) (a .t .nodes) (a .t .rays) (a .fs .now) (c .before .before .before .before .before .put-candidate .last .0) (a .ws .now) (c .before .before .before .before .before .put-candidate .last .1 .0) (not (eqb (a .t .over) 0)) (tapOf (a .number) seq (foundOf (a .c)))
           (c .before .before .before .before .before .before .before .before .before .before .if1 .taken) (rw e (c .before .before .before .before .before .put-candidate .ensures));
     }
 
 returns-2 : tie.Need-returns-2
 returns-2 c = let a = c .before .before .before .before .args in
     record {
-      same-seq = refl;
-      same-images = refl;
       same-nodes = refl;
       same-rays = refl;
       few = c .before .before .before .before .pre .0 .1;
       held =
           λ seq e.
-          keep-none (a .room) (a .st .found) (a .st .nodes) (a .st .rays) (a .fs .now) (a .fs .now) (a .ws .now) (a .ws .now) (a .st .over) (tapOf (a .number) seq (foundOf (a .c)))
+          keep-none (a .room) (a .t .found) (a .t .nodes) (a .t .rays) (a .fs .now) (a .fs .now) (a .ws .now) (a .ws .now) (not (eqb (a .t .over) 0)) (tapOf (a .number) seq (foundOf (a .c)))
           (c .if1 .left);
     }
 

@@ -4,8 +4,6 @@ use mathlib.Core.Path.{_≡_, sym, ap, _∙_}
 use native.Mathlib.Omega.{arith}
 use native.Mathlib.Nat.{pos-of-ne-zero}
 use lib.ListN.{length, take}
-use mir.Syntax.{w32}
-use borrow.Kind.Array.{good-length, eInt}
 use Rattle.mirror.specs.Rows.{planesIn}
 use Rattle.sequences.specs.Allowed.{may}
 use Rattle.sequences.proofs.Laws.{may-later}
@@ -17,24 +15,29 @@ use Rattle.search.proofs.may.Tie as tie
 -- `search::may` meets its contract: at place 0 by the rule of the first plane, later by that of the plane before.
 
 lies-on-requires : tie.Need-lies-on-requires
-lies-on-requires c κs = let pre = c .before .before .before .pre in (omega (arith, pre), omega (arith, pre))
+lies-on-requires c κs = (omega (arith, c .before .before .before .before .pre), omega (arith, c .before .before .before .before .pre))
+
+shared-slice-read-result : tie.Need-shared-slice-read-result
+shared-slice-read-result c = omega (arith, pos-of-ne-zero (c .before .if1 .left), c .before .before .before .before .before .pre .0 .0)
+
+cast-result : tie.Need-cast-result
+cast-result c = omega (arith, c .shared-slice-known4 .given (c .before .before .before .before .before .args .depth - 1) .fits)
 
 returns : tie.Need-returns
-returns c = let a = c .before .before .before .before .args in λ members edges.
+returns c = let a = c .before .before .before .before .before .args in λ members edges.
     let e = planes-length (a .floats .now) (a .words .now) members edges (a .q .count) in
-    may-begin (planesIn (a .floats .now) (a .words .now) members edges (a .q .count)) (a .q .source) (a .t4) (a .depth) (a .p) (c .lies-on .result) (omega (arith, c .before .before .before .before .pre .0)) (c .before .if1 .taken)
-    (c .lies-on .ensures members edges (a .q .count) (c .before .before .before .before .pre .0 .1))
+    may-begin (planesIn (a .floats .now) (a .words .now) members edges (a .q .count)) (a .q .source) (a .seq .now) (a .depth) (a .p) (c .lies-on .result) (omega (arith, c .before .before .before .before .before .pre .0)) (c .before .if1 .taken)
+    (c .lies-on .ensures members edges (a .q .count) (c .before .before .before .before .before .pre .0 .1))
 
 returns-2 : tie.Need-returns-2
-returns-2 c = let a = c .before .before .before .args in
-    let z = c .if1 .left in
-    let h = c .before .before .before .pre .0 in
-    let g : length (a .t4) ≡ 8 = good-length (eInt w32) 8 (a .t4) _ (c .before .before .before .good .1 .1 .1 .0) in
+returns-2 c = let a = c .before .before .before .before .before .args in
+    let z = c .before .if1 .left in
+    let h = c .before .before .before .before .before .pre .0 in
     let e : a .depth ≡ suc (a .depth - 1) = omega (arith, pos-of-ne-zero z) in
-    let l : a .depth - 1 < length (a .t4) = omega (arith, pos-of-ne-zero z) in
+    let l : a .depth - 1 < length (a .seq .now) = omega (arith, pos-of-ne-zero z) in
     λ members edges.
     let on = onOf (planesIn (a .floats .now) (a .words .now) members edges (a .q .count)) (a .q .source) in
-    sym (ap (λ (d : ℕ). may on (take d (a .t4)) (a .p)) e ∙ may-later on (a .t4) (a .depth - 1) (a .p) l)
+    sym (ap (λ (d : ℕ). may on (take d (a .seq .now)) (a .p)) e ∙ may-later on (a .seq .now) (a .depth - 1) (a .p) l)
 
 pub may-spec : {M : Type 1} → statement M
 may-spec =
@@ -43,7 +46,7 @@ may-spec =
     lies-on-requires
     (λ c. search needs)
     (λ c. search needs)
-    (λ c. search needs)
-    (λ c. search needs)
+    shared-slice-read-result
+    cast-result
     returns
     returns-2)

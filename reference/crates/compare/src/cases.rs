@@ -40,6 +40,7 @@ impl Coverage {
         all.orders.iter_mut().zip(w.orders).for_each(|(a, b)| *a += b);
         all.rays += w.rays;
         all.dimmed += w.dimmed;
+        all.bounces += w.bounces;
     }
 
     fn add_planes(&mut self, b: Built) {
@@ -95,7 +96,7 @@ impl Coverage {
         for (name, n) in FATES.iter().zip(w.fates) {
             println!("    {name}: {n}");
         }
-        println!("    candidates of order 1 to 8: {:?}; {} met a surface on the way", w.orders, w.dimmed);
+        println!("    candidates of order 1 to 8: {:?}; {} met a surface on the way; {} bounces at the same points", w.orders, w.dimmed, w.bounces);
     }
 }
 

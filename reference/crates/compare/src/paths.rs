@@ -1,4 +1,5 @@
-//! Single paths against the Rust, sequence by sequence: fate, rays traced, and the candidate's energy, delay, direction and gains as bits.
+//! Single paths against the Rust, sequence by sequence: fate, rays traced, the bounces' points, and the candidate's energy, delay, direction and
+//! gains as bits.
 //! The port takes its own planes, their borders in another order than the Rust's (only the least distance to one is used).
 use crate::front;
 use crate::random::Random;
@@ -19,13 +20,15 @@ const NEAR: usize = 6;
 pub struct Walked {
     pub fates: [u64; 8],
     pub rays: u64,
+    /// Bounces whose points were compared.
+    pub bounces: u64,
     /// Candidates that a surface was in the way of, for some of their traces.
     pub dimmed: u64,
     pub orders: [u64; ORDER],
 }
 
-/// Planted slips of this stage: another fate, a ray more, a gain's last bit.
-pub const SLIPS: usize = 3;
+/// Planted slips of this stage: another fate, a ray more, a gain's last bit, the last bit of a bounce.
+pub const SLIPS: usize = 4;
 
 /// The same bits, or zeros of either sign, or what is no number.
 pub(crate) fn same(a: f32, b: f32) -> bool {
@@ -41,9 +44,22 @@ fn equal(p: &Path, q: &OraclePath) -> bool {
     p.fate == q.fate as u32 && p.rays as u64 == q.rays && candidates
 }
 
+/// The port's bounces: their fate, and their points.
+type Bounces = (u32, [[f32; 3]; ORDER]);
+
+/// Whether the bounces are the Rust's. Of an image that is too far it finds none.
+fn equal_bounces((fate, points): &Bounces, q: &OraclePath) -> bool {
+    match q.fate {
+        1 => true,
+        2 | 3 => *fate == q.fate as u32,
+        _ => *fate == 0 && !q.points.is_empty() && q.points.iter().zip(points).all(|(a, b)| a.iter().zip(b).all(|(&x, &y)| same(x, y))),
+    }
+}
+
 /// Changes the port's answer as a fault would; false where the slip does not apply.
-fn slip(p: &mut Path, kind: usize) -> bool {
+fn slip(p: &mut Path, (fate, points): &mut Bounces, kind: usize) -> bool {
     match (kind, &mut p.candidate) {
+        (3, Some(_)) if *fate == 0 && points[0][2] != 0.0 => points[0][2] = points[0][2].next_up(),
         (0, _) => p.fate = (p.fate + 1) % 8,
         (1, _) if p.rays > 0 => p.rays += 1,
         (2, Some(c)) if c[5] > 0.0 && c[5].is_finite() => c[5] = c[5].next_up(),
@@ -123,14 +139,19 @@ impl Sides<'_> {
     fn path(&mut self, seq: &[u32]) -> Result<OraclePath, String> {
         let c = self.case;
         let mut mine = self.port.path(seq, &c.source, &c.listener);
+        let mut bounces = self.port.bounces(seq, &c.source, &c.listener);
         let places: Vec<usize> = seq.iter().map(|&p| p as usize).collect();
         let theirs = self.rust.oracle_path(&places, &c.source, &c.listener, &Table(&c.materials));
         if let Some(k) = self.planted {
-            self.slipped |= slip(&mut mine, k);
+            self.slipped |= slip(&mut mine, &mut bounces, k);
         }
         if !equal(&mine, &theirs) {
             return Err(format!("the path by way of planes {seq:?}, at most {} far: port {mine:?}, Rust {theirs:?}", self.port.floats[1]));
         }
+        if !equal_bounces(&bounces, &theirs) {
+            return Err(format!("the bounces on planes {seq:?}: port {bounces:?}, Rust fate {}, {:?}", theirs.fate, theirs.points));
+        }
+        self.out.bounces += theirs.points.len() as u64;
         self.out.fates[theirs.fate.min(7) as usize] += 1;
         self.out.rays += theirs.rays;
         if theirs.fate == 0 {

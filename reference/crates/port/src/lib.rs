@@ -64,6 +64,13 @@ mod ffi {
             listener: *const f32, listener_len: usize, found: *mut f32, found_len: usize, rays: *mut u32, rays_len: usize,
         ) -> u32;
         #[rustfmt::skip]
+        pub fn biv_bounces(
+            columns: *const f32, columns_len: usize, n: usize, floats: *const f32, floats_len: usize, words: *const u32, words_len: usize,
+            members: *const u32, members_len: usize, edges: *const f32, edges_len: usize, count: usize, fade: f32,
+            seq: *const u32, seq_len: usize, source: *const f32, source_len: usize, listener: *const f32, listener_len: usize,
+            points: *mut f32, points_len: usize,
+        ) -> u32;
+        #[rustfmt::skip]
         pub fn biv_rank_reflections(
             fs: *const f32, fs_len: usize, ws: *const u32, ws_len: usize, n: usize, speed: f32, rate: f32, limit: usize,
             keys: *mut u64, keys_len: usize, index: *mut u32, index_len: usize, words: *mut u64, words_len: usize,
@@ -484,6 +491,24 @@ impl Scene {
             )
         };
         Path { fate, rays: rays[0], candidate: (fate == 0).then_some(found) }
+    }
+
+    /// The bounces of 1 to 8 planes: the fate (0, 2 or 3), and where it is 0 the points, the one next to the source first.
+    pub fn bounces(&self, seq: &[u32], source: &[f32; 3], listener: &[f32; 3]) -> (u32, [[f32; 3]; ORDER]) {
+        assert!(!seq.is_empty() && seq.len() <= ORDER && seq.iter().all(|&p| (p as usize) < self.planes.count), "{seq:?} is no sequence of planes");
+        let p = &self.planes;
+        let mut points = [[0.0f32; 3]; ORDER];
+        // SAFETY: as asserted here and in `new`; `push` keeps the runs of each plane within their areas.
+        #[rustfmt::skip]
+        let fate = unsafe {
+            ffi::biv_bounces(
+                self.columns.as_ptr(), self.columns.len(), self.n, p.floats.as_ptr(), p.floats.len(), p.words.as_ptr(), p.words.len(),
+                p.members.as_ptr(), p.members.len(), p.edges.as_ptr(), p.edges.len(), p.count, self.floats[0],
+                seq.as_ptr(), seq.len(), source.as_ptr(), source.len(), listener.as_ptr(), listener.len(),
+                points.as_mut_ptr().cast(), 3 * ORDER,
+            )
+        };
+        (fate, points)
     }
 }
 

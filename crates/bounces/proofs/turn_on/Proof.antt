@@ -1,0 +1,83 @@
+use mathlib.Core.Path.{_≡_, sym, _∙_}
+use native.Mathlib.Omega.{arith}
+use borrow.Author.Needs.{needs}
+use Rattle.mirror.specs.Rows.{trisOf, borderOf, RunsIn}
+use Rattle.mirror.proofs.Laws.{locate-surface}
+use Rattle.bounces.specs.Areas.{PlanesRead}
+use Rattle.bounces.specs.Bounces.{bounceOf}
+use Rattle.bounces.proofs.Laws.{plane-row}
+use Rattle.bounces.proofs.turn_on.Statement.{statement}
+use Rattle.bounces.proofs.turn_on.Tie as tie
+
+-- `bounces::turn_on` meets its contract: the plane's row, its crossing and its spot.
+
+plane-at-requires : tie.Need-plane-at-requires
+plane-at-requires c κs = (omega (arith, c .before .before .before .before .before .pre .0 .held .floats-room, c .before .before .before .before .before .pre .1), omega (arith, c .before .before .before .before .before .pre .0 .held .words-room, c .before .before .before .before .before .pre .1))
+
+returns : tie.Need-returns
+unfolding bounceOf
+returns c = λ tri fade h.
+    let a = c .before .before .before .before .before .before .before .before .before .args in
+    let row = c .before .before .before .plane-at .result in
+    rw (
+      plane-row (a .floats .now) (a .words .now) (a .members .now) (a .edges .now) (a .count) (a .p) (c .before .before .before .before .before .before .before .before .before .pre .1),
+      ← c .before .before .before .plane-at .ensures,
+      ← c .before .before .crossing .ensures (trisOf row (a .members .now)) (borderOf row (a .edges .now)),
+      c .enum-told .given .1,
+    )
+
+plane-at-requires-2 : tie.Need-plane-at-requires-2
+plane-at-requires-2 c κs = (omega (arith, c .before .before .before .before .before .before .before .before .before .before .pre .0 .held .floats-room, c .before .before .before .before .before .before .before .before .before .before .pre .1), omega (arith, c .before .before .before .before .before .before .before .before .before .before .pre .0 .held .words-room, c .before .before .before .before .before .before .before .before .before .before .pre .1))
+
+surface-requires : tie.Need-surface-requires
+surface-requires c κs =
+    let runs : RunsIn (c .plane-at2 .result) (c .before .before .before .before .before .before .before .before .before .before .before .args .n) (c .before .before .before .before .before .before .before .before .before .before .before .args .members .now) (c .before .before .before .before .before .before .before .before .before .before .before .args .edges .now) = rw (c .plane-at2 .ensures) (c .before .before .before .before .before .before .before .before .before .before .before .pre .0 .held .runs _ (c .before .before .before .before .before .before .before .before .before .before .before .pre .1)) in
+    (c .before .before .before .before .before .before .before .before .before .before .before .pre .0 .columns-room, (runs .members-room, runs .below))
+
+returns-2 : tie.Need-returns-2
+unfolding bounceOf PlanesRead
+returns-2 c = λ tri fade h.
+    let a = c .before .before .before .before .before .before .before .before .before .before .before .before .before .before .args in
+    let row = c .before .before .before .before .before .before .before .before .plane-at .result in
+    let again : c .before .before .before .plane-at2 .result ≡ row = c .before .before .before .plane-at2 .ensures ∙ sym (c .before .before .before .before .before .before .before .before .plane-at .ensures) in
+    rw (
+      plane-row (a .floats .now) (a .words .now) (a .members .now) (a .edges .now) (a .count) (a .p) (c .before .before .before .before .before .before .before .before .before .before .before .before .before .before .pre .1),
+      ← c .before .before .before .before .before .before .before .before .plane-at .ensures,
+      ← c .before .before .before .before .before .before .before .crossing .ensures (trisOf row (a .members .now)) (borderOf row (a .edges .now)),
+      c .before .before .before .before .before .b .given .1,
+      locate-surface,
+      ← rw again at (c .before .before .surface .ensures tri (borderOf row (a .edges .now)) (rw (c .before .before .before .plane-at2 .ensures) (h _ (c .before .before .before .before .before .before .before .before .before .before .before .before .before .before .pre .1)))),
+      c .enum-told2 .given .1,
+    )
+
+returns-3 : tie.Need-returns-3
+unfolding bounceOf PlanesRead
+returns-3 c = λ tri fade h.
+    let a = c .before .before .before .before .before .before .before .before .before .before .before .before .before .before .before .args in
+    let row = c .before .before .before .before .before .before .before .before .before .plane-at .result in
+    let again : c .before .before .before .before .plane-at2 .result ≡ row = c .before .before .before .before .plane-at2 .ensures ∙ sym (c .before .before .before .before .before .before .before .before .before .plane-at .ensures) in
+    rw (
+      plane-row (a .floats .now) (a .words .now) (a .members .now) (a .edges .now) (a .count) (a .p) (c .before .before .before .before .before .before .before .before .before .before .before .before .before .before .before .pre .1),
+      ← c .before .before .before .before .before .before .before .before .before .plane-at .ensures,
+      ← c .before .before .before .before .before .before .before .before .crossing .ensures (trisOf row (a .members .now)) (borderOf row (a .edges .now)),
+      c .before .before .before .before .before .before .b .given .1,
+      locate-surface,
+      ← rw again at (c .before .before .before .surface .ensures tri (borderOf row (a .edges .now)) (rw (c .before .before .before .before .plane-at2 .ensures) (h _ (c .before .before .before .before .before .before .before .before .before .before .before .before .before .before .before .pre .1)))),
+      c .before .q .given .1,
+    )
+
+pub turn-on-spec : {M : Type 1} → statement M
+turn-on-spec =
+    tie.close
+    (tie.spec
+    plane-at-requires
+    (λ c κs. tt)
+    (λ c. search needs)
+    (λ c. search needs)
+    returns
+    plane-at-requires-2
+    surface-requires
+    (λ c. search needs)
+    (λ c. search needs)
+    returns-2
+    returns-3)
