@@ -188,13 +188,13 @@ fn is_coplanar(rows: &[f32], p: usize, k: PlaneKey) -> bool
 {
     let at = 11 * p;
     let offset = rows[at + 3];
-    if vector::dot3(vec_in(rows, at), k.normal) > 0.999_98 {
-        return float::abs(offset - k.offset) < 2e-3;
+    if float::abs(offset - k.offset) < 2e-3 {
+        return vector::dot3(vec_in(rows, at), k.normal) > 0.999_98;
     }
     false
 }
 
-// Patch p where it matches, else `found`.
+// Patch p where it matches, else `found`. Most patches of a chain fail by their offset, which is tested first.
 fn match_or(
     rows: &[f32],
     cells: &[u64],
@@ -208,8 +208,8 @@ fn match_or(
     requires { ⌜ (patchFloats * p + patchFloats ≤ length (now rows)) × (3 * p + 3 ≤ length (now cells)) ⌝ }
     ensures { λ r. ⌜ r ≡ cond (matchAt (now (rows .entry)) (now (cells .entry)) (key x y z) (k .normal) (k .offset) p) p found ⌝ }
 {
-    if in_cell(cells, p, x, y, z) {
-        if is_coplanar(rows, p, k) {
+    if is_coplanar(rows, p, k) {
+        if in_cell(cells, p, x, y, z) {
             return p;
         }
     }
