@@ -7,9 +7,10 @@ use mathlib.Core.List.{List, [], _∷_, _++_}
 use native.Mathlib.Omega.{arith}
 use lib.ListN.{length, getD, take, length-map, length-append}
 use lib.Dec.{eqb, ltb}
-use lib.Ieee.{Float}
+use lib.Ieee.{Float, lt, le}
 use borrow.Author.Tests.{lt-ltb, le-ltb}
 use Rattle.vector.specs.declared.Vec3.{Vec3}
+use Rattle.vector.specs.Vector.{length3Of, distance3Of}
 use Rattle.order.specs.Runs.{upTo}
 use Rattle.mirror.specs.Plane.{Plane, planeAt}
 use Rattle.mirror.specs.Rows.{planeIn, planesIn}
@@ -28,6 +29,7 @@ use Rattle.paths.proofs.Fate as fate
 use denote.Enum.Declared.{tagOf}
 use types.Run.{OneOf}
 use Rattle.search.specs.Outcome.{onOf, foundOf, byFate}
+use Rattle.search.specs.Contract.{squareOf, Beyond}
 
 upTo-length : (n : ℕ) → length (upTo n) ≡ n
 unfolding upTo
@@ -103,6 +105,11 @@ pub judged-lost :
 judged-lost room m n r fs ws o s out e =
     let z : r ≡ r + 0 = omega arith in
     ap (λ (k : ℕ). search (n + 1) k (candidatesIn m fs ws) o) z ∙ judged-fails room m n r 0 fs ws o s out e
+
+-- a distance whose square is beyond the bound is too far
+pub square-far : (far b : Float) (v w : Vec3) → Beyond far b → lt b (squareOf v w) ≡ true → le (distance3Of v w) far ≡ false
+unfolding distance3Of length3Of
+square-far far b v w bound h = bound (squareOf v w) h
 
 -- ---- fates
 

@@ -86,6 +86,7 @@ module _ (S : Scene) (q : Task) where
     within = k .within;
     small = k .small;
     bound = k .bound;
+    far = k .far;
     lent = k .lent;
     room = record { few = k .room .few; floats = rw e (k .room .floats); words = rw f (k .room .words) };
     sound = g;

@@ -1,14 +1,16 @@
 -- What the search's functions ask and promise.
 use Prim.Native.Nat.{ℕ, _+_, _*_, _≤_, _<_}
 use mathlib.Core.Path.{_≡_}
-use mathlib.Core.Bool.{Bool, true, not, cond}
+use mathlib.Core.Bool.{Bool, true, false, not, cond}
 use mathlib.Core.List.{List, [], _∷_, _++_}
 use lib.ListN.{length, getD, take, set}
 use lib.Dec.{ltb, eqb}
-use lib.Ieee.{Float}
+use lib.Ieee.{Float, lt, le}
 use Rattle.geometry.specs.declared.Triangle.{Triangle}
 use Rattle.build.specs.Tree.{Tree}
+use Rattle.float.specs.Sqrt.{sqrtOf}
 use Rattle.vector.specs.declared.Vec3.{Vec3}
+use Rattle.vector.specs.Vector.{sub3Of, dot3Of}
 use Rattle.mirror.specs.Plane.{Plane}
 use Rattle.mirror.specs.Rows.{planesIn}
 use Rattle.bounces.specs.Areas.{maxOrder, pointFloats, pointIn}
@@ -70,6 +72,14 @@ state seq images t = record { seq = seq; images = images; nodes = t .nodes; rays
 abbrev pub pointPut : List Float → ℕ → Vec3 → List Float
 pointPut l at v = set (set (set l at (v .x)) (at + 1) (v .y)) (at + 2) (v .z)
 
+-- the square of a distance, as it is before `distance3Of` takes its root
+abbrev pub squareOf : Vec3 → Vec3 → Float
+squareOf a b = dot3Of (sub3Of a b) (sub3Of a b)
+
+-- what is above b has a root that is not at most `far`
+abbrev pub Beyond : Float → Float → Type 0
+Beyond far b = (x : Float) → lt b x ≡ true → le (sqrtOf x) far ≡ false
+
 -- what a path takes at most: 162 × 9 rays
 abbrev pub mostRays : ℕ
 mostRays = 1458
@@ -110,6 +120,7 @@ module _ (S : Scene) (q : Task) where
     pub within : q .order ≤ maxOrder
     pub small : q .count ≤ mostPlanes
     pub bound : q .limit ≤ most
+    pub far : Beyond (q .settings .«max_reflection_distance») (q .beyond)
     pub lent : LentAs
     pub room : Rows (q .room) fs ws
     pub sound : Sound depth s
@@ -119,6 +130,7 @@ module _ (S : Scene) (q : Task) where
     pub some : 0 < len
     pub within : len ≤ maxOrder
     pub under : s .nodes < most
+    pub far : Beyond (q .settings .«max_reflection_distance») (q .beyond)
     pub lent : LentAs
     pub room : Rows (q .room) fs ws
     pub sound : Sound len s

@@ -9,7 +9,7 @@ ghost use mathlib.Core.Path.{_≡_};
 ghost use mathlib.Core.List.{List};
 ghost use Prim.Native.Nat.{ℕ, _+_, _-_, _*_, _<_, _≤_};
 ghost use lib.ListN.{length, getD, take, set};
-ghost use lib.Ieee.{Float};
+ghost use lib.Ieee.{Float, lt};
 ghost use Rattle.geometry.specs.declared.Triangle.{Triangle};
 ghost use Rattle.build.specs.Tree.{Tree};
 ghost use Rattle.mirror.specs.Plane.{noPoint, planeAt};
@@ -21,7 +21,7 @@ ghost use Rattle.ranking.specs.Rows.{Rows, candidatesIn};
 ghost use Rattle.paths.specs.Areas.{Lent, ReadAs};
 ghost use Rattle.claim.specs.Query.{search, searched};
 ghost use Rattle.search.specs.Outcome.{onOf, outcomesOf};
-ghost use Rattle.search.specs.Contract.{scene, state, pointPut, firstsOf, Ready, Visitable, Walked, Kept, Visited};
+ghost use Rattle.search.specs.Contract.{scene, state, pointPut, firstsOf, squareOf, Beyond, Ready, Visitable, Walked, Kept, Visited};
 
 // Floats of a point in an area.
 const POINT_FLOATS: usize = 3;
@@ -29,13 +29,14 @@ const POINT_FLOATS: usize = 3;
 // What is searched for, and over how much: it does not change on the way. What each image needs stands first, in one piece of memory.
 struct Task {
     listener: Vec3,
-    limit: u32,
+    beyond: f32,
     n: usize,
     count: usize,
     order: usize,
     nodes_count: usize,
     room: usize,
     source: Vec3,
+    limit: u32,
     settings: Settings,
 }
 
@@ -230,7 +231,16 @@ fn judge(
     keep(q.room, len, number, c, s, fs, ws)
 }
 
-// Visits the first `len` planes. Of nearly every path a bounce fails: its image is then only counted, however far it is, and no root is taken.
+// Whether the square of the distance from the listener to the image of the first `len` planes is above `beyond`.
+fn too_far(images: &[f32], len: usize, listener: Vec3, beyond: f32) -> bool
+    requires { ⌜ pointFloats * (len + 1) ≤ length (now images) ⌝ }
+    ensures { λ r. ⌜ r ≡ lt beyond (squareOf listener (pointIn (now (images .entry)) len)) ⌝ }
+{
+    let way = vector::sub3(listener, mirror::vec_in(images, POINT_FLOATS * len));
+    vector::dot3(way, way) > beyond
+}
+
+// Visits the first `len` planes. Nearly every image is too far, or a bounce of its path fails: it is then only counted, and no root is taken.
 fn visit(
     padded: &[f32],
     nodes: &[u32],
@@ -254,6 +264,11 @@ fn visit(
     requires { ⌜ Visitable (scene (now padded) (now nodes) (now perm) (now rows) (now handles) (now materials) (now columns) (now floats) (now words) (now members) (now edges)) q len (state (now seq) (now images) t) (now fs) (now ws) ⌝ }
     ensures { λ r. ⌜ Visited (scene (now (padded .entry)) (now (nodes .entry)) (now (perm .entry)) (now (rows .entry)) (now (handles .entry)) (now (materials .entry)) (now (columns .entry)) (now (floats .entry)) (now (words .entry)) (now (members .entry)) (now (edges .entry))) q len (now (seq .entry)) t (now (fs .entry)) (now (ws .entry)) r (now (fs .exit)) (now (ws .exit)) ⌝ }
 {
+    if too_far(images, len, q.listener, q.beyond) {
+        let mut far = t;
+        far.nodes = far.nodes + 1;
+        return far;
+    }
     let fate = bounces::fate_back(
         columns,
         q.n,
@@ -402,7 +417,14 @@ fn node(
             ws,
         );
         if depth + 1 < q.order {
-            return expand_images(
+            // field by field, so that the compiler keeps the tally of a last image out of memory
+            let v = Tally {
+                nodes: u.nodes,
+                rays: u.rays,
+                found: u.found,
+                over: u.over,
+            };
+            let r = expand_images(
                 padded,
                 nodes,
                 perm,
@@ -416,12 +438,18 @@ fn node(
                 edges,
                 q,
                 depth + 1,
-                u,
+                v,
                 seq,
                 images,
                 fs,
                 ws,
             );
+            return Tally {
+                nodes: r.nodes,
+                rays: r.rays,
+                found: r.found,
+                over: r.over,
+            };
         }
         return u;
     }
@@ -437,6 +465,18 @@ fn first_images(source: Vec3) -> [f32; 27]
     images[1] = source.y;
     images[2] = source.z;
     images
+}
+
+// A bound above which every square has a root above `far`: the square of `far` and a little more, where its own root is above `far`; else the
+// infinity, which nothing is above.
+fn square_beyond(far: f32) -> f32
+    ensures { λ r. ⌜ Beyond far r ⌝ }
+{
+    let square = far * far * 1.000_001;
+    if float::sqrt(square) > far {
+        return square;
+    }
+    float::infinity()
 }
 
 // The search from nothing: at most 250,000 images of at most `order` planes, and at most `room` candidates, in rows of `fs` and `ws`.
@@ -477,15 +517,17 @@ pub fn search_images(
             over: false,
         };
     }
+    let beyond = square_beyond(settings.max_reflection_distance);
     let q = Task {
         listener,
-        limit: sequences::MAX_IMAGE_NODES as u32,
+        beyond,
         n,
         count,
         order,
         nodes_count,
         room,
         source,
+        limit: sequences::MAX_IMAGE_NODES as u32,
         settings,
     };
     let nothing = Tally {

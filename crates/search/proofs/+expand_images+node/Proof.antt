@@ -133,7 +133,7 @@ node-visit-requires t c κs =
     let pre = c .before .before .before .before .before .before .before .before .before .before .before .before .before .before .before .before .before .before .before .before .before .before .before .before .before .before .before .before .before .before .before .before .pre .1 in
     let d = pre .1 .deep in
     let w = pre .1 .within in
-    record { some = omega arith; within = omega (arith, d, w); under = omega (arith, c .before .before .before .before .before .before .before .before .before .before .before .before .before .before .if1 .left, pre .1 .bound); lent = pre .1 .lent; room = pre .1 .room; sound = law.sound-push (scene (a .padded .now) (a .nodes .now) (a .perm .now) (a .rows .now) (a .handles .now) (a .materials .now) (a .columns .now) (a .floats .now) (a .words .now) (a .members .now) (a .edges .now)) (a .q) (a .depth) (a .p) (a .seq .now) (c .before .before .before .before .before .before .before .before .push .last .1 .1 .1 .1 .1 .0) (a .images .now) (c .before .before .before .before .before .before .before .before .push .last .1 .1 .1 .1 .1 .1 .0) (a .t) (c .before .before .before .before .before .before .before .before .push .ensures .0) (c .before .before .before .before .before .before .before .before .push .ensures .1 (a .members .now) (a .edges .now)) (omega (arith, d, w)) (pre .0) (pre .1 .sound) }
+    record { some = omega arith; within = omega (arith, d, w); under = omega (arith, c .before .before .before .before .before .before .before .before .before .before .before .before .before .before .if1 .left, pre .1 .bound); far = pre .1 .far; lent = pre .1 .lent; room = pre .1 .room; sound = law.sound-push (scene (a .padded .now) (a .nodes .now) (a .perm .now) (a .rows .now) (a .handles .now) (a .materials .now) (a .columns .now) (a .floats .now) (a .words .now) (a .members .now) (a .edges .now)) (a .q) (a .depth) (a .p) (a .seq .now) (c .before .before .before .before .before .before .before .before .push .last .1 .1 .1 .1 .1 .0) (a .images .now) (c .before .before .before .before .before .before .before .before .push .last .1 .1 .1 .1 .1 .1 .0) (a .t) (c .before .before .before .before .before .before .before .before .push .ensures .0) (c .before .before .before .before .before .before .before .before .push .ensures .1 (a .members .now) (a .edges .now)) (omega (arith, d, w)) (pre .0) (pre .1 .sound) }
 
 node-add-if3 : (t : ℕ) → node-lts.Need-add-if3 (may-reads.Asked, may-reads.Learnt, push-reads.Asked, push-reads.Learnt, visit-reads.Asked, visit-reads.Learnt, expand-below t, expand.Post) (node-at t) node.Post
 node-add-if3 t c =
