@@ -1,7 +1,7 @@
 -- The laws of the loops of `bvh`, and of the whole:
 --     extents-more, keys-more, counted-more, padded-more, rows-more     one more turn of each loop
 --     tree-padded      padded boxes read as the padded tree
---     stands, traced   what the build leaves, and what a trace reads of it
+--     stands, traced   what the build leaves, and what a trace reads of it (`traced-in`: from the two parts of one area)
 use mathlib.Core.Path.{_≡_, refl, sym, ap, _∙_, subst}
 use mathlib.Core.Logic.{⊎-elim}
 use mathlib.Core.Bool.{Bool, true, false, not, _&&_}
@@ -12,8 +12,9 @@ use native.Mathlib.Omega.{arith}
 use lib.Dec.{T}
 use lib.Ieee.{Float, nan, inf, fin, binary32, fits, isNan, le}
 use lib.Ieee.Fits.{div-fits}
-use lib.ListN.{length, getD, set}
-use lib.Seq.{sets, getD-set-same, getD-set-other, ext-getD, take-all}
+use lib.ListN.{length, getD, set, take}
+use lib.Seq.{sets, length-take-le, getD-set-same, getD-set-other, ext-getD, take-all}
+use borrow.Rule.Slice.PartMut.{mid-len}
 use Rattle.float.specs.Compare.{isFinite}
 use Rattle.float.specs.Key.{floatKey}
 use Rattle.float.proofs.Keys.{float-key-leb}
@@ -34,9 +35,10 @@ use Rattle.build.specs.Areas.{boxAtOf, linksAtOf, readOf, treeAtOf, part, Linke
 use Rattle.build.proofs.Frame.{read-node, read-leaf}
 use Rattle.trace.specs.Leaf.{cornerAtOf, edgesAtOf, Rows}
 use Rattle.trace.specs.Trace.{paddedTreeOf}
-use Rattle.bvh.specs.Bvh.{aabbOf, centroidOf, treeOf, boxRow, extentRow, edgesRow, allFinite, finiteOf, Keys, Stands, Edged, Traced, TreeOf}
+use Rattle.bvh.specs.Bvh.{aabbOf, centroidOf, treeOf, boxRow, extentRow, edgesRow, allFinite, finiteOf, Keys, KeysIn, paddedIn, rowsIn, Stands, Edged, Traced, TreeOf}
 use Rattle.bvh.proofs.Agree.{build-agree}
 use Rattle.bvh.proofs.Rows as rows
+use Rattle.bvh.proofs.Parts.{cut-same}
 
 -- ---- one more of a count
 less : (k i : ℕ) → k < i + 1 → (k ≡ i → ⊥) → k < i
@@ -156,7 +158,7 @@ order-agree : (m : ℕ) (keys : List ℕ) (f g : ℕ → Float) → ((i : ℕ) �
 unfolding InOrder
 order-agree m keys f g same o i j hi hj = o i j hi hj ∙ rw (same i hi, same j hj)
 
-pub keyed : (e : List Float) (mid : ℕ → Vec3) (m : ℕ) (kx ky kz : List ℕ) → ((i : ℕ) → i < m → centroidAtOf e i ≡ mid i) →
+keyed : (e : List Float) (mid : ℕ → Vec3) (m : ℕ) (kx ky kz : List ℕ) → ((i : ℕ) → i < m → centroidAtOf e i ≡ mid i) →
     m ≤ length kx → m ≤ length ky → m ≤ length kz → Keys mid m kx ky kz → Keyed e m kx ky kz
 keyed e mid m kx ky kz same hx hy hz k =
     record {
@@ -167,6 +169,28 @@ keyed e mid m kx ky kz same hx hy hz k =
       yo = order-agree m ky (λ i. axisOf (mid i) 1) (λ i. axisOf (centroidAtOf e i) 1) (λ i h. ap (λ (v : Vec3). axisOf v 1) (sym (same i h))) (k .yo);
       zo = order-agree m kz (λ i. axisOf (mid i) 2) (λ i. axisOf (centroidAtOf e i) 2) (λ i h. ap (λ (v : Vec3). axisOf v 2) (sym (same i h))) (k .zo);
     }
+
+-- the three axes' parts of one area: each was filled without touching those before it
+pub keys-in :
+    (mid : ℕ → Vec3) (m : ℕ) (k₁ k₂ k₃ : List ℕ) →
+    InOrder m (part 0 m k₁) (λ i. axisOf (mid i) 0) → InOrder m (part m (2 * m) k₂) (λ i. axisOf (mid i) 1) → InOrder m (part (2 * m) (3 * m) k₃) (λ i. axisOf (mid i) 2) →
+    take m k₂ ≡ take m k₁ → take (2 * m) k₃ ≡ take (2 * m) k₂ → KeysIn mid m k₃
+unfolding KeysIn
+keys-in mid m k₁ k₂ k₃ xo yo zo second third =
+    record {
+      xo = subst (λ (l : List ℕ). InOrder m l (λ i. axisOf (mid i) 0)) (sym (cut-same 0 m (2 * m) k₃ k₂ (omega arith) third ∙ cut-same 0 m m k₂ k₁ (omega arith) second)) xo;
+      yo = subst (λ (l : List ℕ). InOrder m l (λ i. axisOf (mid i) 1)) (sym (cut-same m (2 * m) (2 * m) k₃ k₂ (omega arith) third)) yo;
+      zo = zo;
+    }
+
+pub keyed-in : (e : List Float) (mid : ℕ → Vec3) (m : ℕ) (keys : List ℕ) → ((i : ℕ) → i < m → centroidAtOf e i ≡ mid i) →
+    3 * m ≤ length keys → KeysIn mid m keys → Keyed e m (part 0 m keys) (part m (2 * m) keys) (part (2 * m) (3 * m) keys)
+unfolding KeysIn
+keyed-in e mid m keys same room k =
+    let x = mid-len 0 m keys (omega arith) in
+    let y = mid-len m (2 * m) keys (omega arith) in
+    let z = mid-len (2 * m) (3 * m) keys (omega arith) in
+    keyed e mid m (part 0 m keys) (part m (2 * m) keys) (part (2 * m) (3 * m) keys) same (omega arith) (omega arith) (omega arith) k
 
 -- ---- numbers
 
@@ -303,7 +327,7 @@ unfolding RowsTo
 rows-done cs n p r i m le all k h = all k (omega arith)
 
 -- ---- what a trace reads
-pub traced :
+traced :
     (cs : List Float) (handles : List ℕ) (n m : ℕ) (boxes : List Float) (nodes p : List ℕ) (padded r : List Float) (count : ℕ) →
     Stands cs handles n m boxes nodes p count →
     ((k : ℕ) → k < count → boxAtOf padded k ≡ paddedOf (boxAtOf boxes k)) →
@@ -324,6 +348,22 @@ traced cs handles n m boxes nodes p padded r count w pads has hb hr =
       };
       rows-of = λ edged k h. record { corner = has k h .0; edges = has k h .1 ∙ edged (getD p k 0) (w .inside k h) };
     }
+
+-- from the two parts of one area, whose perm is as long as was asked
+pub traced-in :
+    (cs : List Float) (handles : List ℕ) (n m : ℕ) (boxes : List Float) (nodes p : List ℕ) (t : List Float) (count : ℕ) →
+    Stands cs handles n m boxes nodes p count → 22 * m ≤ length t →
+    ((k : ℕ) → k < count → boxAtOf (paddedIn (length p) t) k ≡ paddedOf (boxAtOf boxes k)) →
+    ((k : ℕ) → k < length p → (cornerAtOf (rowsIn (length p) t) k ≡ vecAtOf cs n (getD p k 0)) × (edgesAtOf (rowsIn (length p) t) k ≡ columns.edgesAtOf cs n (getD p k 0))) →
+    Traced cs handles n m nodes p (paddedIn m t) (rowsIn m t) count
+traced-in cs handles n m boxes nodes p t count w room pads has =
+    let size = w .size in
+    let front = length-take-le (12 * m) t (omega arith) in
+    let rest = mid-len (12 * m) (22 * m) t room in
+    traced cs handles n m boxes nodes p (paddedIn m t) (rowsIn m t) count w
+    (λ k h. ap (λ (j : ℕ). boxAtOf (paddedIn j t) k) (sym size) ∙ pads k h)
+    (λ k h. (ap (λ (j : ℕ). cornerAtOf (rowsIn j t) k) (sym size) ∙ has k h .0, ap (λ (j : ℕ). edgesAtOf (rowsIn j t) k) (sym size) ∙ has k h .1))
+    (omega arith) (omega arith)
 
 -- an answer of 0 says that a centroid is not finite, and any other that the tree stands
 module _ (cs : List Float) (handles : List ℕ) (n m : ℕ) (boxes : List Float) (nodes p : List ℕ) (r : ℕ) (w : TreeOf cs handles n m boxes nodes p r) where

@@ -4,5 +4,6 @@ pub mod Agree
 pub mod Hits
 mod Examples
 mod Rows
+mod Parts
 mod Laws
 pub mod Finite

@@ -1,7 +1,7 @@
 -- The tree of the triangles that stand in columns, and what a trace reads of it: `build_flat_bvh`.
-use Prim.Native.Nat.{ℕ, zero, suc, _*_, _<_, _≤_}
+use Prim.Native.Nat.{ℕ, zero, suc, _-_, _*_, _<_, _≤_}
 use lib.Ieee.{Float}
-use lib.ListN.{length}
+use lib.ListN.{length, take, drop}
 use mathlib.Core.Path.{_≡_}
 use mathlib.Core.Bool.{Bool, true, false, _&&_}
 use mathlib.Core.List.{List, [], _∷_}
@@ -17,7 +17,7 @@ use Rattle.geometry.specs.Intersect.{edgesOf}
 use Rattle.columns.specs.Columns.{columnCount, triangleAtOf, edgesAtOf}
 use Rattle.split.specs.Split.{InOrder}
 use Rattle.build.specs.Tree.{Tree, buildOf}
-use Rattle.build.specs.Areas.{treeAtOf, Sound}
+use Rattle.build.specs.Areas.{part, treeAtOf, Sound}
 use Rattle.trace.specs.Leaf.{Rows}
 use Rattle.trace.specs.Trace.{paddedTreeOf, Held}
 
@@ -61,17 +61,27 @@ pub record Keys (mid : ℕ → Vec3) (m : ℕ) (kx ky kz : List ℕ) : Type 0 wh
   pub yo : InOrder m ky (λ i. axisOf (mid i) 1)
   pub zo : InOrder m kz (λ i. axisOf (mid i) 2)
 
+-- the same, of m words each, one axis after another in one area
+unfoldable pub KeysIn : (ℕ → Vec3) → ℕ → List ℕ → Type 0
+KeysIn mid m keys = Keys mid m (part 0 m keys) (part m (2 * m) keys) (part (2 * m) (3 * m) keys)
+
+-- ---- the area of a tree of m triangles: the nodes' padded boxes, `&tree[..12 * m]`, and the leaves' rows, `&tree[12 * m..22 * m]`
+
+abbrev pub paddedIn : ℕ → List Float → List Float
+paddedIn m tree = take (12 * m) tree
+
+abbrev pub rowsIn : ℕ → List Float → List Float
+rowsIn m tree = take (22 * m - 12 * m) (drop (12 * m) tree)
+
 -- ---- what the functions ask: columns of n triples, and room for as many triangles as perm is long
-pub record Lent (columns : List Float) (handles : List ℕ) (n : ℕ) (extents : List Float) (kx ky kz perm words scratch : List ℕ) (areas boxes : List Float) (nodes : List ℕ) : Type 0 where
+pub record Lent (columns : List Float) (handles : List ℕ) (n : ℕ) (extents : List Float) (keys perm words scratch : List ℕ) (areas boxes : List Float) (nodes : List ℕ) : Type 0 where
   pub wide : columnCount * n ≤ length columns
   pub named : n ≤ length handles
   pub some : 0 < length perm
   pub fewer : length perm ≤ n
   pub few : length perm < 65536
   pub extents-room : 9 * length perm ≤ length extents
-  pub kx-room : length perm ≤ length kx
-  pub ky-room : length perm ≤ length ky
-  pub kz-room : length perm ≤ length kz
+  pub keys-room : 3 * length perm ≤ length keys
   pub words-room : length perm ≤ length words
   pub scratch-room : length perm ≤ length scratch
   pub areas-room : length perm ≤ length areas

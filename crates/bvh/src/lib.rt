@@ -7,7 +7,7 @@ use vector::Vec3;
 ghost use mathlib.Core.Path.{_≡_};
 ghost use mathlib.Core.Bool.{true, false};
 ghost use Prim.Native.Nat.{ℕ, _+_, _*_, _<_, _≤_};
-ghost use lib.ListN.{length, getD};
+ghost use lib.ListN.{length, getD, take};
 ghost use lib.Seq.{sets};
 ghost use Rattle.order.specs.Sort.{Below};
 ghost use Rattle.vector.specs.Vector.{axisOf};
@@ -15,9 +15,9 @@ ghost use Rattle.geometry.specs.Slab.{paddedOf};
 ghost use Rattle.columns.specs.Columns.{columnCount, vecAtOf};
 ghost use Rattle.split.specs.Split.{aabbAtOf, centroidAtOf, InOrder};
 ghost use Rattle.build.specs.Tree.{countTo};
-ghost use Rattle.build.specs.Areas.{boxAtOf};
+ghost use Rattle.build.specs.Areas.{boxAtOf, part};
 ghost use Rattle.trace.specs.Leaf.{cornerAtOf, edgesAtOf};
-ghost use Rattle.bvh.specs.Bvh.{aabbOf, centroidOf, extentRow, boxRow, edgesRow, allFinite, finiteOf, Keys, Lent, TreeOf, BvhOf};
+ghost use Rattle.bvh.specs.Bvh.{aabbOf, centroidOf, extentRow, boxRow, edgesRow, allFinite, finiteOf, paddedIn, rowsIn, KeysIn, Lent, TreeOf, BvhOf};
 
 // ---- the triangles' boxes and centroids
 
@@ -88,23 +88,35 @@ fn put_keys(
     true
 }
 
-// The keys of the three axes.
-fn put_all_keys(
+// The keys of one axis, in the part of the area from `from` to `to`.
+fn put_axis(
     columns: &[f32],
     handles: &[u32],
     n: usize,
     count: usize,
-    kx: &mut [u64],
-    ky: &mut [u64],
-    kz: &mut [u64],
+    k: usize,
+    from: usize,
+    to: usize,
+    keys: &mut [u64],
 ) -> bool
     requires { ⌜ (columnCount * n ≤ length (now columns)) × (n ≤ length (now handles)) × (count ≤ n) ⌝ }
-    requires { ⌜ (count ≤ length (now kx)) × (count ≤ length (now ky)) × (count ≤ length (now kz)) ⌝ }
-    ensures { λ r. ⌜ (r ≡ finiteOf (centroidOf (now (columns .entry)) (now (handles .entry)) n) count) × (r ≡ true → Keys (centroidOf (now (columns .entry)) (now (handles .entry)) n) count (now (kx .exit)) (now (ky .exit)) (now (kz .exit))) ⌝ }
+    requires { ⌜ (from + count ≤ to) × (to ≤ length (now keys)) ⌝ }
+    ensures { λ r. ⌜ (r ≡ allFinite (λ i. axisOf (centroidOf (now (columns .entry)) (now (handles .entry)) n i) k) count) × (r ≡ true → InOrder count (part from to (now (keys .exit))) (λ i. axisOf (centroidOf (now (columns .entry)) (now (handles .entry)) n i) k)) × (take from (now (keys .exit)) ≡ take from (now (keys .entry))) ⌝ }
 {
-    if put_keys(columns, handles, n, count, 0, kx) {
-        if put_keys(columns, handles, n, count, 1, ky) {
-            return put_keys(columns, handles, n, count, 2, kz);
+    put_keys(columns, handles, n, count, k, &mut keys[from..to])
+}
+
+// The keys of the three axes, one axis after another.
+fn put_all_keys(columns: &[f32], handles: &[u32], n: usize, count: usize, keys: &mut [u64]) -> bool
+    requires { ⌜ (columnCount * n ≤ length (now columns)) × (n ≤ length (now handles)) × (count ≤ n) ⌝ }
+    requires { ⌜ 3 * count ≤ length (now keys) ⌝ }
+    ensures { λ r. ⌜ (r ≡ finiteOf (centroidOf (now (columns .entry)) (now (handles .entry)) n) count) × (r ≡ true → KeysIn (centroidOf (now (columns .entry)) (now (handles .entry)) n) count (now (keys .exit))) ⌝ }
+{
+    let two = 2 * count;
+    let three = 3 * count;
+    if put_axis(columns, handles, n, count, 0, 0, count, keys) {
+        if put_axis(columns, handles, n, count, 1, count, two, keys) {
+            return put_axis(columns, handles, n, count, 2, two, three, keys);
         }
     }
     false
@@ -130,9 +142,7 @@ fn build_tree(
     handles: &[u32],
     n: usize,
     extents: &mut [f32],
-    kx: &mut [u64],
-    ky: &mut [u64],
-    kz: &mut [u64],
+    keys: &mut [u64],
     perm: &mut [u32],
     words: &mut [u64],
     scratch: &mut [u64],
@@ -140,17 +150,19 @@ fn build_tree(
     boxes: &mut [f32],
     nodes: &mut [u32],
 ) -> usize
-    requires { ⌜ Lent (now columns) (now handles) n (now extents) (now kx) (now ky) (now kz) (now perm) (now words) (now scratch) (now areas) (now boxes) (now nodes) ⌝ }
+    requires { ⌜ Lent (now columns) (now handles) n (now extents) (now keys) (now perm) (now words) (now scratch) (now areas) (now boxes) (now nodes) ⌝ }
     ensures { λ r. ⌜ TreeOf (now (columns .entry)) (now (handles .entry)) n (length (now (perm .entry))) (now (boxes .exit)) (now (nodes .exit)) (now (perm .exit)) r ⌝ }
 {
     let count = perm.len();
     put_extents(columns, handles, n, count, extents);
-    if put_all_keys(columns, handles, n, count, kx, ky, kz) {
+    let two = 2 * count;
+    let three = 3 * count;
+    if put_all_keys(columns, handles, n, count, keys) {
         number(perm);
         return build::build_sah(
-            kx,
-            ky,
-            kz,
+            &keys[0..count],
+            &keys[count..two],
+            &keys[two..three],
             extents,
             count,
             32,
@@ -230,6 +242,26 @@ fn put_rows(columns: &[f32], n: usize, perm: &[u32], rows: &mut [f32])
     }
 }
 
+// Both in one area: the padded boxes, room for 12 floats a triangle, and after them the rows.
+fn put_traced(
+    columns: &[f32],
+    n: usize,
+    perm: &[u32],
+    boxes: &[f32],
+    count: usize,
+    tree: &mut [f32],
+)
+    requires { ⌜ (columnCount * n ≤ length (now columns)) × Below n (now perm) × (22 * length (now perm) ≤ length (now tree)) ⌝ }
+    requires { ⌜ (6 * count ≤ length (now boxes)) × (count ≤ 2 * length (now perm)) ⌝ }
+    ensures { λ _. ⌜ ((i : ℕ) → i < count → boxAtOf (paddedIn (length (now (perm .entry))) (now (tree .exit))) i ≡ paddedOf (boxAtOf (now (boxes .entry)) i)) ⌝ }
+    ensures { λ _. ⌜ ((k : ℕ) → k < length (now (perm .entry)) → (cornerAtOf (rowsIn (length (now (perm .entry))) (now (tree .exit))) k ≡ vecAtOf (now (columns .entry)) n (getD (now (perm .entry)) k 0)) × (edgesAtOf (rowsIn (length (now (perm .entry))) (now (tree .exit))) k ≡ Rattle.columns.specs.Columns.edgesAtOf (now (columns .entry)) n (getD (now (perm .entry)) k 0))) ⌝ }
+{
+    let from = 12 * perm.len();
+    let to = 22 * perm.len();
+    pad_boxes(boxes, count, &mut tree[..from]);
+    put_rows(columns, n, perm, &mut tree[from..to]);
+}
+
 // `build_flat_bvh`: the tree of as many triangles as perm is long, and what a trace reads of it. The answer is the count of its nodes,
 // and 0 where a centroid is not finite.
 pub fn build_flat_bvh(
@@ -237,30 +269,25 @@ pub fn build_flat_bvh(
     handles: &[u32],
     n: usize,
     extents: &mut [f32],
-    kx: &mut [u64],
-    ky: &mut [u64],
-    kz: &mut [u64],
+    keys: &mut [u64],
     perm: &mut [u32],
     words: &mut [u64],
     scratch: &mut [u64],
     areas: &mut [f32],
     boxes: &mut [f32],
     nodes: &mut [u32],
-    padded: &mut [f32],
-    rows: &mut [f32],
+    tree: &mut [f32],
 ) -> usize
-    requires { ⌜ Lent (now columns) (now handles) n (now extents) (now kx) (now ky) (now kz) (now perm) (now words) (now scratch) (now areas) (now boxes) (now nodes) ⌝ }
-    requires { ⌜ (12 * length (now perm) ≤ length (now padded)) × (10 * length (now perm) ≤ length (now rows)) ⌝ }
-    ensures { λ r. ⌜ BvhOf (now (columns .entry)) (now (handles .entry)) n (length (now (perm .entry))) (now (boxes .exit)) (now (nodes .exit)) (now (perm .exit)) (now (padded .exit)) (now (rows .exit)) r ⌝ }
+    requires { ⌜ Lent (now columns) (now handles) n (now extents) (now keys) (now perm) (now words) (now scratch) (now areas) (now boxes) (now nodes) ⌝ }
+    requires { ⌜ 22 * length (now perm) ≤ length (now tree) ⌝ }
+    ensures { λ r. ⌜ BvhOf (now (columns .entry)) (now (handles .entry)) n (length (now (perm .entry))) (now (boxes .exit)) (now (nodes .exit)) (now (perm .exit)) (paddedIn (length (now (perm .entry))) (now (tree .exit))) (rowsIn (length (now (perm .entry))) (now (tree .exit))) r ⌝ }
 {
     let count = build_tree(
         columns,
         handles,
         n,
         extents,
-        kx,
-        ky,
-        kz,
+        keys,
         perm,
         words,
         scratch,
@@ -271,7 +298,6 @@ pub fn build_flat_bvh(
     if count == 0 {
         return 0;
     }
-    pad_boxes(boxes, count, padded);
-    put_rows(columns, n, perm, rows);
+    put_traced(columns, n, perm, boxes, count, tree);
     count
 }

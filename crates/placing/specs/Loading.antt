@@ -9,7 +9,6 @@ use mathlib.Core.List.{List, [], _∷_}
 use Rattle.float.specs.Literals.{zero32}
 use Rattle.geometry.specs.declared.Triangle.{Triangle}
 use Rattle.scene.specs.declared.Settings.{Settings}
-use Rattle.scene.specs.declared.Areas.{Areas}
 use Rattle.scene.specs.Scene.{Scene}
 use Rattle.scene.specs.Refusals.{refusal1, refusal2, refusal3, refusal4, refusal5, first, triplesIn}
 use Rattle.placing.specs.Corners.{refusal6, triangles, placings}
@@ -17,9 +16,9 @@ use Rattle.placing.specs.Passing.{putAll, putHandles, Reads}
 use Rattle.placing.specs.declared.Loaded.{Loaded}
 use Rattle.placing.specs.declared.Loaded.the-variants.{Refused, Triangles}
 
--- the number of the first of 1 to 6 that applies, 0 where none does
-unfoldable pub firstRefusal : Settings → ℕ → Scene → Areas → ℕ
-firstRefusal st c s a = first 1 (refusal1 st c ∷ refusal2 s ∷ refusal3 s ∷ refusal4 s ∷ refusal5 s c a ∷ refusal6 s ∷ [])
+-- the number of the first of 1 to 6 that applies, 0 where none does; `lens` are the lengths of the areas
+unfoldable pub firstRefusal : Settings → ℕ → Scene → List ℕ → ℕ
+firstRefusal st c s lens = first 1 (refusal1 st c ∷ refusal2 s ∷ refusal3 s ∷ refusal4 s ∷ refusal5 s c lens ∷ refusal6 s ∷ [])
 
 -- the answer: the refusal, or how many triangles, placings and whole triples there are
 abbrev pub answerOf : ℕ → Scene → Loaded

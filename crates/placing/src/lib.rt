@@ -1,13 +1,12 @@
 // `triangles_from_scene`: one pass over the triples of a scene. Each corner of a triple whose indices are in range is placed and tested
 // (refusal 6), and the triangles that are not degenerate are kept in columns. Placings are counted.
-use scene::Areas;
 use scene::Checked;
 use scene::Settings;
 use vector::Vec3;
 ghost use mathlib.Core.Path.{_≡_};
 ghost use mathlib.Core.Bool.{false};
 ghost use Prim.Native.Nat.{_+_, _*_, _<_, _≤_};
-ghost use lib.ListN.{length};
+ghost use lib.ListN.{length, getD};
 ghost use Rattle.scene.specs.Scene.{scene, headers, cut};
 ghost use Rattle.placing.specs.Corners.{farOf, farCorner, farCorners, cornerOf, triple, triples, corners3, cornersIn, cornersOf, cornersAll};
 ghost use Rattle.columns.specs.Columns.{columnCount};
@@ -280,7 +279,7 @@ pub fn triangles_from_scene(
     Placed::Kept(st.kept, st.placings)
 }
 
-// The front of a query: settings, scene and areas tested, triangles placed. `areas` has the lengths of all areas.
+// The front of a query: settings, scene and areas tested, triangles placed. `lens` are the lengths of all areas.
 pub fn load_scene(
     settings: Settings,
     c: u32,
@@ -290,12 +289,12 @@ pub fn load_scene(
     indices: &[u32],
     materials: &[f32],
     rows: u32,
-    areas: Areas,
+    lens: [usize; scene::AREAS],
     columns: &mut [f32],
     handles: &mut [u32],
 ) -> Loaded
-    requires { ⌜ (areas .columns ≤ length (now columns)) × (areas .handles ≤ length (now handles)) ⌝ }
-    ensures { λ r. ⌜ Loading (firstRefusal settings c (scene (now (meshes .entry)) (now (transforms .entry)) (now (positions .entry)) (now (indices .entry)) (now (materials .entry)) rows) areas) (scene (now (meshes .entry)) (now (transforms .entry)) (now (positions .entry)) (now (indices .entry)) (now (materials .entry)) rows) (now (columns .entry)) (now (handles .entry)) r (now (columns .exit)) (now (handles .exit)) ⌝ }
+    requires { ⌜ (getD lens 0 0 ≤ length (now columns)) × (getD lens 1 0 ≤ length (now handles)) ⌝ }
+    ensures { λ r. ⌜ Loading (firstRefusal settings c (scene (now (meshes .entry)) (now (transforms .entry)) (now (positions .entry)) (now (indices .entry)) (now (materials .entry)) rows) lens) (scene (now (meshes .entry)) (now (transforms .entry)) (now (positions .entry)) (now (indices .entry)) (now (materials .entry)) rows) (now (columns .entry)) (now (handles .entry)) r (now (columns .exit)) (now (handles .exit)) ⌝ }
 {
     let checked = scene::check(
         settings,
@@ -306,7 +305,7 @@ pub fn load_scene(
         indices,
         materials,
         rows,
-        areas,
+        lens,
     );
     let n = match checked {
         Checked::Refused(k) => {

@@ -1,10 +1,11 @@
--- The lent areas: the least length of each in t triples and c candidates, and refusal 5's test of it. One definition serves both;
--- `proofs/Bound.antt` proves that the lengths together keep document 01's bound.
-use Prim.Native.Nat.{ℕ, _+_, _*_}
+-- The lent areas as one table: the least length of each in t triples and c candidates, and refusal 5's test of them all.
+-- `proofs/Bound.antt` proves that the lengths together keep document 01's bound, `proofs/Rooms.antt` what an area that passes the test has.
+use Prim.Native.Nat.{ℕ, _+_, _*_, _≤_}
 use lib.Dec.{ltb}
-use mathlib.Core.Bool.{Bool, _||_}
+use lib.ListN.{getD}
+use mathlib.Core.Bool.{Bool, true, false, _||_}
+use mathlib.Core.List.{List, [], _∷_}
 use Rattle.columns.specs.Columns.{columnCount}
-use Rattle.scene.specs.declared.Areas.{Areas}
 
 -- the output area, in bytes: the longest packet
 abbrev pub outputBytes : ℕ
@@ -17,26 +18,97 @@ candidateFloats = 13
 abbrev pub candidateWords : ℕ
 candidateWords = 2
 
--- the least lengths
-abbrev pub leastAreas : ℕ → ℕ → Areas
-leastAreas t c =
-    record {
-      columns = columnCount * t;
-      handles = t;
-      «candidate_floats» = candidateFloats * c;
-      «candidate_words» = candidateWords * c;
-      output = outputBytes;
-    }
+-- an area: the words of 32 bits of an element, and how many elements it has a triple, a candidate, and more
+pub record Area : Type 0 where
+  pub words : ℕ
+  pub triples : ℕ
+  pub candidates : ℕ
+  pub more : ℕ
 
--- the words of 32 bits of the work areas, the output not among them
-abbrev pub workWords : Areas → ℕ
-workWords a = a .columns + a .handles + a .«candidate_floats» + a .«candidate_words»
+abbrev pub area : ℕ → ℕ → ℕ → ℕ → Area
+area w t c m = record { words = w; triples = t; candidates = c; more = m }
 
--- an area is shorter than its least length
-unfoldable pub candidatesShort : ℕ → Areas → Bool
-candidatesShort c a = ltb (a .«candidate_floats») (candidateFloats * c) || ltb (a .«candidate_words») (candidateWords * c)
+-- the areas in the order in which their lengths are given; the output is no work area, so its elements count no words
+abbrev pub areaTable : List Area
+areaTable =
+    area 1 columnCount 0 0  -- 0 columns
+    ∷ area 1 1 0 0  -- 1 handles
+    ∷ area 1 22 0 0  -- 2 tree
+    ∷ area 1 8 0 0  -- 3 nodes
+    ∷ area 1 1 0 0  -- 4 perm
+    ∷ area 2 3 1 0  -- 5 hi
+    ∷ area 2 3 0 0  -- 6 lo
+    ∷ area 2 24 1 0  -- 7 words
+    ∷ area 2 24 1 0  -- 8 scratch
+    ∷ area 1 3 0 0  -- 9 index
+    ∷ area 1 3 candidateWords 0  -- 10 id
+    ∷ area 1 1 0 0  -- 11 first
+    ∷ area 1 1 0 64  -- 12 next
+    ∷ area 1 1 0 0  -- 13 of
+    ∷ area 1 24 0 4096  -- 14 linked
+    ∷ area 1 3 1 0  -- 15 queue
+    ∷ area 1 3 0 1  -- 16 starts
+    ∷ area 1 12 candidateFloats 0  -- 17 gfloats
+    ∷ area 1 1 0 1  -- 18 members
+    ∷ area 1 12 0 0  -- 19 rows
+    ∷ area 1 5 0 0  -- 20 kept
+    ∷ area 1 18 0 0  -- 21 edges
+    ∷ area 0 0 0 outputBytes  -- 22 output
+    ∷ []
 
-unfoldable pub shortOf : ℕ → ℕ → Areas → Bool
-shortOf t c a =
-    let least = leastAreas t c in
-    ltb (a .output) (least .output) || (ltb (a .columns) (least .columns) || (ltb (a .handles) (least .handles) || candidatesShort c a))
+-- the least length of an area
+abbrev pub leastOf : Area → ℕ → ℕ → ℕ
+leastOf a t c = a .triples * t + a .candidates * c + a .more
+
+-- the words of 32 bits that areas of the least length take
+unfoldable pub wordsIn : List Area → ℕ → ℕ → ℕ
+wordsIn [] t c = 0
+wordsIn (a ∷ rest) t c = a .words * leastOf a t c + wordsIn rest t c
+
+-- those of the work areas
+abbrev pub workWords : ℕ → ℕ → ℕ
+workWords t c = wordsIn areaTable t c
+
+-- an area is shorter than its least length; one without a length is
+unfoldable pub shortIn : List Area → ℕ → ℕ → List ℕ → Bool
+shortIn [] t c ls = false
+shortIn (a ∷ rest) t c [] = true
+shortIn (a ∷ rest) t c (l ∷ ls) = ltb l (leastOf a t c) || shortIn rest t c ls
+
+abbrev pub shortOf : ℕ → ℕ → List ℕ → Bool
+shortOf t c lens = shortIn areaTable t c lens
+
+-- lengths, in the order of the table, that are not short
+pub record Roomy
+    (t c columns handles tree nodes perm hi lo words scratch index id first next of linked queue starts gfloats members rows kept edges output : ℕ)
+    : Type 0 where
+  pub columns-room : columnCount * t ≤ columns
+  pub handles-room : t ≤ handles
+  pub tree-room : 22 * t ≤ tree
+  pub nodes-room : 8 * t ≤ nodes
+  pub perm-room : t ≤ perm
+  pub hi-room : 3 * t + c ≤ hi
+  pub lo-room : 3 * t ≤ lo
+  pub words-room : 24 * t + c ≤ words
+  pub scratch-room : 24 * t + c ≤ scratch
+  pub index-room : 3 * t ≤ index
+  pub id-room : 3 * t + candidateWords * c ≤ id
+  pub first-room : t ≤ first
+  pub next-room : t + 64 ≤ next
+  pub of-room : t ≤ of
+  pub linked-room : 24 * t + 4096 ≤ linked
+  pub queue-room : 3 * t + c ≤ queue
+  pub starts-room : 3 * t + 1 ≤ starts
+  pub gfloats-room : 12 * t + candidateFloats * c ≤ gfloats
+  pub members-room : t + 1 ≤ members
+  pub rows-room : 12 * t ≤ rows
+  pub kept-room : 5 * t ≤ kept
+  pub edges-room : 18 * t ≤ edges
+  pub output-room : outputBytes ≤ output
+
+-- the same of a list of lengths
+abbrev pub RoomyIn : ℕ → ℕ → List ℕ → Type 0
+RoomyIn t c lens =
+    Roomy t c (getD lens 0 0) (getD lens 1 0) (getD lens 2 0) (getD lens 3 0) (getD lens 4 0) (getD lens 5 0) (getD lens 6 0) (getD lens 7 0)
+    (getD lens 8 0) (getD lens 9 0) (getD lens 10 0) (getD lens 11 0) (getD lens 12 0) (getD lens 13 0) (getD lens 14 0) (getD lens 15 0)
+    (getD lens 16 0) (getD lens 17 0) (getD lens 18 0) (getD lens 19 0) (getD lens 20 0) (getD lens 21 0) (getD lens 22 0)

@@ -7,7 +7,6 @@ use mathlib.Core.List.{List, [], _∷_}
 use Rattle.scene.specs.declared.Settings.{Settings}
 use Rattle.scene.specs.declared.Checked.{Checked}
 use Rattle.scene.specs.declared.Checked.the-variants.{Refused, Accepted}
-use Rattle.scene.specs.declared.Areas.{Areas}
 use Rattle.scene.specs.Limits.{settingsOf, mostTriples}
 use Rattle.scene.specs.Areas.{shortOf}
 use Rattle.scene.specs.Scene.{Scene, Header, headers, vertexSum, indexSum, tripleSum}
@@ -57,22 +56,22 @@ triplesIn s = tripleSum (headers (s .meshes))
 unfoldable pub refusal4 : Scene → Bool
 refusal4 s = ltb mostTriples (triplesIn s)
 
--- 5. the output area is under 3,465 bytes, or a work area is shorter than its formula
-unfoldable pub refusal5 : Scene → ℕ → Areas → Bool
-refusal5 s c a = shortOf (triplesIn s) c a
+-- 5. the output area is under 3,465 bytes, or a work area is shorter than its formula; `lens` are their lengths
+unfoldable pub refusal5 : Scene → ℕ → List ℕ → Bool
+refusal5 s c lens = shortOf (triplesIn s) c lens
 
 -- the number of the first that applies, 0 where none does
 abbrev pub first : ℕ → List Bool → ℕ
 first k [] = 0
 first k (b ∷ bs) = cond b k (first (suc k) bs)
 
-unfoldable pub firstOfFive : Settings → ℕ → Scene → Areas → ℕ
-firstOfFive st c s a = first 1 (refusal1 st c ∷ refusal2 s ∷ refusal3 s ∷ refusal4 s ∷ refusal5 s c a ∷ [])
+unfoldable pub firstOfFive : Settings → ℕ → Scene → List ℕ → ℕ
+firstOfFive st c s lens = first 1 (refusal1 st c ∷ refusal2 s ∷ refusal3 s ∷ refusal4 s ∷ refusal5 s c lens ∷ [])
 
 -- the answer with a refusal's number, or with the count of whole triples
 abbrev pub answer : ℕ → ℕ → Checked
 answer zero t = Accepted t
 answer (suc k) t = Refused (suc k)
 
-unfoldable pub checkOf : Settings → ℕ → Scene → Areas → Checked
-checkOf st c s a = answer (firstOfFive st c s a) (triplesIn s)
+unfoldable pub checkOf : Settings → ℕ → Scene → List ℕ → Checked
+checkOf st c s lens = answer (firstOfFive st c s lens) (triplesIn s)

@@ -6,7 +6,7 @@ ghost use Prim.Native.Nat.{_+_, _≤_, _<_, min};
 ghost use lib.ListN.{length};
 ghost use Rattle.scene.specs.Limits.{mostTriples, betweenOf, aboveZeroOf, countsOf, ratesOf, mergesOf, modelNumberOf, modelNumbersOf, settingsOf};
 ghost use Rattle.scene.specs.Scene.{scene, headers, tripleSum};
-ghost use Rattle.scene.specs.Areas.{candidatesShort, shortOf};
+ghost use Rattle.scene.specs.Areas.{shortOf};
 ghost use Rattle.scene.specs.Refusals.{meshesWhole, transformsRight, positionsRight, indicesRight, materialsRight, lengthsRightOf, unknownHandle, checkOf};
 
 // The settings of a query, by the Rust's names. `plane_merge_angle_deg` is its cosine, and whether it is above 0.
@@ -25,15 +25,6 @@ pub struct Settings {
     pub distance_model: DistanceModel,
 }
 
-// The lengths of the lent areas. docs/AREAS.md says what each is for.
-pub struct Areas {
-    pub columns: usize,
-    pub handles: usize,
-    pub candidate_floats: usize,
-    pub candidate_words: usize,
-    pub output: usize,
-}
-
 // The first refusal of 1 to 5 that applies, or how many whole triples the scene has.
 pub enum Checked {
     Refused(u32),
@@ -48,7 +39,89 @@ const MOST_TRIPLES: usize = 4096;
 
 const TOO_MANY_TRIPLES: usize = MOST_TRIPLES + 1;
 
-const OUTPUT: usize = 3465;
+// How many areas are lent, the output the last.
+pub const AREAS: usize = 23;
+
+// The least length of each area: so much a triple,
+const TRIPLES: [usize; AREAS] = [
+    columns::COLUMNS, // columns
+    1, // handles
+    22, // tree
+    8, // nodes
+    1, // perm
+    3, // hi
+    3, // lo
+    24, // words
+    24, // scratch
+    3, // index
+    3, // id
+    1, // first
+    1, // next
+    1, // of
+    24, // linked
+    3, // queue
+    3, // starts
+    12, // gfloats
+    1, // members
+    12, // rows
+    5, // kept
+    18, // edges
+    0, // output
+];
+
+// so much a candidate,
+const CANDIDATES: [usize; AREAS] = [
+    0, // columns
+    0, // handles
+    0, // tree
+    0, // nodes
+    0, // perm
+    1, // hi
+    0, // lo
+    1, // words
+    1, // scratch
+    0, // index
+    2, // id
+    0, // first
+    0, // next
+    0, // of
+    0, // linked
+    1, // queue
+    0, // starts
+    13, // gfloats
+    0, // members
+    0, // rows
+    0, // kept
+    0, // edges
+    0, // output
+];
+
+// and so much more.
+const MORE: [usize; AREAS] = [
+    0, // columns
+    0, // handles
+    0, // tree
+    0, // nodes
+    0, // perm
+    0, // hi
+    0, // lo
+    0, // words
+    0, // scratch
+    0, // index
+    0, // id
+    0, // first
+    64, // next
+    0, // of
+    4096, // linked
+    0, // queue
+    1, // starts
+    0, // gfloats
+    1, // members
+    0, // rows
+    0, // kept
+    0, // edges
+    3465, // output
+];
 
 // ---- 1, the settings
 
@@ -270,35 +343,20 @@ fn lengths_right(
 
 // ---- 5, the areas
 
-// Whether an area of the candidates is too short for c of them.
-fn candidates_short(c: u32, a: Areas) -> bool
-    ensures { λ r. ⌜ r ≡ candidatesShort c a ⌝ }
+// Whether an area is too short for t triples and c candidates. `lens` are the lengths of the areas, in the order of docs/AREAS.md.
+fn areas_short(t: usize, c: u32, lens: [usize; AREAS]) -> bool
+    requires { ⌜ t ≤ mostTriples ⌝ }
+    ensures { λ r. ⌜ r ≡ shortOf t c lens ⌝ }
 {
     let room = wide(c);
-    if a.candidate_floats < 13 * room {
-        return true;
-    }
-    if a.candidate_words < 2 * room {
-        return true;
+    let mut i = 0;
+    while i < AREAS {
+        if lens[i] < TRIPLES[i] * t + CANDIDATES[i] * room + MORE[i] {
+            return true;
+        }
+        i += 1;
     }
     false
-}
-
-// Whether the output or a work area is too short for t triples and c candidates.
-fn areas_short(t: usize, c: u32, a: Areas) -> bool
-    requires { ⌜ t ≤ mostTriples ⌝ }
-    ensures { λ r. ⌜ r ≡ shortOf t c a ⌝ }
-{
-    if a.output < OUTPUT {
-        return true;
-    }
-    if a.columns < columns::COLUMNS * t {
-        return true;
-    }
-    if a.handles < t {
-        return true;
-    }
-    candidates_short(c, a)
 }
 
 // The lowest of the refusals 1 to 5 that applies.
@@ -311,9 +369,9 @@ pub fn check(
     indices: &[u32],
     materials: &[f32],
     rows: u32,
-    areas: Areas,
+    lens: [usize; AREAS],
 ) -> Checked
-    ensures { λ r. ⌜ r ≡ checkOf settings c (scene (now (meshes .entry)) (now (transforms .entry)) (now (positions .entry)) (now (indices .entry)) (now (materials .entry)) rows) areas ⌝ }
+    ensures { λ r. ⌜ r ≡ checkOf settings c (scene (now (meshes .entry)) (now (transforms .entry)) (now (positions .entry)) (now (indices .entry)) (now (materials .entry)) rows) lens ⌝ }
 {
     if within_limits(settings, c) {
         if lengths_right(
@@ -331,7 +389,7 @@ pub fn check(
             if t > MOST_TRIPLES {
                 return Checked::Refused(4);
             }
-            if areas_short(t, c, areas) {
+            if areas_short(t, c, lens) {
                 return Checked::Refused(5);
             }
             return Checked::Accepted(t);

@@ -1,8 +1,11 @@
--- What the planes and the search ask of the areas, from `SceneTree`.
+-- What the planes and the search ask of the areas, from `SceneTree`: padded is `paddedIn m tree`, what `&tree[..12 * m]` reads as, and rows is
+-- `rowsIn m tree`, what `&tree[12 * m..22 * m]` reads as.
+use mathlib.Core.Path.{_≡_, sym, ap, subst}
 use mathlib.Core.List.{List}
-use Prim.Native.Nat.{ℕ}
+use Prim.Native.Nat.{ℕ, _-_, _*_}
+use native.Mathlib.Omega.{arith}
 use lib.Ieee.{Float}
-use lib.ListN.{getD}
+use lib.ListN.{getD, take, drop}
 use Rattle.order.specs.Sort.{Below}
 use Rattle.scene.specs.Scene.{Scene}
 use Rattle.placing.specs.Corners.{triangles}
@@ -10,7 +13,19 @@ use Rattle.patches.specs.Triangles.{triangleAt}
 use Rattle.mirror.specs.Rows.{AllRead}
 use Rattle.segments.specs.Areas.{Traceable}
 use Rattle.buried.specs.Probe.{Traced}
+use Rattle.bvh.specs.Bvh.{paddedIn, rowsIn}
 use Rattle.scene_bvh.specs.SceneTree.{treeOf, SceneTree}
+
+-- A `&mut` area of which both parts are lent at once has to be cut as `&tree[0..12 * m]` and `&tree[12 * m..22 * m]`; the first then reads so:
+pub from-zero : (m : ℕ) (tree : List Float) → take (12 * m - 0) (drop 0 tree) ≡ paddedIn m tree
+from-zero m tree = let e : 12 * m - 0 ≡ 12 * m = omega arith in ap (λ (k : ℕ). take k tree) e
+
+pub scene-tree-from-zero :
+    (s : Scene) (columns : List Float) (handles : List ℕ) (n m : ℕ) (nodes perm : List ℕ) (tree : List Float) (count : ℕ) →
+    SceneTree s columns handles n m (paddedIn m tree) nodes perm (rowsIn m tree) count →
+    SceneTree s columns handles n m (take (12 * m - 0) (drop 0 tree)) nodes perm (rowsIn m tree) count
+scene-tree-from-zero s columns handles n m nodes perm tree count t =
+    subst (λ (l : List Float). SceneTree s columns handles n m l nodes perm (rowsIn m tree) count) (sym (from-zero m tree)) t
 
 module _
     (s : Scene) (columns : List Float) (handles : List ℕ) (n m : ℕ) (padded : List Float) (nodes perm : List ℕ) (rows : List Float) (count : ℕ)

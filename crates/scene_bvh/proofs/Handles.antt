@@ -1,10 +1,13 @@
 -- Handles that were cleared from m on: `clear_from`, and what is read of them.
 use mathlib.Core.Path.{_≡_, refl, ap, _∙_}
+use mathlib.Core.Bool.{Bool, true, false}
 use mathlib.Core.List.{List, [], _++_, append-nil}
 use Prim.Native.Nat.{ℕ, zero, suc, _+_, _-_, _<_, _≤_}
 use native.Mathlib.Nat.{le-refl}
 use native.Mathlib.Omega.{arith}
-use lib.ListN.{length, getD, take, drop, replicate, length-drop, drop-of-length-le, List·getD-append}
+use lib.Dec.{leb}
+use borrow.Author.Tests.{leb-true, leb-false}
+use lib.ListN.{length, getD, take, drop, replicate, length-drop, length-append, length-replicate, drop-of-length-le, List·getD-append}
 use lib.Seq.{length-take-le, take-all, getD-take, getD-append-add}
 use borrow.Rule.Slice.PartMut.{putMid}
 use Rattle.scene_bvh.specs.SceneTree.{clearedFrom}
@@ -13,6 +16,23 @@ zeros : (k i : ℕ) → _≡_ {A = ℕ} (getD (replicate k 0) i 0) 0
 zeros zero i = refl
 zeros (suc k) zero = refl
 zeros (suc k) (suc i) = zeros k i
+
+-- as many as were found
+pub cleared-length : (m : ℕ) (found : List ℕ) → length (clearedFrom m found) ≡ length found
+unfolding clearedFrom
+cleared-length m found = length-append (take m found) (replicate (length found - m) 0) ∙ go (leb m (length found)) refl
+  where
+    go : (b : Bool) → leb m (length found) ≡ b → length (take m found) + length {A = ℕ} (replicate (length found - m) 0) ≡ length found
+    go true e =
+        let h = leb-true m (length found) e in
+        let front = length-take-le m found h in
+        let back = length-replicate {A = ℕ} (length found - m) 0 in
+        omega arith
+    go false e =
+        let h = leb-false m (length found) e in
+        let front = ap length (take-all m found (omega arith)) in
+        let back = length-replicate {A = ℕ} (length found - m) 0 in
+        omega arith
 
 -- the part from m on lent, cleared and put back
 pub cleared-is :

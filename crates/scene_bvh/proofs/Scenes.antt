@@ -16,7 +16,6 @@ use Rattle.geometry.specs.declared.Triangle.{Triangle}
 use Rattle.geometry.specs.Triangle as triangle
 use Rattle.columns.specs.Columns.{vecAtOf, triangleAtOf}
 use Rattle.scene.specs.declared.Settings.{Settings}
-use Rattle.scene.specs.declared.Areas.{Areas}
 use Rattle.scene.specs.Scene.{Scene, headers, indexSum, meshesOf}
 use Rattle.scene.specs.Limits.{mostTriples}
 use Rattle.scene.specs.Refusals.{refusal1, refusal2, refusal3, refusal4, refusal5, first, triplesIn, lengthsRight, lengthsRightOf, meshesWhole, transformsRight, positionsRight, indicesRight, materialsRight}
@@ -45,7 +44,7 @@ use Rattle.scene_bvh.proofs.Kept.{near-triangles, known-handles, triang
 -- ---- what no refusal says
 
 -- none of the six applies
-pub record NoRefusal (st : Settings) (c : ℕ) (s : Scene) (a : Areas) : Type 0 where
+pub record NoRefusal (st : Settings) (c : ℕ) (s : Scene) (a : List ℕ) : Type 0 where
   pub settings : refusal1 st c ≡ false
   pub lengths : refusal2 s ≡ false
   pub known : refusal3 s ≡ false
@@ -70,7 +69,7 @@ all-open false false false false true b6 e = absurd (let z : _≡_ {A = ℕ} 5 0
 all-open false false false false false true e = absurd (let z : _≡_ {A = ℕ} 6 0 = e in omega arith)
 all-open false false false false false false e = record { one = refl; two = refl; three = refl; four = refl; five = refl; six = refl }
 
-pub no-refusal : (st : Settings) (c : ℕ) (s : Scene) (a : Areas) → firstRefusal st c s a ≡ 0 → NoRefusal st c s a
+pub no-refusal : (st : Settings) (c : ℕ) (s : Scene) (a : List ℕ) → firstRefusal st c s a ≡ 0 → NoRefusal st c s a
 unfolding firstRefusal
 no-refusal st c s a e =
     let o = all-open (refusal1 st c) (refusal2 s) (refusal3 s) (refusal4 s) (refusal5 s c a) (refusal6 s) e in
@@ -88,7 +87,7 @@ told (suc k) s m p n e = let z : _≡_ {A = ℕ} 0 1 = cc in absurd (omega arith
 
 -- `SceneLoaded`, from what `load_scene` ensures
 pub loaded :
-    (st : Settings) (c : ℕ) (s : Scene) (a : Areas) (columns₀ : List Float) (handles₀ : List ℕ) (r : Loaded) (columns : List Float) (handles : List ℕ) (m p n : ℕ) →
+    (st : Settings) (c : ℕ) (s : Scene) (a : List ℕ) (columns₀ : List Float) (handles₀ : List ℕ) (r : Loaded) (columns : List Float) (handles : List ℕ) (m p n : ℕ) →
     r ≡ Triangles m p n → Loading (firstRefusal st c s a) s columns₀ handles₀ r columns handles → SceneLoaded s columns handles n m
 loaded st c s a columns₀ handles₀ r columns handles m p n e l =
     record {

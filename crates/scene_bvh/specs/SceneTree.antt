@@ -8,7 +8,6 @@ use Rattle.geometry.specs.declared.Triangle.{Triangle}
 use Rattle.geometry.specs.Triangle.{centroidOf}
 use Rattle.columns.specs.Columns.{columnCount, triangleAtOf}
 use Rattle.scene.specs.declared.Settings.{Settings}
-use Rattle.scene.specs.declared.Areas.{Areas}
 use Rattle.scene.specs.Scene.{Scene}
 use Rattle.placing.specs.Corners.{triangles}
 use Rattle.placing.specs.Loading.{firstRefusal, Loading}
@@ -30,8 +29,8 @@ clearedFrom m handles = take m handles ++ replicate (length handles - m) 0
 
 -- columns of n triples, and room for m triangles, at least one, in each area
 pub record Roomy
-    (columns : List Float) (handles : List ℕ) (n m : ℕ) (extents : List Float) (kx ky kz perm words scratch : List ℕ) (areas boxes : List Float) (nodes : List ℕ)
-    (padded rows : List Float)
+    (columns : List Float) (handles : List ℕ) (n m : ℕ) (extents : List Float) (keys perm words scratch : List ℕ) (areas boxes : List Float) (nodes : List ℕ)
+    (tree : List Float)
     : Type 0 where
   pub wide : columnCount * n ≤ length columns
   pub named : n ≤ length handles
@@ -39,23 +38,20 @@ pub record Roomy
   pub fewer : m ≤ n
   pub few : m < 65536
   pub extents-room : 9 * m ≤ length extents
-  pub kx-room : m ≤ length kx
-  pub ky-room : m ≤ length ky
-  pub kz-room : m ≤ length kz
+  pub keys-room : 3 * m ≤ length keys
   pub perm-room : m ≤ length perm
   pub words-room : m ≤ length words
   pub scratch-room : m ≤ length scratch
   pub areas-room : m ≤ length areas
   pub boxes-room : 12 * m ≤ length boxes
   pub nodes-room : 8 * m ≤ length nodes
-  pub padded-room : 12 * m ≤ length padded
-  pub rows-room : 10 * m ≤ length rows
+  pub tree-room : 22 * m ≤ length tree
 
 -- `load_scene` took the scene s, with some settings and areas, and left these columns of n triples with m triangles, and these handles
 pub record SceneLoaded (s : Scene) (columns : List Float) (handles : List ℕ) (n m : ℕ) : Type 0 where
   pub settings : Settings
   pub candidates : ℕ
-  pub areas : Areas
+  pub areas : List ℕ
   pub found-columns : List Float
   pub found-handles : List ℕ
   pub placings : ℕ

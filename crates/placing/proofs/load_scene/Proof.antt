@@ -4,7 +4,8 @@ use native.Mathlib.Omega.{arith}
 use borrow.Author.Needs.{needs}
 use lib.ListN.{length}
 use Rattle.scene.specs.Scene.{Scene, scene}
-use Rattle.placing.proofs.Accepts.{accepted, fits, few, roomy, load-refused, load-far, load-kept}
+use Rattle.scene.proofs.Answers.{none-of-five, none-accepted}
+use Rattle.placing.proofs.Accepts.{fits, load-refused, load-far, load-kept}
 use Rattle.placing.proofs.load_scene.Statement.{statement}
 use Rattle.placing.proofs.load_scene.Tie as tie
 
@@ -14,10 +15,10 @@ triangles-from-scene-requires c κs =
     let start = d .before .before .before .before .before .before .before .before in
     let a = start .args in
     let s : Scene = scene (a .meshes .now) (a .transforms .now) (a .positions .now) (a .indices .now) (a .materials .now) (a .rows) in
-    let o = accepted (a .settings) (a .c) s (a .areas) _ (sym (d .check .ensures) ∙ c .before .before .before .checked2 .given .1) in
-    let room = roomy s (a .c) _ (a .areas) (o .room) (o .count) in
+    let o = none-of-five (a .settings) (a .c) s (a .lens) _ (sym (d .check .ensures) ∙ c .before .before .before .checked2 .given .1) in
+    let told = none-accepted (a .settings) (a .c) s (a .lens) _ o in
     let asked = start .pre in
-    (fits s _ (o .lengths) (o .count), (few s _ (o .triples) (o .count), (omega (arith, room .wide, asked .0), omega (arith, room .long, asked .1))))
+    (fits s _ (o .lengths) (o .count), (told .few, (omega (arith, told .room .columns-room, asked .0), omega (arith, told .room .handles-room, asked .1))))
 
 pub load-scene-spec : {M : Type 1} → statement M
 load-scene-spec =
@@ -35,10 +36,10 @@ load-scene-spec =
     (λ c.
     let p = c .before .before .before .before .before .before in
     let d = p .before .before .before .before .before .before in
-    load-far _ _ _ _ _ _ _ (sym (d .check .ensures) ∙ p .before .before .before .before .checked2 .given .1) _ _ _ (p .triangles-from-scene .ensures) _ (c .enum-told .given .1))
+    load-far _ _ _ _ _ _ _ (none-of-five _ _ _ _ _ (sym (d .check .ensures) ∙ p .before .before .before .before .checked2 .given .1)) _ _ _ (p .triangles-from-scene .ensures) _ (c .enum-told .given .1))
     (λ c. search needs)
     (λ c. search needs)
     (λ c.
     let p = c .before .before .before .before .before .before .before in
     let d = p .before .before .before .before .before .before in
-    load-kept _ _ _ _ _ _ _ (sym (d .check .ensures) ∙ p .before .before .before .before .checked2 .given .1) _ _ _ (p .triangles-from-scene .ensures) _ _ (c .before .placed .given .1)))
+    load-kept _ _ _ _ _ _ _ (none-of-five _ _ _ _ _ (sym (d .check .ensures) ∙ p .before .before .before .before .checked2 .given .1)) _ _ _ (p .triangles-from-scene .ensures) _ _ (c .before .placed .given .1)))

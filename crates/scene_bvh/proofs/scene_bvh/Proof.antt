@@ -1,77 +1,61 @@
 -- `scene_bvh` meets its contract: `lent` for what the build asks, `returned` for what the areas then read as.
-use borrow.Author.Needs.{needs}
 use mathlib.Core.Path.{sym}
 use native.Mathlib.Omega.{arith}
 use lib.Seq.{length-take-le, length-front}
-use Rattle.scene_bvh.proofs.Rooms.{lent, rooms, returned}
+use Rattle.scene_bvh.proofs.Rooms.{lent, room, returned}
 use Rattle.scene_bvh.proofs.scene_bvh.Statement.{statement}
 use Rattle.scene_bvh.proofs.scene_bvh.Tie as tie
 
-clear-from-requires : tie.Need-clear-from-requires
-clear-from-requires c κs = let R = c .before .before .before .before .before .before .before .before .before .before .before .before .before .before .before .pre in omega (arith, R .fewer, R .named)
-
 slice-relend-prefix-build-flat-bvh : tie.Need-slice-relend-prefix-build-flat-bvh
-slice-relend-prefix-build-flat-bvh c = c .before .before .before .before .before .before .before .before .before .before .before .before .before .before .before .before .before .before .before .before .before .before .before .pre .perm-room
+slice-relend-prefix-build-flat-bvh c = c .before .before .before .before .before .before .before .before .before .before .before .before .before .pre .perm-room
 
 slice-aggregate-build-flat-bvh : tie.Need-slice-aggregate-build-flat-bvh
-slice-aggregate-build-flat-bvh c = sym (length-take-le (c .before .before .before .before .before .before .before .before .before .before .before .before .before .before .before .before .before .before .before .before .before .before .before .before .args .m) (c .before .before .before .before .before .before .before .before .before .before .before .before .before .before .before .before .before .before .before .before .before .before .before .before .args .perm .now) (c .before .before .before .before .before .before .before .before .before .before .before .before .before .before .before .before .before .before .before .before .before .before .before .before .pre .perm-room))
+slice-aggregate-build-flat-bvh c = sym (length-take-le (c .before .before .before .before .before .before .before .before .before .before .before .before .before .before .args .m) (c .before .before .before .before .before .before .before .before .before .before .before .before .before .before .args .perm .now) (c .before .before .before .before .before .before .before .before .before .before .before .before .before .before .pre .perm-room))
 
 build-flat-bvh-requires : tie.Need-build-flat-bvh-requires
 build-flat-bvh-requires c κs =
-    let a = c .before .before .before .before .before .before .before .before .before .before .before .before .before .before .before .before .before .before .before .before .before .before .before .before .before .before .before .before .before .before .before .args in let R = c .before .before .before .before .before .before .before .before .before .before .before .before .before .before .before .before .before .before .before .before .before .before .before .before .before .before .before .before .before .before .before .pre in let y = c .before .before .before .before .before .before .before .before .before .before .before .before .before .before .before .clear-from in
-    (lent (a .columns .now) (a .handles .now) (a .n) (a .m) (a .extents .now) (a .kx .now) (a .ky .now) (a .kz .now) (a .perm .now) (a .words .now) (a .scratch .now) (a .areas .now) (a .boxes .now) (a .nodes .now) (a .padded .now) (a .rows .now) R (y .last .0) _ (y .kept .0) (omega (arith, R .fewer)) (omega (arith, R .fewer)), rooms (a .columns .now) (a .handles .now) (a .n) (a .m) (a .extents .now) (a .kx .now) (a .ky .now) (a .kz .now) (a .perm .now) (a .words .now) (a .scratch .now) (a .areas .now) (a .boxes .now) (a .nodes .now) (a .padded .now) (a .rows .now) R)
+    let a = c .before .before .before .before .before .before .before .before .before .before .before .before .before .before .before .before .before .before .before .before .args in
+    let R = c .before .before .before .before .before .before .before .before .before .before .before .before .before .before .before .before .before .before .before .before .pre in
+    (lent (a .columns .now) (a .handles .now) (a .n) (a .m) (a .extents .now) (a .keys .now) (a .perm .now) (a .words .now) (a .scratch .now) (a .areas .now) (a .boxes .now) (a .nodes .now) (a .tree .now) R _ (omega (arith, R .fewer)) (omega (arith, R .fewer)), room (a .columns .now) (a .handles .now) (a .n) (a .m) (a .extents .now) (a .keys .now) (a .perm .now) (a .words .now) (a .scratch .now) (a .areas .now) (a .boxes .now) (a .nodes .now) (a .tree .now) R)
 
 same-length : tie.Need-same-length
-same-length c = c .before .before .before .before .before .before .before .before .before .before .before .before .before .before .before .before .before .before .before .before .before .before .before .before .before .before .before .before .before .before .before .before .before .before .before .before .before .before .before .before .clear-from .kept .0
+same-length c = c .before .before .before .before .before .before .before .before .before .before .before .before .before .before .before .before .before .before .build-flat-bvh .kept .1 .1 .1 .0
 
 same-length-2 : tie.Need-same-length-2
-same-length-2 c = c .before .before .before .before .before .before .before .before .before .before .before .before .before .before .before .before .before .before .before .before .before .before .before .before .build-flat-bvh .kept .1 .1 .1 .0
+same-length-2 c = c .before .before .before .before .before .before .before .before .before .before .before .before .before .before .before .before .before .before .build-flat-bvh .kept .1 .1 .1 .1 .0
 
 same-length-3 : tie.Need-same-length-3
-same-length-3 c = c .before .before .before .before .before .before .before .before .before .before .before .before .before .before .before .before .before .before .before .before .before .before .before .before .build-flat-bvh .kept .1 .1 .1 .1 .0
+same-length-3 c = length-front (c .before .before .before .before .before .before .before .before .before .before .before .before .before .before .before .before .before .before .before .before .before .before .before .before .before .before .before .before .before .before .before .before .before .before .before .before .before .before .before .args .perm .now) (c .before .before .before .before .before .before .before .before .before .before .before .before .before .before .before .before .before .before .build-flat-bvh .last .1 .1 .1 .1 .1 .0) (c .before .before .before .before .before .before .before .before .before .before .before .before .before .before .before .before .before .before .before .before .before .before .before .before .before .before .before .before .before .before .before .before .before .before .before .before .before .before .before .args .m) (c .before .before .before .before .before .before .before .before .before .before .before .before .before .before .before .before .before .before .build-flat-bvh .kept .1 .1 .1 .1 .1 .0)
 
 same-length-4 : tie.Need-same-length-4
-same-length-4 c = c .before .before .before .before .before .before .before .before .before .before .before .before .before .before .before .before .before .before .before .before .before .before .before .before .build-flat-bvh .kept .1 .1 .1 .1 .1 .0
+same-length-4 c = c .before .before .before .before .before .before .before .before .before .before .before .before .before .before .before .before .before .before .build-flat-bvh .kept .1 .1 .1 .1 .1 .1 .0
 
 same-length-5 : tie.Need-same-length-5
-same-length-5 c = c .before .before .before .before .before .before .before .before .before .before .before .before .before .before .before .before .before .before .before .before .before .before .before .before .build-flat-bvh .kept .1 .1 .1 .1 .1 .1 .0
+same-length-5 c = c .before .before .before .before .before .before .before .before .before .before .before .before .before .before .before .before .before .before .build-flat-bvh .kept .1 .1 .1 .1 .1 .1 .1 .0
 
 same-length-6 : tie.Need-same-length-6
-same-length-6 c = let a = c .before .before .before .before .before .before .before .before .before .before .before .before .before .before .before .before .before .before .before .before .before .before .before .before .before .before .before .before .before .before .before .before .before .before .before .before .before .before .before .before .before .before .before .before .before .before .before .before .before .before .before .before .before .before .before .before .args in let b = c .before .before .before .before .before .before .before .before .before .before .before .before .before .before .before .before .before .before .before .before .before .before .before .before .build-flat-bvh in length-front (a .perm .now) (b .last .1 .1 .1 .1 .1 .1 .1 .0) (a .m) (b .kept .1 .1 .1 .1 .1 .1 .1 .0)
+same-length-6 c = c .before .before .before .before .before .before .before .before .before .before .before .before .before .before .before .before .before .before .build-flat-bvh .kept .1 .1 .1 .1 .1 .1 .1 .1 .0
 
 same-length-7 : tie.Need-same-length-7
-same-length-7 c = c .before .before .before .before .before .before .before .before .before .before .before .before .before .before .before .before .before .before .before .before .before .before .before .before .build-flat-bvh .kept .1 .1 .1 .1 .1 .1 .1 .1 .0
+same-length-7 c = c .before .before .before .before .before .before .before .before .before .before .before .before .before .before .before .before .before .before .build-flat-bvh .kept .1 .1 .1 .1 .1 .1 .1 .1 .1 .0
 
 same-length-8 : tie.Need-same-length-8
-same-length-8 c = c .before .before .before .before .before .before .before .before .before .before .before .before .before .before .before .before .before .before .before .before .before .before .before .before .build-flat-bvh .kept .1 .1 .1 .1 .1 .1 .1 .1 .1 .0
+same-length-8 c = c .before .before .before .before .before .before .before .before .before .before .before .before .before .before .before .before .before .before .build-flat-bvh .kept .1 .1 .1 .1 .1 .1 .1 .1 .1 .1 .0
 
 same-length-9 : tie.Need-same-length-9
-same-length-9 c = c .before .before .before .before .before .before .before .before .before .before .before .before .before .before .before .before .before .before .before .before .before .before .before .before .build-flat-bvh .kept .1 .1 .1 .1 .1 .1 .1 .1 .1 .1 .0
-
-same-length-10 : tie.Need-same-length-10
-same-length-10 c = c .before .before .before .before .before .before .before .before .before .before .before .before .before .before .before .before .before .before .before .before .before .before .before .before .build-flat-bvh .kept .1 .1 .1 .1 .1 .1 .1 .1 .1 .1 .1 .0
-
-same-length-11 : tie.Need-same-length-11
-same-length-11 c = c .before .before .before .before .before .before .before .before .before .before .before .before .before .before .before .before .before .before .before .before .before .before .before .before .build-flat-bvh .kept .1 .1 .1 .1 .1 .1 .1 .1 .1 .1 .1 .1 .0
-
-same-length-12 : tie.Need-same-length-12
-same-length-12 c = c .before .before .before .before .before .before .before .before .before .before .before .before .before .before .before .before .before .before .before .before .before .before .before .before .build-flat-bvh .kept .1 .1 .1 .1 .1 .1 .1 .1 .1 .1 .1 .1 .1 .0
-
-same-length-13 : tie.Need-same-length-13
-same-length-13 c = c .before .before .before .before .before .before .before .before .before .before .before .before .before .before .before .before .before .before .before .before .before .before .before .before .build-flat-bvh .kept .1 .1 .1 .1 .1 .1 .1 .1 .1 .1 .1 .1 .1 .1 .0
+same-length-9 c = c .before .before .before .before .before .before .before .before .before .before .before .before .before .before .before .before .before .before .build-flat-bvh .kept .1 .1 .1 .1 .1 .1 .1 .1 .1 .1 .1 .0
 
 returns : tie.Need-returns
 returns c =
-    let a = c .before .before .before .before .before .before .before .before .before .before .before .before .before .before .before .before .before .before .before .before .before .before .before .before .before .before .before .before .before .before .before .before .before .before .before .before .before .before .before .before .before .before .before .before .before .before .before .before .before .before .before .before .before .before .before .before .args in let R = c .before .before .before .before .before .before .before .before .before .before .before .before .before .before .before .before .before .before .before .before .before .before .before .before .before .before .before .before .before .before .before .before .before .before .before .before .before .before .before .before .before .before .before .before .before .before .before .before .before .before .before .before .before .before .before .before .pre in let b = c .before .before .before .before .before .before .before .before .before .before .before .before .before .before .before .before .before .before .before .before .before .before .before .before .build-flat-bvh in let y = c .before .before .before .before .before .before .before .before .before .before .before .before .before .before .before .before .before .before .before .before .before .before .before .before .before .before .before .before .before .before .before .before .before .before .before .before .before .before .before .before .clear-from in (
-      y .ensures,
-      returned (a .columns .now) (a .handles .now) (a .n) (a .m) (a .extents .now) (a .kx .now) (a .ky .now) (a .kz .now) (a .perm .now) (a .words .now) (a .scratch .now) (a .areas .now) (a .boxes .now) (a .nodes .now) (a .padded .now) (a .rows .now) R (y .last .0) (b .last .1 .1 .1 .1 .1 .1 .1 .1 .1 .1 .1 .0) (b .last .1 .1 .1 .1 .1 .1 .1 .1 .1 .1 .1 .1 .0) (b .last .1 .1 .1 .1 .1 .1 .1 .0) (b .last .1 .1 .1 .1 .1 .1 .1 .1 .1 .1 .1 .1 .1 .0) (b .last .1 .1 .1 .1 .1 .1 .1 .1 .1 .1 .1 .1 .1 .1 .0) (b .result) (y .ensures) (b .kept .1 .1 .1 .1 .1 .1 .1 .0) (b .ensures),
-    )
+    let a = c .before .before .before .before .before .before .before .before .before .before .before .before .before .before .before .before .before .before .before .before .before .before .before .before .before .before .before .before .before .before .before .before .before .before .before .before .before .before .before .args in
+    let R = c .before .before .before .before .before .before .before .before .before .before .before .before .before .before .before .before .before .before .before .before .before .before .before .before .before .before .before .before .before .before .before .before .before .before .before .before .before .before .before .pre in
+    let b = c .before .before .before .before .before .before .before .before .before .before .before .before .before .before .before .before .before .before .build-flat-bvh in
+    returned (a .columns .now) (a .handles .now) (a .n) (a .m) (a .extents .now) (a .keys .now) (a .perm .now) (a .words .now) (a .scratch .now) (a .areas .now) (a .boxes .now) (a .nodes .now) (a .tree .now) R (b .last .1 .1 .1 .1 .1 .1 .1 .1 .1 .0) (b .last .1 .1 .1 .1 .1 .1 .1 .1 .1 .1 .0) (b .last .1 .1 .1 .1 .1 .0) (b .last .1 .1 .1 .1 .1 .1 .1 .1 .1 .1 .1 .0) (b .result) (b .kept .1 .1 .1 .1 .1 .0) (b .ensures)
 
 pub scene-bvh-spec : {M : Type 1} → statement M
 scene-bvh-spec =
     tie.close
     (tie.spec
-    clear-from-requires
     slice-relend-prefix-build-flat-bvh
     slice-aggregate-build-flat-bvh
     build-flat-bvh-requires
@@ -84,8 +68,4 @@ scene-bvh-spec =
     same-length-7
     same-length-8
     same-length-9
-    same-length-10
-    same-length-11
-    same-length-12
-    same-length-13
     returns)
