@@ -1,17 +1,4 @@
--- The laws of the planes, and scenes whose planes the Rust gave.
+-- The laws of the planes.
 pub mod Ranking
 pub mod Ranked
 pub mod Steps
-mod Probe
-mod SceneStar9
-mod SceneFirst
-mod SceneCells
-mod SceneTie
-mod SceneVault5
-mod SceneVault3
-mod SceneDups
-mod SceneWinding
-mod SceneRank
-mod SceneStep
-mod SceneBuried
-mod SceneQuad

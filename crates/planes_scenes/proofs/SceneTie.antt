@@ -1,4 +1,4 @@
--- The scene `buried`: a patch between two others is left out. Its planes are those that the Rust gave, bit for bit (the dump of the reference), by evaluation.
+-- The scene `tie`: the first of two equal largest triangles. Its planes are those that the Rust gave, bit for bit (the dump of the reference), by evaluation.
 use mathlib.Core.Path.{_≡_, refl}
 use mathlib.Core.Bool.{Bool, true, false}
 use mathlib.Core.List.{List, [], _∷_, flatMap}
@@ -32,30 +32,31 @@ use Rattle.vector.specs.Vector.{vec, dot3Of, sub3Of, add3Of, scale3Of, cross3Of
 use Rattle.geometry.specs.Aabb.{lowOf, highOf, newEmptyOf, unionOf, growOf, fromCornersOf}
 use Rattle.geometry.specs.Triangle.{crossOf, triangleAreaOf, thirdOf, centroidOf}
 use Rattle.geometry.specs.Intersect.{edgesOf, parallelOf, outsideOf, withinOf, solveOf, crossingOf, intersectMaxOf}
-use Rattle.planes.proofs.Probe.{probeAll}
+use Rattle.planes_scenes.proofs.Probe.{probeAll}
 
-abbrev buried-tris : List Triangle
-buried-tris =
-    record { a = (vec (fin true 1 (pos 0)) (fin false 0 (pos 0)) (fin true 1 (pos 0))); b = (vec (fin false 1 (pos 0)) (fin false 0 (pos 0)) (fin true 1 (pos 0))); c = (vec (fin false 0 (pos 0)) (fin false 0 (pos 0)) (fin false 1 (pos 0))); normal = (vec (fin false 0 (pos 0)) (fin true 1 (pos 0)) (fin false 0 (pos 0))); «material_handle» = 0 }
-    ∷ record { a = (vec (fin true 1 (pos 0)) (fin false 5368709 (negsuc 27)) (fin true 1 (pos 0))); b = (vec (fin false 1 (pos 0)) (fin false 5368709 (negsuc 27)) (fin true 1 (pos 0))); c = (vec (fin false 0 (pos 0)) (fin false 5368709 (negsuc 27)) (fin false 1 (pos 0))); normal = (vec (fin false 0 (pos 0)) (fin true 1 (pos 0)) (fin false 0 (pos 0))); «material_handle» = 0 }
-    ∷ record { a = (vec (fin true 1 (pos 0)) (fin true 5368709 (negsuc 27)) (fin true 1 (pos 0))); b = (vec (fin false 1 (pos 0)) (fin true 5368709 (negsuc 27)) (fin true 1 (pos 0))); c = (vec (fin false 0 (pos 0)) (fin true 5368709 (negsuc 27)) (fin false 1 (pos 0))); normal = (vec (fin false 0 (pos 0)) (fin true 1 (pos 0)) (fin false 0 (pos 0))); «material_handle» = 0 }
+abbrev tie-tris : List Triangle
+tie-tris =
+    record { a = (vec (fin false 0 (pos 0)) (fin false 0 (pos 0)) (fin false 0 (pos 0))); b = (vec (fin false 1 (pos 1)) (fin false 0 (pos 0)) (fin false 0 (pos 0))); c = (vec (fin false 1 (pos 1)) (fin false 0 (pos 0)) (fin false 1 (pos 1))); normal = (vec (fin false 0 (pos 0)) (fin true 1 (pos 0)) (fin false 0 (pos 0))); «material_handle» = 0 }
+    ∷ record { a = (vec (fin false 0 (pos 0)) (fin false 0 (pos 0)) (fin false 0 (pos 0))); b = (vec (fin false 1 (pos 1)) (fin false 0 (pos 0)) (fin false 1 (pos 1))); c = (vec (fin false 0 (pos 0)) (fin false 0 (pos 0)) (fin false 1 (pos 1))); normal = (vec (fin false 0 (pos 0)) (fin true 1 (pos 0)) (fin false 0 (pos 0))); «material_handle» = 0 }
+    ∷ record { a = (vec (fin false 5033165 (negsuc 21)) (fin false 5368709 (negsuc 27)) (fin false 1 (negsuc 0))); b = (vec (fin false 3 (negsuc 0)) (fin false 5368709 (negsuc 27)) (fin false 1 (negsuc 0))); c = (vec (fin false 5452595 (negsuc 21)) (fin false 5368709 (negsuc 27)) (fin false 7549747 (negsuc 22))); normal = (vec (fin false 0 (pos 0)) (fin true 1 (pos 0)) (fin false 0 (pos 0))); «material_handle» = 0 }
+    ∷ record { a = (vec (fin false 5033165 (negsuc 21)) (fin true 5368709 (negsuc 27)) (fin false 1 (negsuc 0))); b = (vec (fin false 3 (negsuc 0)) (fin true 5368709 (negsuc 27)) (fin false 1 (negsuc 0))); c = (vec (fin false 5452595 (negsuc 21)) (fin true 5368709 (negsuc 27)) (fin false 7549747 (negsuc 22))); normal = (vec (fin false 0 (pos 0)) (fin true 1 (pos 0)) (fin false 0 (pos 0))); «material_handle» = 0 }
     ∷ []
 
-abbrev buried-settings : Settings
-buried-settings = record { most = 32; mergeOn = true; mergeCos = (fin false 8356687 (negsuc 22)); mergeOffset = (fin false 1 (negsuc 1)); buried = (fin false 13421773 (negsuc 27)) }
+abbrev tie-settings : Settings
+tie-settings = record { most = 32; mergeOn = false; mergeCos = (fin false 8356687 (negsuc 22)); mergeOffset = (fin false 1 (negsuc 1)); buried = (fin false 13421773 (negsuc 27)) }
 
-abbrev buried-planes : List Plane
-buried-planes =
+abbrev tie-planes : List Plane
+tie-planes =
     record {
       normal = (vec (fin true 0 (pos 0)) (fin false 1 (pos 0)) (fin true 0 (pos 0)));
       offset = (fin false 5368709 (negsuc 27));
-      area = (fin false 1 (pos 1));
-      box = record { min = (vec (fin true 1 (pos 0)) (fin false 5368709 (negsuc 27)) (fin true 1 (pos 0))); max = (vec (fin false 1 (pos 0)) (fin false 5368709 (negsuc 27)) (fin false 1 (pos 0))) };
-      tris = (1 ∷ []);
+      area = (fin false 4026531 (negsuc 25));
+      box = record { min = (vec (fin false 5033165 (negsuc 21)) (fin false 5368709 (negsuc 27)) (fin false 1 (negsuc 0))); max = (vec (fin false 3 (negsuc 0)) (fin false 5368709 (negsuc 27)) (fin false 7549747 (negsuc 22))) };
+      tris = (2 ∷ []);
       border = (
-          record { start = (vec (fin true 1 (pos 0)) (fin false 5368709 (negsuc 27)) (fin true 1 (pos 0))); end = (vec (fin false 1 (pos 0)) (fin false 5368709 (negsuc 27)) (fin true 1 (pos 0))) }
-          ∷ record { start = (vec (fin false 1 (pos 0)) (fin false 5368709 (negsuc 27)) (fin true 1 (pos 0))); end = (vec (fin false 0 (pos 0)) (fin false 5368709 (negsuc 27)) (fin false 1 (pos 0))) }
-          ∷ record { start = (vec (fin false 0 (pos 0)) (fin false 5368709 (negsuc 27)) (fin false 1 (pos 0))); end = (vec (fin true 1 (pos 0)) (fin false 5368709 (negsuc 27)) (fin true 1 (pos 0))) }
+          record { start = (vec (fin false 5033165 (negsuc 21)) (fin false 5368709 (negsuc 27)) (fin false 1 (negsuc 0))); end = (vec (fin false 3 (negsuc 0)) (fin false 5368709 (negsuc 27)) (fin false 1 (negsuc 0))) }
+          ∷ record { start = (vec (fin false 3 (negsuc 0)) (fin false 5368709 (negsuc 27)) (fin false 1 (negsuc 0))); end = (vec (fin false 5452595 (negsuc 21)) (fin false 5368709 (negsuc 27)) (fin false 7549747 (negsuc 22))) }
+          ∷ record { start = (vec (fin false 5452595 (negsuc 21)) (fin false 5368709 (negsuc 27)) (fin false 7549747 (negsuc 22))); end = (vec (fin false 5033165 (negsuc 21)) (fin false 5368709 (negsuc 27)) (fin false 1 (negsuc 0))) }
           ∷ []);
       fitted = false;
       spread = (fin false 0 (pos 0));
@@ -63,19 +64,19 @@ buried-planes =
     ∷ record {
       normal = (vec (fin true 0 (pos 0)) (fin false 1 (pos 0)) (fin true 0 (pos 0)));
       offset = (fin true 5368709 (negsuc 27));
-      area = (fin false 1 (pos 1));
-      box = record { min = (vec (fin true 1 (pos 0)) (fin true 5368709 (negsuc 27)) (fin true 1 (pos 0))); max = (vec (fin false 1 (pos 0)) (fin true 5368709 (negsuc 27)) (fin false 1 (pos 0))) };
-      tris = (2 ∷ []);
+      area = (fin false 4026531 (negsuc 25));
+      box = record { min = (vec (fin false 5033165 (negsuc 21)) (fin true 5368709 (negsuc 27)) (fin false 1 (negsuc 0))); max = (vec (fin false 3 (negsuc 0)) (fin true 5368709 (negsuc 27)) (fin false 7549747 (negsuc 22))) };
+      tris = (3 ∷ []);
       border = (
-          record { start = (vec (fin true 1 (pos 0)) (fin true 5368709 (negsuc 27)) (fin true 1 (pos 0))); end = (vec (fin false 1 (pos 0)) (fin true 5368709 (negsuc 27)) (fin true 1 (pos 0))) }
-          ∷ record { start = (vec (fin false 1 (pos 0)) (fin true 5368709 (negsuc 27)) (fin true 1 (pos 0))); end = (vec (fin false 0 (pos 0)) (fin true 5368709 (negsuc 27)) (fin false 1 (pos 0))) }
-          ∷ record { start = (vec (fin false 0 (pos 0)) (fin true 5368709 (negsuc 27)) (fin false 1 (pos 0))); end = (vec (fin true 1 (pos 0)) (fin true 5368709 (negsuc 27)) (fin true 1 (pos 0))) }
+          record { start = (vec (fin false 5033165 (negsuc 21)) (fin true 5368709 (negsuc 27)) (fin false 1 (negsuc 0))); end = (vec (fin false 3 (negsuc 0)) (fin true 5368709 (negsuc 27)) (fin false 1 (negsuc 0))) }
+          ∷ record { start = (vec (fin false 3 (negsuc 0)) (fin true 5368709 (negsuc 27)) (fin false 1 (negsuc 0))); end = (vec (fin false 5452595 (negsuc 21)) (fin true 5368709 (negsuc 27)) (fin false 7549747 (negsuc 22))) }
+          ∷ record { start = (vec (fin false 5452595 (negsuc 21)) (fin true 5368709 (negsuc 27)) (fin false 7549747 (negsuc 22))); end = (vec (fin false 5033165 (negsuc 21)) (fin true 5368709 (negsuc 27)) (fin false 1 (negsuc 0))) }
           ∷ []);
       fitted = false;
       spread = (fin false 0 (pos 0));
     }
     ∷ []
 
-buried-built : planesOf buried-settings (probeAll buried-tris) buried-tris ≡ buried-planes
+tie-built : planesOf tie-settings (probeAll tie-tris) tie-tris ≡ tie-planes
 unfolding filterBy allBy countBy triangleAt cornersOf boxOf largerPartOf largestPartOf isTurned neg3Of canonicalOf offsetOf patchAt planeAt keptOf cellOf aroundOf inCell isCoplanar foundOf newPatch joinedOf placedOf patchesOf largerOf largestOf signedOf probeRayOf isBuried openOf rankOf descendingKey seedsOf verticesOf runAt follow isLinked isAdjacent runsOf inCone isWithin takes grownOf groupsFrom groupsOf aloneOf sideOf weightedOf meanNormalOf totalAreaOf groupBoxOf groupTrisOf heightsOf meanOffsetOf reachOf spreadOf fittedOf planeOf grownByOf sceneBoxOf centreOf halfDiagOf momentOf meanOf areaCentreOf weighedOf importanceOf keyOfPlane rankingOf rankedOf edgeKey keyedOf sidesOf isSameEdge usedOnce borderOf borderedOf openPatchesOf groupPlanesOf planesOf wholeOf stepOf keyBy sameKey vertexKey anyOrder keysOf faceOf faceAt sameFace isFirst insert sortBy anyBy firstBy headOr upTo minOf maxOf absOf floatKey isqrt rootOf sqrtOf dot3Of sub3Of add3Of scale3Of cross3Of length3Of distance3Of normalize3Of lowOf highOf newEmptyOf unionOf growOf fromCornersOf crossOf triangleAreaOf thirdOf centroidOf edgesOf parallelOf outsideOf withinOf solveOf crossingOf intersectMaxOf add sub mul div neg lt le eq isNan ofBits flatMap round toBits
-buried-built = refl
+tie-built = refl
