@@ -1,2 +1,4 @@
 -- The laws of the query.
-pub mod Planes
+pub mod Zero
+pub mod Nothing
+pub mod Call

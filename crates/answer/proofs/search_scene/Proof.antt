@@ -7,11 +7,11 @@ use Rattle.mirror.specs.Plane.{Plane}
 use Rattle.claim.specs.Query.{searched}
 use Rattle.search.specs.Outcome.{onOf, outcomesOf}
 use Rattle.scene_bvh.specs.SceneTree.{treeOf}
-use Rattle.query.proofs.Planes.{held-wider, planes-read, planes-are}
-use Rattle.query.proofs.search_scene.Statement.{statement}
-use Rattle.query.proofs.search_scene.Tie as tie
+use Rattle.answer.proofs.Planes.{held-wider, planes-read, planes-are}
+use Rattle.answer.proofs.search_scene.Statement.{statement}
+use Rattle.answer.proofs.search_scene.Tie as tie
 
--- `query::search_scene` meets its contract: the search goes over the planes that were built.
+-- `answer::search_scene` meets its contract: the search goes over the planes that were built.
 
 build-planes-requires : tie.Need-build-planes-requires
 build-planes-requires c κs = (c .before .before .before .before .before .before .before .before .before .before .before .before .before .before .before .before .before .before .before .before .before .before .before .before .before .before .before .before .before .before .before .before .before .before .before .before .before .before .before .before .before .pre .0, ((c .before .before .before .before .before .before .before .before .before .before .before .before .before .before .before .before .before .before .before .before .before .before .before .before .before .before .before .before .before .before .before .before .before .before .before .before .before .before .before .before .before .pre .1 .0 .held, c .before .before .before .before .before .before .before .before .before .before .before .before .before .before .before .before .before .before .before .before .before .before .before .before .before .before .before .before .before .before .before .before .before .before .before .before .before .before .before .before .before .pre .1 .0 .some), c .before .before .before .before .before .before .before .before .before .before .before .before .before .before .before .before .before .before .before .before .before .before .before .before .before .before .before .before .before .before .before .before .before .before .before .before .before .before .before .before .before .pre .1 .1 .0))

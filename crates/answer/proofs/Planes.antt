@@ -17,7 +17,7 @@ use Rattle.segments.specs.Areas.{TreeReads}
 use Rattle.bounces.specs.Areas.{PlanesRead}
 use Rattle.planes.specs.Build.{planeSettings, planesOf}
 use Rattle.scene_bvh.specs.SceneTree.{treeOf, TrianglesRead, TreeStands}
-use Rattle.query.specs.Query.{planesFor}
+use Rattle.answer.specs.Query.{planesFor}
 
 -- triangles below m are below n
 pub held-wider : (floats : List Float) (words members : List ℕ) (edges : List Float) (m n count : ℕ) → m ≤ n → PlanesHeld floats words members edges m count → PlanesHeld floats words members edges n count

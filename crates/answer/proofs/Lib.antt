@@ -1,0 +1,3 @@
+-- The laws of the query.
+pub mod Planes
+pub mod Answering

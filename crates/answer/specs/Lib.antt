@@ -1,0 +1,3 @@
+-- The query over a scene.
+pub mod Query
+pub mod Answer

@@ -1,0 +1,2 @@
+-- The laws of the answer over a loaded scene.
+mod Zero

@@ -1,0 +1,275 @@
+-- The call: what loading answers decides which refusal of 1 to 6 there is, and what is claimed of an answer holds of the definition.
+use Prim.Native.Nat.{ℕ, zero, suc, _+_, _*_, _≤_, _<_, _^_, min}
+use mathlib.Core.Path.{_≡_, refl, sym, ap, subst, _∙_}
+use mathlib.Core.Bool.{Bool, true, false, cond, not, _&&_}
+use mathlib.Core.List.{List, [], _∷_}
+use native.Mathlib.Omega.{arith}
+use native.Mathlib.Nat.{add-le-add}
+use borrow.Author.Tests.{ne-eqb, lt-ltb, ltb-false}
+use lib.Dec.{T, eqb, ltb}
+use lib.ListN.{length}
+use lib.Ieee.{Float}
+use Rattle.vector.specs.declared.Vec3.{Vec3}
+use Rattle.geometry.specs.declared.Triangle.{Triangle}
+use Rattle.build.specs.Tree.{Tree}
+use Rattle.mirror.specs.Plane.{Plane}
+use Rattle.patches.specs.Triangles.{triangleAt}
+use Rattle.scene.specs.declared.Settings.{Settings}
+use Rattle.scene.specs.Limits.{mostCandidates, countsOf, ratesOf, mergesOf, modelNumbersOf, settingsOf}
+use Rattle.scene.specs.Scene.{Scene}
+use Rattle.scene.specs.Refusals.{refusal1, refusal2, refusal3, refusal4, refusal5, first}
+use Rattle.placing.specs.Corners.{triangles, placings, refusal6}
+use Rattle.placing.specs.Loading.{firstRefusal, answerOf, left, Loading}
+use Rattle.placing.specs.declared.Loaded.{Loaded}
+use Rattle.placing.specs.declared.Loaded.the-variants.{Refused, Triangles}
+use Rattle.bounces.specs.Areas.{maxOrder}
+use Rattle.packet.specs.Limits.{mostTaps}
+use Rattle.sequences.specs.Allowed.{mostPlanes, visited}
+use Rattle.paths.specs.Path.{pathOf}
+use Rattle.paths.specs.declared.Fate.{Fate}
+use Rattle.paths.specs.declared.Fate.the-variants.{TooFar, NotCrossed, OffSurface, TooLong, Faded, Blocked, Faint, Passed}
+use Rattle.paths.proofs.Bound.{path-rays}
+use Rattle.claim.specs.Answer.{Outcome, raysOf, raysFor, found, Answer, answerOf as answerIs}
+use Rattle.claim.specs.Complete.{Complete}
+use Rattle.claim.specs.Query.{Query, refused, given, queryOf}
+use Rattle.claim.proofs.Searching.{query-complete}
+use Rattle.search.specs.Outcome.{onOf, byFate, outcomeOf, outcomesOf}
+use Rattle.search.proofs.Answers.{paths-proper}
+use Rattle.scene_bvh.specs.SceneTree.{treeOf}
+use Rattle.answer.specs.Query.{planesFor, pathFor}
+use Rattle.answer.specs.Answer.{queryFor, Answers, answeredOf, outputOf}
+use Rattle.answer.specs.declared.Answered.{Answered}
+use Rattle.query.specs.declared.Front.{Front}
+use Rattle.query.specs.Areas.{Work, zeroed}
+use Rattle.query.specs.Trace.{frontOf, silentOf, usedOrder, orderOf, limitOf, queryIn, byRefusal, traceOf, workAfter, mostRays, Traced}
+
+-- ---- what loading answers
+
+refusal-of : (k : ℕ) (s : Scene) → frontOf (answerOf k s) .refusal ≡ k
+refusal-of zero s = refl
+refusal-of (suc k) s = refl
+
+pub front-refusal : (k : ℕ) (s : Scene) (l : Loaded) (f : Front) → l ≡ answerOf k s → f ≡ frontOf l → f .refusal ≡ k
+front-refusal k s l f e g = ap (λ (x : Front). x .refusal) (g ∙ ap frontOf e) ∙ refusal-of k s
+
+-- loaded: how many triangles
+pub record Fronted (s : Scene) (l : Loaded) (f : Front) : Type 0 where
+  pub kept : f .kept ≡ length (triangles s)
+  pub loaded : l ≡ Triangles (f .kept) (placings s) (f .triples)
+
+pub fronted : (k : ℕ) (s : Scene) (l : Loaded) (f : Front) → l ≡ answerOf k s → f ≡ frontOf l → k ≡ 0 → Fronted s l f
+fronted zero s l f e g z =
+    let h = g ∙ ap frontOf e in
+    let many : f .kept ≡ length (triangles s) = ap (λ (x : Front). x .kept) h in
+    let whole = ap (λ (x : Front). x .triples) h in
+    record { kept = many; loaded = rw (many, whole) e }
+fronted (suc k) s l f e g z = absurd (omega arith)
+
+first-most : (b1 b2 b3 b4 b5 b6 : Bool) → first 1 (b1 ∷ b2 ∷ b3 ∷ b4 ∷ b5 ∷ b6 ∷ []) ≤ 6
+first-most true b2 b3 b4 b5 b6 = omega arith
+first-most false true b3 b4 b5 b6 = omega arith
+first-most false false true b4 b5 b6 = omega arith
+first-most false false false true b5 b6 = omega arith
+first-most false false false false true b6 = omega arith
+first-most false false false false false true = omega arith
+first-most false false false false false false = omega arith
+
+pub refusal-most : (st : Settings) (c : ℕ) (s : Scene) (lens : List ℕ) → firstRefusal st c s lens ≤ 6
+unfolding firstRefusal
+refusal-most st c s lens = first-most (refusal1 st c) (refusal2 s) (refusal3 s) (refusal4 s) (refusal5 s c lens) (refusal6 s)
+
+-- after the refusals 1 to 5 an area is as found
+pub left-found : {A : Type 0} (k : ℕ) (z : A) (l filled : List A) → (k ≡ 0 → ⊥) → (k ≡ 6 → ⊥) → left k z l filled ≡ l
+left-found k z l filled n0 n6 = rw (ne-eqb k 0 n0, ne-eqb k 6 n6)
+
+pub work-found : (k : ℕ) (w : Work) → (k ≡ 0 → ⊥) → (k ≡ 6 → ⊥) → k ≤ 6 → w ≡ workAfter k w
+work-found k w n0 n6 most =
+    let some : 0 < k = by k n0 in
+    let less : k < 6 = omega (arith, below k n6 most) in
+    rw (lt-ltb 0 k some, lt-ltb k 6 less)
+  where
+    by : (k : ℕ) → (k ≡ 0 → ⊥) → 0 < k
+    by zero n0 = absurd (n0 refl)
+    by (suc k) n0 = omega arith
+
+    below : (k : ℕ) → (k ≡ 6 → ⊥) → k ≤ 6 → k < 6
+    below zero n6 most = omega arith
+    below (suc zero) n6 most = omega arith
+    below (suc (suc zero)) n6 most = omega arith
+    below (suc (suc (suc zero))) n6 most = omega arith
+    below (suc (suc (suc (suc zero)))) n6 most = omega arith
+    below (suc (suc (suc (suc (suc zero))))) n6 most = omega arith
+    below (suc (suc (suc (suc (suc (suc zero)))))) n6 most = absurd (n6 refl)
+    below (suc (suc (suc (suc (suc (suc (suc k))))))) n6 most = absurd (omega arith)
+
+-- the areas with other columns and handles
+abbrev withScene : Work → List Float → List ℕ → Work
+withScene w columns′ handles′ =
+    record { columns = columns′; handles = handles′; tree = w .tree; nodes = w .nodes; perm = w .perm; hi = w .hi; lo = w .lo; words = w .words; scratch = w .scratch; index = w .index; id = w .id; first = w .first; next = w .next; of = w .of; linked = w .linked; queue = w .queue; starts = w .starts; gfloats = w .gfloats; members = w .members; rows = w .rows; kept = w .kept; edges = w .edges }
+
+-- columns and handles as they were
+pub scene-found :
+    (k : ℕ) (w : Work) (columns′ : List Float) (handles′ : List ℕ) → columns′ ≡ w .columns → handles′ ≡ w .handles → (k ≡ 0 → ⊥) → (k ≡ 6 → ⊥) → k ≤ 6 →
+    _≡_ {A = Work} (withScene w columns′ handles′) (workAfter k w)
+scene-found k w columns′ handles′ e f n0 n6 most =
+    ap (λ (cs : List Float). withScene w cs handles′) e ∙ ap (λ (hs : List ℕ). withScene w (w .columns) hs) f ∙ work-found k w n0 n6 most
+
+pub work-cleared : (k : ℕ) (w w′ : Work) → w′ ≡ zeroed w → k ≡ 0 → w′ ≡ workAfter k w
+work-cleared k w w′ e z = e ∙ rw z
+
+pub work-far : (k : ℕ) (w w′ : Work) → w′ ≡ zeroed w → k ≡ 6 → w′ ≡ workAfter k w
+work-far k w w′ e z = e ∙ rw z
+
+-- ---- the settings
+
+pub record Within (st : Settings) (c : ℕ) : Type 0 where
+  pub planes : st .«max_reflection_planes» ≤ mostPlanes
+  pub room : c ≤ mostCandidates
+  pub rates : T (ratesOf (st .«max_reflection_distance») (st .«speed_of_sound») (st .«sample_rate»))
+  pub model : T (modelNumbersOf (st .«distance_model»))
+
+pub record Both (a b : Bool) : Type 0 where
+  pub one : a ≡ true
+  pub two : b ≡ true
+
+both : (a b : Bool) → a && b ≡ true → Both a b
+both true true e = record { one = refl; two = refl }
+both true false e = absurd (subst T (sym e) tt)
+both false b e = absurd (subst T (sym e) tt)
+
+negated : (b : Bool) → not b ≡ true → b ≡ false
+negated true e = absurd (subst T (sym e) tt)
+negated false e = refl
+
+pub within : (st : Settings) (c : ℕ) → settingsOf st c ≡ true → Within st c
+unfolding settingsOf countsOf
+within st c e =
+    let m = st .«distance_model» in
+    let rest = ratesOf (st .«max_reflection_distance») (st .«speed_of_sound») (st .«sample_rate») in
+    let merged = mergesOf (st .«plane_merge_cos») (st .«reflection_edge_fade») (st .«plane_merge_offset») (st .«plane_buried_distance») in
+    let a = both (not (ltb mostPlanes (st .«max_reflection_planes»)) && not (ltb mostCandidates c)) (rest && (merged && modelNumbersOf m)) e in
+    let counts = both (not (ltb mostPlanes (st .«max_reflection_planes»))) (not (ltb mostCandidates c)) (a .one) in
+    let b = both rest (merged && modelNumbersOf m) (a .two) in
+    let d = both merged (modelNumbersOf m) (b .two) in
+    record {
+      planes = ltb-false mostPlanes (st .«max_reflection_planes») (negated (ltb mostPlanes (st .«max_reflection_planes»)) (counts .one));
+      room = ltb-false mostCandidates c (negated (ltb mostCandidates c) (counts .two));
+      rates = subst T (sym (b .one)) tt;
+      model = subst T (sym (d .two)) tt;
+    }
+
+-- ---- the answer
+
+-- "The lowest that applies is returned": where one of 1 to 6 does
+pub refused-answers :
+    (k : ℕ) (q : Query) (r : Answered) (out out′ : List ℕ) → (k ≡ 0 → ⊥) → r ≡ answeredOf (refused k) → out′ ≡ out → Answers (byRefusal k q) r out out′
+refused-answers zero q r out out′ n0 a o = absurd (n0 refl)
+refused-answers (suc k) q r out out′ n0 a o = record { answer = a; output = o }
+
+-- and where none does
+pub loaded-answers :
+    (st : Settings) (c : ℕ) (s : Scene) (lens : List ℕ) (source listener : Vec3) (separated : Bool) (m order limit : ℕ) (r : Answered) (out out′ : List ℕ) →
+    firstRefusal st c s lens ≡ 0 → m ≡ length (triangles s) → order ≡ min (st .«max_reflection_order») maxOrder → limit ≡ limitOf st →
+    Answers (queryFor st (triangles s) (s .materials) source listener (usedOrder (silentOf separated source listener m) order) c limit) r out out′ →
+    Answers (traceOf st c s lens source listener separated) r out out′
+loaded-answers st c s lens source listener separated m order limit r out out′ none many o l h =
+    subst (λ (k : ℕ). Answers (byRefusal k (queryIn st c s source listener separated)) r out out′) (sym none)
+    (subst
+    (λ (j : ℕ). Answers (queryFor st (triangles s) (s .materials) source listener (usedOrder (silentOf separated source listener j) (min (st .«max_reflection_order») maxOrder)) c (limitOf st)) r out out′)
+    many
+    (subst (λ (d : ℕ). Answers (queryFor st (triangles s) (s .materials) source listener (usedOrder (silentOf separated source listener m) d) c (limitOf st)) r out out′) o
+    (subst (λ (d : ℕ). Answers (queryFor st (triangles s) (s .materials) source listener (usedOrder (silentOf separated source listener m) order) c d) r out out′) l h)))
+
+-- ---- what is claimed of it
+
+-- an answer is given only where no refusal applies
+pub record Given (st : Settings) (c : ℕ) (s : Scene) (lens : List ℕ) (q : Query) (a : Answer) : Type 0 where
+  pub none : firstRefusal st c s lens ≡ 0
+  pub query : q ≡ given a
+
+given-only : (k : ℕ) (q : Query) (a : Answer) → byRefusal k q ≡ given a → (k ≡ 0) × (q ≡ given a)
+given-only zero q a e = (refl, e)
+given-only (suc k) q a e = absurd (let z : _≡_ {A = ℕ} 0 1 = cc in omega arith)
+
+settings-pass : (b1 b2 b3 b4 b5 b6 : Bool) → first 1 (b1 ∷ b2 ∷ b3 ∷ b4 ∷ b5 ∷ b6 ∷ []) ≡ 0 → b1 ≡ false
+settings-pass true b2 b3 b4 b5 b6 e = absurd (let z : _≡_ {A = ℕ} 1 0 = e in omega arith)
+settings-pass false b2 b3 b4 b5 b6 e = refl
+
+un-not : (b : Bool) → not b ≡ false → b ≡ true
+un-not true e = refl
+un-not false e = absurd (subst T e tt)
+
+pub settings-within : (st : Settings) (c : ℕ) (s : Scene) (lens : List ℕ) → firstRefusal st c s lens ≡ 0 → Within st c
+unfolding firstRefusal refusal1
+settings-within st c s lens e =
+    within st c (un-not (settingsOf st c) (settings-pass (refusal1 st c) (refusal2 s) (refusal3 s) (refusal4 s) (refusal5 s c lens) (refusal6 s) e))
+
+used-most : (b : Bool) (o : ℕ) → o ≤ maxOrder → usedOrder b o ≤ maxOrder
+used-most true o h = omega arith
+used-most false o h = h
+
+fate-rays : (o : Fate) (q : ℕ) → raysOf (byFate o q) ≡ q
+unfolding raysOf
+fate-rays TooFar q = refl
+fate-rays NotCrossed q = refl
+fate-rays OffSurface q = refl
+fate-rays TooLong q = refl
+fate-rays Faded q = refl
+fate-rays Blocked q = refl
+fate-rays Faint q = refl
+fate-rays (Passed c) q = refl
+
+module _ (st : Settings) (planes : List Plane) (tri : ℕ → Triangle) (t : Tree) (materials : List Float) (source listener : Vec3) where
+  outcome-rays : (seq : List ℕ) → raysOf (outcomesOf st planes tri t materials source listener seq) ≤ 162 * (length seq + 1)
+  unfolding outcomeOf
+  outcome-rays seq =
+      subst (λ (n : ℕ). n ≤ 162 * (length seq + 1))
+      (sym (fate-rays (pathOf st planes tri t materials source listener seq .fate) (pathOf st planes tri t materials source listener seq .rays)))
+      (path-rays st planes tri t materials source listener seq)
+
+  all-rays : (seqs : List (List ℕ)) → raysFor (outcomesOf st planes tri t materials source listener) seqs ≤ mostRays seqs
+  unfolding raysFor mostRays
+  all-rays [] = omega arith
+  all-rays (q ∷ qs) = let h = outcome-rays q in let i = all-rays qs in add-le-add h i
+
+given-rays : (on : List ℕ) (order : ℕ) (speed rate : Float) (limit room : ℕ) (path : List ℕ → Outcome) (a : Answer) → queryOf on order speed rate limit room path ≡ given a → a .rays ≡ raysFor path (visited on order)
+unfolding queryOf
+given-rays on order speed rate limit room path a e = go (ltb room (length (found path 1 (visited on order)))) e
+  where
+    go :
+        (b : Bool) → elim b as (λ _. Query) [ true ↦ refused 7 | false ↦ given (answerIs on order speed rate limit path) ] ≡ given a →
+        a .rays ≡ raysFor path (visited on order)
+    go true e = absurd (let z : _≡_ {A = ℕ} 0 1 = cc in omega arith)
+    go false e = let z : answerIs on order speed rate limit path ≡ a = cc in sym (ap (λ (x : Answer). x .rays) z)
+
+-- a call that answers as the definition and leaves the areas as it says is as it promises
+pub traced :
+    (st : Settings) (c : ℕ) (s : Scene) (lens : List ℕ) (source listener : Vec3) (separated : Bool) (r : Answered) (out out′ : List ℕ) (found left : Work) →
+    Answers (traceOf st c s lens source listener separated) r out out′ → left ≡ workAfter (firstRefusal st c s lens) found →
+    Traced st c s lens source listener separated r out out′ found left
+traced st c s lens source listener separated r out out′ found left h w =
+    record {
+      answer = h .answer;
+      output = h .output;
+      areas = w;
+      complete = λ a e.
+          let g = given-only (firstRefusal st c s lens) (queryIn st c s source listener separated) a e in
+          let p = settings-within st c s lens (g .0) in
+          let few = used-most (silentOf separated source listener (length (triangles s))) (min (st .«max_reflection_order») maxOrder) (omega arith) in
+          query-complete (onOf (planesFor st (triangles s)) source) (orderOf st s source listener separated) (st .«speed_of_sound») (st .«sample_rate») (limitOf st)
+          (pathFor st (triangles s) (s .materials) source listener) (small (orderOf st s source listener separated) few)
+          (paths-proper st (planesFor st (triangles s)) (triangleAt (triangles s)) (treeOf (triangles s)) (s .materials) source listener (p .rates)
+          (onOf (planesFor st (triangles s)) source) (orderOf st s source listener separated)) c a (g .1);
+      rays = λ a e.
+          let g = given-only (firstRefusal st c s lens) (queryIn st c s source listener separated) a e in
+          let same =
+          given-rays (onOf (planesFor st (triangles s)) source) (orderOf st s source listener separated) (st .«speed_of_sound») (st .«sample_rate») (limitOf st) c
+          (pathFor st (triangles s) (s .materials) source listener) a (g .1)
+          in
+          subst (λ (n : ℕ). n ≤ mostRays (visited (onOf (planesFor st (triangles s)) source) (orderOf st s source listener separated))) (sym same)
+          (all-rays st (planesFor st (triangles s)) (triangleAt (triangles s)) (treeOf (triangles s)) (s .materials) source listener
+          (visited (onOf (planesFor st (triangles s)) source) (orderOf st s source listener separated)));
+    }
+  where
+    small : (o : ℕ) → o ≤ maxOrder → o < 2 ^ 32
+    small o h = omega arith
