@@ -46,27 +46,28 @@ uint32_t biv_packet_write(size_t count, uint32_t images, uint32_t rays, const ui
 /* placing/specs/Loading.antt. Answers the first refusal of 1 to 6 that applies; or 0, with found[0..3] the triangles kept, the placings
  * made and the whole triples. counts has 5 words: max_reflection_order, max_reflections, max_reflection_planes, plane_merge (0 or not),
  * curve (0 is Inverse). floats has 11: reflection_edge_fade, max_reflection_distance, speed_of_sound, sample_rate, plane_merge_cos,
- * plane_merge_offset, plane_buried_distance, reference_distance, rolloff_factor, min_distance, max_distance. found has 3 or more. The
- * lengths of counts, floats and found are the caller's to keep; every other length is tested. */
+ * plane_merge_offset, plane_buried_distance, reference_distance, rolloff_factor, min_distance, max_distance. lens has 23: the lengths of
+ * all areas that a query is lent, in the order of docs/AREAS.md, the first two columns_len and handles_len. found has 3 or more. The
+ * lengths of counts, floats, lens and found, and those two, are the caller's to keep; every other length is tested. */
 uint32_t biv_load_scene(const uint32_t *counts, size_t counts_len, const float *floats, size_t floats_len, uint32_t c,
                         const uint32_t *meshes, size_t meshes_len, const float *transforms, size_t transforms_len,
                         const float *positions, size_t positions_len, const uint32_t *indices, size_t indices_len,
                         const float *materials, size_t materials_len, uint32_t rows,
-                        size_t candidate_floats, size_t candidate_words, size_t output,
+                        const size_t *lens, size_t lens_len,
                         float *columns, size_t columns_len, uint32_t *handles, size_t handles_len, size_t *found, size_t found_len);
 
 /* ---- the tree */
 
 /* bvh/specs/Bvh.antt. The tree over the first perm_len triangles of columns of n floats (what biv_load_scene left); 0 < perm_len <= n and
  * perm_len < 65,536. Answers the count of its nodes, 0 where a centroid is not finite. In triangles m = perm_len the least lengths are:
- * extents 9 m, kx, ky, kz, words, scratch and areas m, boxes 12 m, nodes 8 m, padded 12 m, rows 10 m. A node is six floats of boxes
- * (least and greatest corner) and four words of nodes (left, right, start, len; len is 0 unless it is a leaf, whose triangles stand in
- * perm from start on). The caller keeps the lengths. */
+ * extents 9 m, keys 3 m, words, scratch and areas m, boxes 12 m, nodes 8 m, tree 22 m. A node is six floats of boxes (least and greatest
+ * corner) and four words of nodes (left, right, start, len; len is 0 unless it is a leaf, whose triangles stand in perm from start on).
+ * tree has in its first 12 m floats the padded boxes, in the next 10 m the rows: what the functions below take as padded and rows.
+ * The caller keeps the lengths. */
 size_t biv_build_flat_bvh(const float *columns, size_t columns_len, const uint32_t *handles, size_t handles_len, size_t n,
-                          float *extents, size_t extents_len, uint64_t *kx, size_t kx_len, uint64_t *ky, size_t ky_len,
-                          uint64_t *kz, size_t kz_len, uint32_t *perm, size_t perm_len, uint64_t *words, size_t words_len,
-                          uint64_t *scratch, size_t scratch_len, float *areas, size_t areas_len, float *boxes, size_t boxes_len,
-                          uint32_t *nodes, size_t nodes_len, float *padded, size_t padded_len, float *rows, size_t rows_len);
+                          float *extents, size_t extents_len, uint64_t *keys, size_t keys_len, uint32_t *perm, size_t perm_len,
+                          uint64_t *words, size_t words_len, uint64_t *scratch, size_t scratch_len, float *areas, size_t areas_len,
+                          float *boxes, size_t boxes_len, uint32_t *nodes, size_t nodes_len, float *tree, size_t tree_len);
 
 /* trace/specs/Trace.antt, intersectOf. The nearest hit in a tree of count nodes, count above 0, that biv_build_flat_bvh left in padded,
  * nodes, perm and rows. ray has 8 floats: origin, direction, least and greatest distance. Answers whether there is a hit; hit (4 floats or
@@ -142,6 +143,42 @@ bool biv_search_images(const float *padded, size_t padded_len, const uint32_t *n
                        const uint32_t *counts, size_t counts_len, const float *setting_floats, size_t setting_floats_len,
                        const float *source, size_t source_len, const float *listener, size_t listener_len, size_t order, size_t room,
                        float *fs, size_t fs_len, uint32_t *ws, size_t ws_len, size_t *found, size_t found_len);
+
+/* ---- the whole call */
+
+/* Refusals of biv_trace_early_reflections and biv_load_scene; of several that apply, the lowest. */
+enum {
+    BIV_NO_REFUSAL = 0,
+    BIV_SETTINGS = 1,     /* a setting or c is out of its range */
+    BIV_LENGTHS = 2,      /* the lengths of the scene's parts do not fit together */
+    BIV_MATERIAL = 3,     /* a material handle has no row */
+    BIV_TRIANGLES = 4,    /* more than 4,096 triples */
+    BIV_AREAS = 5,        /* a work area or the output area is short */
+    BIV_FAR = 6,          /* a placed corner is beyond 10,000 or no number */
+    BIV_CANDIDATES = 7    /* more than c candidates pass */
+};
+
+/* query/specs/Trace.antt, Traced. From settings, scene parts and positions to the packet of taps in out. Answers the refusal, or 0. found (4 words
+ * or more) gets count, images, rays and the packet's length, zeros after a refusal. The 22 work areas come first, in the order of docs/AREAS.md,
+ * which has their least lengths in whole triples T and c; short ones are refused. Nothing is read from them. After the refusals 1 to 5 they are as
+ * they were, after 6, 7 and a result all zero. out (3,465 bytes or more) gets the packet, and is as it was past it and after a refusal. counts and
+ * setting_floats are the settings as for biv_load_scene (5 and 11), source and listener 3 floats each; c is the candidate room. meshes has 3 words a
+ * mesh (vertices, indices, material handle), transforms 16 floats a mesh, positions 3 floats a vertex, materials 16 floats a row. separated says
+ * that source and listener are apart, so that nothing is heard. No two areas overlap. The caller keeps the lengths of counts, setting_floats,
+ * source, listener and found; all others are tested. */
+uint32_t biv_trace_early_reflections(float *columns, size_t columns_len, uint32_t *handles, size_t handles_len, float *tree, size_t tree_len,
+                                     uint32_t *nodes, size_t nodes_len, uint32_t *perm, size_t perm_len, uint64_t *hi, size_t hi_len,
+                                     uint64_t *lo, size_t lo_len, uint64_t *words, size_t words_len, uint64_t *scratch, size_t scratch_len,
+                                     uint32_t *index, size_t index_len, uint32_t *id, size_t id_len, uint32_t *first, size_t first_len,
+                                     uint32_t *next, size_t next_len, uint32_t *of, size_t of_len, uint32_t *linked, size_t linked_len,
+                                     uint32_t *queue, size_t queue_len, uint32_t *starts, size_t starts_len, float *gfloats, size_t gfloats_len,
+                                     uint32_t *members, size_t members_len, float *rows, size_t rows_len, uint32_t *kept, size_t kept_len,
+                                     float *edges, size_t edges_len, uint8_t *out, size_t out_len, size_t *found, size_t found_len,
+                                     const uint32_t *counts, size_t counts_len, const float *setting_floats, size_t setting_floats_len, uint32_t c,
+                                     const uint32_t *meshes, size_t meshes_len, const float *transforms, size_t transforms_len,
+                                     const float *positions, size_t positions_len, const uint32_t *indices, size_t indices_len,
+                                     const float *materials, size_t materials_len, uint32_t rows_count, const float *source, size_t source_len,
+                                     const float *listener, size_t listener_len, bool separated);
 
 #ifdef __cplusplus
 }

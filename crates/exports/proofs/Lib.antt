@@ -2,3 +2,4 @@
 pub mod Loaded
 pub mod Courses
 mod Three
+mod Answers

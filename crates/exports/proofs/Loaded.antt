@@ -7,13 +7,12 @@ use borrow.Author.Tests.{ne-eqb}
 use lib.Dec.{eqb}
 use lib.Ieee.{Float}
 use mathlib.Core.Bool.{false}
-use lib.ListN.{length, set}
+use lib.ListN.{set}
 use Rattle.scene.specs.Scene.{Scene}
-use Rattle.scene.specs.Refusals.{triplesIn}
-use Rattle.placing.specs.Corners.{triangles, placings}
 use Rattle.placing.specs.declared.Loaded.{Loaded}
 use Rattle.placing.specs.declared.Loaded.the-variants.{Refused, Triangles}
 use Rattle.placing.specs.Loading.{answerOf, Loading}
+use Rattle.placing.proofs.Accepts.{counted}
 use Rattle.exports.specs.Loads.{Loads}
 
 -- a refusal is said with its number, which is not 0
@@ -24,17 +23,6 @@ refused-is (suc k) j s e = cc
 not-zero : (k j : ℕ) (s : Scene) → Refused j ≡ answerOf k s → k ≡ 0 → ⊥
 not-zero zero j s e z = let o : _≡_ {A = ℕ} 0 1 = cc in absurd (omega arith)
 not-zero (suc k) j s e z = omega arith
-
--- triangles are said where there is no refusal
-pub record Counted (k a b t : ℕ) (s : Scene) : Type 0 where
-  pub none : k ≡ 0
-  pub kept : a ≡ length (triangles s)
-  pub placed : b ≡ placings s
-  pub whole : t ≡ triplesIn s
-
-counted : (k a b t : ℕ) (s : Scene) → Triangles a b t ≡ answerOf k s → Counted k a b t s
-counted zero a b t s e = record { none = refl; kept = cc; placed = cc; whole = cc }
-counted (suc k) a b t s e = let o : _≡_ {A = ℕ} 0 1 = cc in absurd (omega arith)
 
 module _
     (k : ℕ) (s : Scene) (columns : List Float) (handles found : List ℕ) (r : Loaded) (columns′ : List Float) (handles′ : List ℕ)

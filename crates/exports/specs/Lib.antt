@@ -5,3 +5,4 @@ pub mod Loads
 pub mod Hits
 pub mod Paths
 pub mod Searches
+pub mod Answers

@@ -9,15 +9,11 @@ use mathlib.Core.Path.{_≡_}
 use mathlib.Core.Bool.{cond}
 use mathlib.Core.List.{List, [], _∷_}
 use Rattle.float.specs.Literals.{zero32}
-use Rattle.scene.specs.declared.Areas.{Areas}
 use Rattle.scene.specs.Scene.{Scene}
 use Rattle.scene.specs.Refusals.{triplesIn}
 use Rattle.placing.specs.Corners.{triangles, placings}
 use Rattle.placing.specs.Passing.{putAll, putHandles}
 use Rattle.placing.specs.Loading.{left}
-
-abbrev pub areas : ℕ → ℕ → ℕ → ℕ → ℕ → Areas
-areas k h f w o = record { columns = k; handles = h; «candidate_floats» = f; «candidate_words» = w; output = o }
 
 pub record Loads
     (k : ℕ) (s : Scene) (columns : List Float) (handles found : List ℕ) (r : ℕ) (columns′ : List Float) (handles′ found′ : List ℕ)

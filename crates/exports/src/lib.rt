@@ -1,11 +1,11 @@
 // What C and Rust call: each function stands for one of the port, with numbers and slices alone. A `&[T]` passes as a pointer and then
 // a length. include/bivelondry.h declares them; reference/crates/port wraps them for Rust and tests what a `requires` asks.
+use answer::Answered;
 use bands::Band8;
 use packet::Reading;
 use packet::Written;
 use paths::Fate;
 use placing::Loaded;
-use scene::Areas;
 use scene::Settings;
 use trace::Hit;
 use vector::Ray;
@@ -13,7 +13,7 @@ use vector::Vec3;
 ghost use mathlib.Core.Path.{_≡_};
 ghost use mathlib.Core.List.{[], _∷_};
 ghost use Prim.Native.Nat.{ℕ, _*_, _≤_, _<_};
-ghost use lib.ListN.{length, getD};
+ghost use lib.ListN.{length, getD, drop};
 ghost use lib.Seq.{sets};
 ghost use Rattle.float.specs.Sqrt.{sqrtOf};
 ghost use Rattle.float.specs.Compare.{minOf, maxOf, clampOf, absOf};
@@ -27,14 +27,14 @@ ghost use Rattle.scene.specs.Scene.{scene};
 ghost use Rattle.placing.specs.Loading.{firstRefusal};
 ghost use Rattle.exports.specs.Model.{curveOf, modelOf};
 ghost use Rattle.exports.specs.Settings.{settingsFrom};
-ghost use Rattle.exports.specs.Loads.{areas, Loads};
+ghost use Rattle.exports.specs.Loads.{Loads};
 ghost use Rattle.exports.specs.Hits.{rayFrom, flatOf, Hits};
 ghost use Rattle.geometry.specs.declared.Triangle.{Triangle};
 ghost use Rattle.build.specs.Tree.{Tree};
 ghost use Rattle.build.specs.Areas.{treeAtOf};
 ghost use Rattle.trace.specs.Leaf.{Rows};
 ghost use Rattle.trace.specs.Trace.{intersectOf, paddedTreeOf, Held};
-ghost use Rattle.bvh.specs.Bvh.{Lent, BvhOf};
+ghost use Rattle.bvh.specs.Bvh.{paddedIn, rowsIn, Lent, BvhOf};
 ghost use Rattle.ranking.specs.Rows.{Ranked, Lent as Candidates, Rows as CandidateRows, candidatesIn};
 ghost use Rattle.sequences.specs.Allowed.{mostPlanes};
 ghost use Rattle.claim.specs.Query.{search};
@@ -49,6 +49,9 @@ ghost use Rattle.bounces.specs.Bounces.{bouncesOf};
 ghost use Rattle.bounces.specs.Areas.{maxOrder, PlanesLent, PlanesRead, pointFloats, pointIn};
 ghost use Rattle.paths.specs.Path.{pathOf};
 ghost use Rattle.paths.specs.Areas.{Lent as PathsLent, ReadAs};
+ghost use Rattle.query.specs.Areas.{work, lengthsOf};
+ghost use Rattle.query.specs.Trace.{Traced as Called};
+ghost use Rattle.exports.specs.Answers.{answeredFrom};
 ghost use Rattle.exports.specs.Paths.{pointFrom, Coursed, nothingOf, flatPathOf, pathFloats, Walked, trailFate, Bounced};
 
 // ---- numbers
@@ -243,7 +246,21 @@ fn settings_from(counts: &[u32], floats: &[f32]) -> Settings
     }
 }
 
-// Answers the first refusal of 1 to 6 that applies; or 0, and how many triangles, placings and whole triples there are.
+fn lengths_from(lens: &[usize]) -> [usize; scene::AREAS]
+    requires { ⌜ length (now lens) ≡ 23 ⌝ }
+    ensures { λ r. ⌜ r ≡ now (lens .entry) ⌝ }
+{
+    let mut all = [0usize; scene::AREAS];
+    let mut k = 0;
+    while k < lens.len() {
+        all[k] = lens[k];
+        k += 1;
+    }
+    all
+}
+
+// Answers the first refusal of 1 to 6 that applies; or 0, and how many triangles, placings and whole triples there are. `lens` are the lengths
+// of all areas, in the order of docs/AREAS.md: the first two are those of columns and handles.
 #[no_mangle]
 pub extern "C" fn biv_load_scene(
     counts: &[u32],
@@ -255,15 +272,14 @@ pub extern "C" fn biv_load_scene(
     indices: &[u32],
     materials: &[f32],
     rows: u32,
-    candidate_floats: usize,
-    candidate_words: usize,
-    output: usize,
+    lens: &[usize],
     columns: &mut [f32],
     handles: &mut [u32],
     found: &mut [usize],
 ) -> u32
     requires { ⌜ (length (now counts) ≡ 5) × (length (now floats) ≡ 11) × (3 ≤ length (now found)) ⌝ }
-    ensures { λ r. ⌜ Loads (firstRefusal (settingsFrom (now (counts .entry)) (now (floats .entry))) c (scene (now (meshes .entry)) (now (transforms .entry)) (now (positions .entry)) (now (indices .entry)) (now (materials .entry)) rows) (areas (length (now (columns .entry))) (length (now (handles .entry))) «candidate_floats» «candidate_words» output)) (scene (now (meshes .entry)) (now (transforms .entry)) (now (positions .entry)) (now (indices .entry)) (now (materials .entry)) rows) (now (columns .entry)) (now (handles .entry)) (now (found .entry)) r (now (columns .exit)) (now (handles .exit)) (now (found .exit)) ⌝ }
+    requires { ⌜ (length (now lens) ≡ 23) × (getD (now lens) 0 0 ≡ length (now columns)) × (getD (now lens) 1 0 ≡ length (now handles)) ⌝ }
+    ensures { λ r. ⌜ Loads (firstRefusal (settingsFrom (now (counts .entry)) (now (floats .entry))) c (scene (now (meshes .entry)) (now (transforms .entry)) (now (positions .entry)) (now (indices .entry)) (now (materials .entry)) rows) (now (lens .entry))) (scene (now (meshes .entry)) (now (transforms .entry)) (now (positions .entry)) (now (indices .entry)) (now (materials .entry)) rows) (now (columns .entry)) (now (handles .entry)) (now (found .entry)) r (now (columns .exit)) (now (handles .exit)) (now (found .exit)) ⌝ }
 {
     let loaded = placing::load_scene(
         settings_from(counts, floats),
@@ -274,13 +290,7 @@ pub extern "C" fn biv_load_scene(
         indices,
         materials,
         rows,
-        Areas {
-            columns: columns.len(),
-            handles: handles.len(),
-            candidate_floats,
-            candidate_words,
-            output,
-        },
+        lengths_from(lens),
         columns,
         handles,
     );
@@ -304,38 +314,32 @@ pub extern "C" fn biv_build_flat_bvh(
     handles: &[u32],
     n: usize,
     extents: &mut [f32],
-    kx: &mut [u64],
-    ky: &mut [u64],
-    kz: &mut [u64],
+    keys: &mut [u64],
     perm: &mut [u32],
     words: &mut [u64],
     scratch: &mut [u64],
     areas: &mut [f32],
     boxes: &mut [f32],
     nodes: &mut [u32],
-    padded: &mut [f32],
-    rows: &mut [f32],
+    tree: &mut [f32],
 ) -> usize
-    requires { ⌜ Lent (now columns) (now handles) n (now extents) (now kx) (now ky) (now kz) (now perm) (now words) (now scratch) (now areas) (now boxes) (now nodes) ⌝ }
-    requires { ⌜ (12 * length (now perm) ≤ length (now padded)) × (10 * length (now perm) ≤ length (now rows)) ⌝ }
-    ensures { λ r. ⌜ BvhOf (now (columns .entry)) (now (handles .entry)) n (length (now (perm .entry))) (now (boxes .exit)) (now (nodes .exit)) (now (perm .exit)) (now (padded .exit)) (now (rows .exit)) r ⌝ }
+    requires { ⌜ Lent (now columns) (now handles) n (now extents) (now keys) (now perm) (now words) (now scratch) (now areas) (now boxes) (now nodes) ⌝ }
+    requires { ⌜ 22 * length (now perm) ≤ length (now tree) ⌝ }
+    ensures { λ r. ⌜ BvhOf (now (columns .entry)) (now (handles .entry)) n (length (now (perm .entry))) (now (boxes .exit)) (now (nodes .exit)) (now (perm .exit)) (paddedIn (length (now (perm .entry))) (now (tree .exit))) (rowsIn (length (now (perm .entry))) (now (tree .exit))) r ⌝ }
 {
     bvh::build_flat_bvh(
         columns,
         handles,
         n,
         extents,
-        kx,
-        ky,
-        kz,
+        keys,
         perm,
         words,
         scratch,
         areas,
         boxes,
         nodes,
-        padded,
-        rows,
+        tree,
     )
 }
 
@@ -869,4 +873,106 @@ pub extern "C" fn biv_search_images(
     found[1] = f.rays as usize;
     found[2] = f.found;
     f.over
+}
+
+// ---- the whole call
+
+// The numbers of an answer: the refusal is handed on, `found` gets count, images, rays and bytes.
+fn put_answer(found: &mut [usize], a: Answered) -> u32
+    requires { ⌜ 4 ≤ length (now found) ⌝ }
+    ensures { λ r. ⌜ (answeredFrom r (now (found .exit)) ≡ a) × (drop 4 (now (found .exit)) ≡ drop 4 (now (found .entry))) ⌝ }
+{
+    found[0] = a.count;
+    found[1] = a.images as usize;
+    found[2] = a.rays as usize;
+    found[3] = a.bytes;
+    a.refusal
+}
+
+// `trace_early_reflections`: from settings, scene parts and positions to the packet. Answers the refusal, or 0. `found` gets count, images, rays
+// and the packet's length, zeros after a refusal. The work areas come first, in the order of docs/AREAS.md, then the output area.
+#[no_mangle]
+pub extern "C" fn biv_trace_early_reflections(
+    columns: &mut [f32],
+    handles: &mut [u32],
+    tree: &mut [f32],
+    nodes: &mut [u32],
+    perm: &mut [u32],
+    hi: &mut [u64],
+    lo: &mut [u64],
+    words: &mut [u64],
+    scratch: &mut [u64],
+    index: &mut [u32],
+    id: &mut [u32],
+    first: &mut [u32],
+    next: &mut [u32],
+    of: &mut [u32],
+    linked: &mut [u32],
+    queue: &mut [u32],
+    starts: &mut [u32],
+    gfloats: &mut [f32],
+    members: &mut [u32],
+    rows: &mut [f32],
+    kept: &mut [u32],
+    edges: &mut [f32],
+    out: &mut [u8],
+    found: &mut [usize],
+    counts: &[u32],
+    setting_floats: &[f32],
+    c: u32,
+    meshes: &[u32],
+    transforms: &[f32],
+    positions: &[f32],
+    indices: &[u32],
+    materials: &[f32],
+    rows_count: u32,
+    source: &[f32],
+    listener: &[f32],
+    separated: bool,
+) -> u32
+    requires { ⌜ (length (now counts) ≡ 5) × (length (now «setting_floats») ≡ 11) ⌝ }
+    requires { ⌜ (length (now source) ≡ 3) × (length (now listener) ≡ 3) × (4 ≤ length (now found)) ⌝ }
+    ensures { λ r. ⌜ Called (settingsFrom (now (counts .entry)) (now («setting_floats» .entry))) c (scene (now (meshes .entry)) (now (transforms .entry)) (now (positions .entry)) (now (indices .entry)) (now (materials .entry)) «rows_count») (lengthsOf (work (now (columns .entry)) (now (handles .entry)) (now (tree .entry)) (now (nodes .entry)) (now (perm .entry)) (now (hi .entry)) (now (lo .entry)) (now (words .entry)) (now (scratch .entry)) (now (index .entry)) (now (id .entry)) (now (first .entry)) (now (next .entry)) (now (of .entry)) (now (linked .entry)) (now (queue .entry)) (now (starts .entry)) (now (gfloats .entry)) (now (members .entry)) (now (rows .entry)) (now (kept .entry)) (now (edges .entry))) (now (out .entry))) (pointFrom (now (source .entry))) (pointFrom (now (listener .entry))) separated (answeredFrom r (now (found .exit))) (now (out .entry)) (now (out .exit)) (work (now (columns .entry)) (now (handles .entry)) (now (tree .entry)) (now (nodes .entry)) (now (perm .entry)) (now (hi .entry)) (now (lo .entry)) (now (words .entry)) (now (scratch .entry)) (now (index .entry)) (now (id .entry)) (now (first .entry)) (now (next .entry)) (now (of .entry)) (now (linked .entry)) (now (queue .entry)) (now (starts .entry)) (now (gfloats .entry)) (now (members .entry)) (now (rows .entry)) (now (kept .entry)) (now (edges .entry))) (work (now (columns .exit)) (now (handles .exit)) (now (tree .exit)) (now (nodes .exit)) (now (perm .exit)) (now (hi .exit)) (now (lo .exit)) (now (words .exit)) (now (scratch .exit)) (now (index .exit)) (now (id .exit)) (now (first .exit)) (now (next .exit)) (now (of .exit)) (now (linked .exit)) (now (queue .exit)) (now (starts .exit)) (now (gfloats .exit)) (now (members .exit)) (now (rows .exit)) (now (kept .exit)) (now (edges .exit))) ⌝ }
+    ensures { λ _. ⌜ drop 4 (now (found .exit)) ≡ drop 4 (now (found .entry)) ⌝ }
+{
+    let s = settings_from(counts, setting_floats);
+    let from = point_from(source);
+    let to = point_from(listener);
+    let a = query::trace_early_reflections(
+        columns,
+        handles,
+        tree,
+        nodes,
+        perm,
+        hi,
+        lo,
+        words,
+        scratch,
+        index,
+        id,
+        first,
+        next,
+        of,
+        linked,
+        queue,
+        starts,
+        gfloats,
+        members,
+        rows,
+        kept,
+        edges,
+        out,
+        s,
+        c,
+        meshes,
+        transforms,
+        positions,
+        indices,
+        materials,
+        rows_count,
+        from,
+        to,
+        separated,
+    );
+    put_answer(found, a)
 }
