@@ -1,0 +1,547 @@
+// Runs the recorded queries of standard input and prints what the port answers to each, and whether that is what the Rust answered: refusal,
+// taps, images, rays, and every byte of the packet. `compare record` of reference/ made the sample: case A, the cases of reference/findings and
+// generated scenes of each kind, run by the published Rust with document 01's refusals and packet around it (reference/README.md).
+//
+// A line is a name and words of eight hexadecimal digits, floats by their bits: 35 of fixed meaning (lengths of five parts; settings as 5 counts
+// and 11 floats; candidate room, rows of the material table, separated; source; listener; the answer: refusal, taps, images, rays, bytes), then
+// meshes, transforms, positions, indices and materials, then the packet, four bytes a word, the first the lowest. A line that is longer or
+// shorter than its lengths say, or longer than the areas here, differs.
+mod text;
+
+use answer::Answered;
+use libc::STDOUT_FILENO;
+use scene::Settings;
+use vector::Vec3;
+ghost use Prim.Native.Nat.{_≤_};
+ghost use mathlib.Core.Path.{_≡_};
+ghost use lib.ListN.{length};
+
+// Words before the parts, and words of the longest line.
+const HEADER: usize = 35;
+
+const LONGEST: usize = 2048;
+
+// What a length is cut to before it is added to others.
+const MOST: usize = 4096;
+
+// ---- areas for 64 triples and 64 candidates
+
+fn floats_768() -> [f32; 768]
+    ensures { λ r. ⌜ length r ≡ 768 ⌝ }
+{
+    [0.0; 768]
+}
+
+fn floats_1152() -> [f32; 1152]
+    ensures { λ r. ⌜ length r ≡ 1152 ⌝ }
+{
+    [0.0; 1152]
+}
+
+fn floats_1408() -> [f32; 1408]
+    ensures { λ r. ⌜ length r ≡ 1408 ⌝ }
+{
+    [0.0; 1408]
+}
+
+fn floats_1472() -> [f32; 1472]
+    ensures { λ r. ⌜ length r ≡ 1472 ⌝ }
+{
+    [0.0; 1472]
+}
+
+fn floats_1600() -> [f32; 1600]
+    ensures { λ r. ⌜ length r ≡ 1600 ⌝ }
+{
+    [0.0; 1600]
+}
+
+fn words_64() -> [u32; 64]
+    ensures { λ r. ⌜ length r ≡ 64 ⌝ }
+{
+    [0u32; 64]
+}
+
+fn words_65() -> [u32; 65]
+    ensures { λ r. ⌜ length r ≡ 65 ⌝ }
+{
+    [0u32; 65]
+}
+
+fn words_128() -> [u32; 128]
+    ensures { λ r. ⌜ length r ≡ 128 ⌝ }
+{
+    [0u32; 128]
+}
+
+fn words_192() -> [u32; 192]
+    ensures { λ r. ⌜ length r ≡ 192 ⌝ }
+{
+    [0u32; 192]
+}
+
+fn words_193() -> [u32; 193]
+    ensures { λ r. ⌜ length r ≡ 193 ⌝ }
+{
+    [0u32; 193]
+}
+
+fn words_256() -> [u32; 256]
+    ensures { λ r. ⌜ length r ≡ 256 ⌝ }
+{
+    [0u32; 256]
+}
+
+fn words_320() -> [u32; 320]
+    ensures { λ r. ⌜ length r ≡ 320 ⌝ }
+{
+    [0u32; 320]
+}
+
+fn words_512() -> [u32; 512]
+    ensures { λ r. ⌜ length r ≡ 512 ⌝ }
+{
+    [0u32; 512]
+}
+
+fn words_5632() -> [u32; 5632]
+    ensures { λ r. ⌜ length r ≡ 5632 ⌝ }
+{
+    [0u32; 5632]
+}
+
+fn longs_192() -> [u64; 192]
+    ensures { λ r. ⌜ length r ≡ 192 ⌝ }
+{
+    [0u64; 192]
+}
+
+fn longs_256() -> [u64; 256]
+    ensures { λ r. ⌜ length r ≡ 256 ⌝ }
+{
+    [0u64; 256]
+}
+
+fn longs_1600() -> [u64; 1600]
+    ensures { λ r. ⌜ length r ≡ 1600 ⌝ }
+{
+    [0u64; 1600]
+}
+
+fn bytes_3465() -> [u8; 3465]
+    ensures { λ r. ⌜ length r ≡ 3465 ⌝ }
+{
+    [0u8; 3465]
+}
+
+// ---- a case
+
+// The words of a line, and the floats with their bits.
+fn line_words() -> [u32; LONGEST]
+    ensures { λ r. ⌜ length r ≡ 2048 ⌝ }
+{
+    [0u32; LONGEST]
+}
+
+fn line_floats() -> [f32; LONGEST]
+    ensures { λ r. ⌜ length r ≡ 2048 ⌝ }
+{
+    [0.0; LONGEST]
+}
+
+// The curve is 0 for Inverse, else Linear.
+fn curve_of(number: u32) -> bands::DistanceCurve {
+    if number == 0 {
+        return bands::DistanceCurve::Inverse;
+    }
+    bands::DistanceCurve::Linear
+}
+
+fn settings_from(w: &[u32], f: &[f32]) -> Settings
+    requires { ⌜ (35 ≤ length (now w)) × (35 ≤ length (now f)) ⌝ }
+{
+    let curve = curve_of(w[9]);
+    let plane_merge = w[8] != 0;
+    let distance_model = bands::DistanceModel {
+        curve,
+        reference_distance: f[17],
+        rolloff_factor: f[18],
+        min_distance: f[19],
+        max_distance: f[20],
+    };
+    Settings {
+        max_reflection_order: w[5],
+        max_reflections: w[6],
+        max_reflection_planes: w[7],
+        reflection_edge_fade: f[10],
+        max_reflection_distance: f[11],
+        speed_of_sound: f[12],
+        sample_rate: f[13],
+        plane_merge_cos: f[14],
+        plane_merge,
+        plane_merge_offset: f[15],
+        plane_buried_distance: f[16],
+        distance_model,
+    }
+}
+
+fn source_from(f: &[f32]) -> Vec3
+    requires { ⌜ 35 ≤ length (now f) ⌝ }
+{
+    Vec3 {
+        x: f[24],
+        y: f[25],
+        z: f[26],
+    }
+}
+
+fn listener_from(f: &[f32]) -> Vec3
+    requires { ⌜ 35 ≤ length (now f) ⌝ }
+{
+    Vec3 {
+        x: f[27],
+        y: f[28],
+        z: f[29],
+    }
+}
+
+// The query of a line whose parts end at a, b, c, d and e.
+fn run_case(
+    columns: &mut [f32],
+    handles: &mut [u32],
+    tree: &mut [f32],
+    nodes: &mut [u32],
+    perm: &mut [u32],
+    hi: &mut [u64],
+    lo: &mut [u64],
+    words: &mut [u64],
+    scratch: &mut [u64],
+    index: &mut [u32],
+    id: &mut [u32],
+    first: &mut [u32],
+    next: &mut [u32],
+    of: &mut [u32],
+    linked: &mut [u32],
+    queue: &mut [u32],
+    starts: &mut [u32],
+    gfloats: &mut [f32],
+    members: &mut [u32],
+    rows: &mut [f32],
+    kept: &mut [u32],
+    edges: &mut [f32],
+    out: &mut [u8],
+    w: &[u32],
+    f: &[f32],
+    a: usize,
+    b: usize,
+    c: usize,
+    d: usize,
+    e: usize,
+) -> Answered
+    requires { ⌜ (35 ≤ a) × (a ≤ b) × (b ≤ c) × (c ≤ d) × (d ≤ e) × (e ≤ length (now w)) × (e ≤ length (now f)) × (e ≤ 2048) ⌝ }
+{
+    let settings = settings_from(w, f);
+    let source = source_from(f);
+    let listener = listener_from(f);
+    let room = w[21];
+    let count = w[22];
+    let separated = w[23] != 0;
+    query::trace_early_reflections(
+        columns,
+        handles,
+        tree,
+        nodes,
+        perm,
+        hi,
+        lo,
+        words,
+        scratch,
+        index,
+        id,
+        first,
+        next,
+        of,
+        linked,
+        queue,
+        starts,
+        gfloats,
+        members,
+        rows,
+        kept,
+        edges,
+        out,
+        settings,
+        room,
+        &w[35..a],
+        &f[a..b],
+        &f[b..c],
+        &w[c..d],
+        &f[d..e],
+        count,
+        source,
+        listener,
+        separated,
+    )
+}
+
+// ---- the answer against the recorded one
+
+// Byte k of a word, the lowest first.
+fn byte_of(w: u32, k: usize) -> u32 {
+    if k == 0 {
+        return w % 256;
+    }
+    if k == 1 {
+        return w / 256 % 256;
+    }
+    if k == 2 {
+        return w / 65536 % 256;
+    }
+    w / 16777216
+}
+
+fn other_byte(b: u8, w: u32, k: usize) -> bool {
+    b as u32 != byte_of(w, k)
+}
+
+// Whether the first n bytes are those of the words.
+fn same_packet(out: &[u8], packet: &[u32], n: usize) -> bool {
+    let mut k = 0;
+    while k < n {
+        if out.len() <= k {
+            return false;
+        }
+        if packet.len() <= k / 4 {
+            return false;
+        }
+        if other_byte(out[k], packet[k / 4], k % 4) {
+            return false;
+        }
+        k += 1;
+    }
+    true
+}
+
+fn same_count(n: usize, w: u32) -> bool {
+    n as u64 == w as u64
+}
+
+// Whether the answer is the recorded one, whose packet stands at e.
+fn agrees(out: &[u8], w: &[u32], e: usize, r: Answered) -> bool
+    requires { ⌜ (35 ≤ e) × (e ≤ length (now w)) × (e ≤ 2048) ⌝ }
+{
+    if r.refusal != w[30] {
+        return false;
+    }
+    if r.images != w[32] {
+        return false;
+    }
+    if r.rays != w[33] {
+        return false;
+    }
+    if same_count(r.count, w[31]) {
+        if same_count(r.bytes, w[34]) {
+            return same_packet(out, &w[e..], r.bytes);
+        }
+    }
+    false
+}
+
+fn print_number(name: &[u8], n: u64) {
+    io::write_all(STDOUT_FILENO, name);
+    io::print_decimal(STDOUT_FILENO, n);
+}
+
+fn print_ok(ok: bool) {
+    if ok {
+        io::write_all(STDOUT_FILENO, b": ok, ");
+    } else {
+        io::write_all(STDOUT_FILENO, b": differs, ");
+    }
+}
+
+fn print_counts(r: Answered) {
+    print_number(b"taps ", r.count as u64);
+    print_number(b" images ", r.images as u64);
+    print_number(b" rays ", r.rays as u64);
+    print_number(b" bytes ", r.bytes as u64);
+}
+
+// The verdict and the answer, to the end of the line.
+fn print_answer(ok: bool, r: Answered) {
+    print_ok(ok);
+    if r.refusal == 0 {
+        print_counts(r);
+    } else {
+        print_number(b"refused ", r.refusal as u64);
+    }
+    io::write_all(STDOUT_FILENO, b"\n");
+}
+
+// Runs a case in areas of its own, and compares.
+fn run_fresh(w: &[u32], f: &[f32], a: usize, b: usize, c: usize, d: usize, e: usize) -> bool
+    requires { ⌜ (35 ≤ a) × (a ≤ b) × (b ≤ c) × (c ≤ d) × (d ≤ e) × (e ≤ length (now w)) × (e ≤ length (now f)) × (e ≤ 2048) ⌝ }
+{
+    let mut columns = floats_1472();
+    let mut handles = words_64();
+    let mut tree = floats_1408();
+    let mut nodes = words_512();
+    let mut perm = words_64();
+    let mut hi = longs_256();
+    let mut lo = longs_192();
+    let mut words = longs_1600();
+    let mut scratch = longs_1600();
+    let mut index = words_192();
+    let mut id = words_320();
+    let mut first = words_64();
+    let mut next = words_128();
+    let mut of = words_64();
+    let mut linked = words_5632();
+    let mut queue = words_256();
+    let mut starts = words_193();
+    let mut gfloats = floats_1600();
+    let mut members = words_65();
+    let mut rows = floats_768();
+    let mut kept = words_320();
+    let mut edges = floats_1152();
+    let mut out = bytes_3465();
+    let r = run_case(
+        &mut columns,
+        &mut handles,
+        &mut tree,
+        &mut nodes,
+        &mut perm,
+        &mut hi,
+        &mut lo,
+        &mut words,
+        &mut scratch,
+        &mut index,
+        &mut id,
+        &mut first,
+        &mut next,
+        &mut of,
+        &mut linked,
+        &mut queue,
+        &mut starts,
+        &mut gfloats,
+        &mut members,
+        &mut rows,
+        &mut kept,
+        &mut edges,
+        &mut out,
+        w,
+        f,
+        a,
+        b,
+        c,
+        d,
+        e,
+    );
+    let ok = agrees(&out, w, e, r);
+    print_answer(ok, r);
+    ok
+}
+
+// A length of a line, cut so that it can be added to others.
+fn limited(n: u32) -> usize
+    ensures { λ r. ⌜ r ≤ 4096 ⌝ }
+{
+    let wide = n as usize;
+    if wide < MOST {
+        return wide;
+    }
+    MOST
+}
+
+// A line that is no case.
+fn no_case() -> bool {
+    io::write_all(STDOUT_FILENO, b": differs, no case\n");
+    false
+}
+
+// A case of so many digits.
+fn run_words(w: &[u32], f: &[f32], digits: usize) -> bool
+    requires { ⌜ (length (now w) ≡ 2048) × (length (now f) ≡ 2048) ⌝ }
+{
+    let a = HEADER + limited(w[0]);
+    let b = a + limited(w[1]);
+    let c = b + limited(w[2]);
+    let d = c + limited(w[3]);
+    let e = d + limited(w[4]);
+    let bytes = limited(w[34]);
+    if LONGEST < e {
+        return no_case();
+    }
+    if digits != 8 * (e + (bytes + 3) / 4) {
+        return no_case();
+    }
+    run_fresh(w, f, a, b, c, d, e)
+}
+
+// A line: its name, and whether the answer to it is the recorded one.
+fn run_line(line: &[u8]) -> bool {
+    let end = text::name_end(line);
+    io::write_all(STDOUT_FILENO, &line[..end]);
+    let mut w = line_words();
+    let mut f = line_floats();
+    let digits = text::hex_words(line, end, &mut w);
+    text::floats_of(&w, &mut f);
+    run_words(&w, &f, digits)
+}
+
+// ---- all lines
+
+// One more, up to a limit that no input here reaches.
+fn plus(n: u64) -> u64 {
+    if n < 1000000 { n + 1 } else { n }
+}
+
+// One more where it is not so.
+fn plus_unless(n: u64, so: bool) -> u64 {
+    if so {
+        return n;
+    }
+    plus(n)
+}
+
+// The last line.
+fn print_total(cases: u64, differ: u64) {
+    io::print_decimal(STDOUT_FILENO, cases);
+    io::write_all(STDOUT_FILENO, b" cases, ");
+    io::print_decimal(STDOUT_FILENO, differ);
+    io::write_all(STDOUT_FILENO, b" differ\n");
+}
+
+// Whether a line is a remark.
+fn remark(line: &[u8]) -> bool {
+    text::byte_at(line, 0) == b'#'
+}
+
+// Every line of the text, and the counts.
+fn run(all: &[u8]) {
+    let mut at = 0;
+    let mut cases: u64 = 0;
+    let mut differ: u64 = 0;
+    while at < all.len() {
+        let from = at;
+        let end = text::line_end(all, at);
+        at = end;
+        if remark(&all[from..end]) {
+            continue;
+        }
+        cases = plus(cases);
+        differ = plus_unless(differ, run_line(&all[from..end]));
+    }
+    print_total(cases, differ);
+}
+
+// Room for all of standard input.
+fn room() -> [u8; 400_000] {
+    [0u8; 400_000]
+}
+
+fn main() {
+    let mut buf = room();
+    let n = io::read_full(0, &mut buf);
+    run(&buf[..n]);
+}
