@@ -1,5 +1,4 @@
-//! Times of the port and of the Rust on the same input, in one process, in turn: the best of several rounds each (planes: the median), and
-//! their ratio.
+//! Times of the port and of the Rust on the same input, in one process, in turn: the median of several rounds each, and their ratio.
 //! Results are compared first. Areas are lent as they were left by the round before, not cleared, unless said.
 use oracle::{Case, Mesh, Row, Settings, Table, IDENTITY};
 use compare::front::{areas, lent};
@@ -7,15 +6,15 @@ use compare::{paths, planes};
 use compare::random::Random;
 use compare::ranking;
 use quasar_backends::cpu_simd::oracle_rank;
-use port::{Areas, Candidates, Loaded, PlaneAreas, Tree, OUTPUT, TAPS, TAP_WORDS};
+use port::{Areas, Candidates, Loaded, PlaneAreas, Tree, Work, OUTPUT, TAPS, TAP_WORDS};
 use std::hint::black_box;
 use std::time::Instant;
 
 const ROUNDS: usize = 40;
 
-const PARTS: [(&str, fn()); 9] = [
+const PARTS: [(&str, fn()); 10] = [
     ("roots", roots), ("sorts", sorts), ("fronts", fronts), ("trees", trees), ("planes", all_planes), ("paths", single_paths), ("searches", searches),
-    ("rankings", rankings), ("packets", packets),
+    ("rankings", rankings), ("packets", packets), ("calls", calls),
 ];
 
 /// All parts, or those named.
@@ -38,13 +37,8 @@ fn both<T>(make: impl FnMut() -> T, port: impl FnMut(&mut T), rust: impl FnMut(&
     rounds(ROUNDS, make, port, rust)
 }
 
-fn rounds<T>(count: usize, make: impl FnMut() -> T, port: impl FnMut(&mut T), rust: impl FnMut(&mut T)) -> (f64, f64) {
-    let (p, q) = times(count, make, port, rust);
-    (p[0], q[0])
-}
-
-/// The times of all rounds, the least first.
-fn times<T>(count: usize, mut make: impl FnMut() -> T, mut port: impl FnMut(&mut T), mut rust: impl FnMut(&mut T)) -> (Vec<f64>, Vec<f64>) {
+/// Medians.
+fn rounds<T>(count: usize, mut make: impl FnMut() -> T, mut port: impl FnMut(&mut T), mut rust: impl FnMut(&mut T)) -> (f64, f64) {
     let (mut ports, mut rusts) = (Vec::new(), Vec::new());
     for _ in 0..count {
         let mut input = make();
@@ -60,7 +54,7 @@ fn times<T>(count: usize, mut make: impl FnMut() -> T, mut port: impl FnMut(&mut
     }
     ports.sort_by(f64::total_cmp);
     rusts.sort_by(f64::total_cmp);
-    (ports, rusts)
+    (ports[count / 2], rusts[count / 2])
 }
 
 /// From 0 to 1.
@@ -256,7 +250,7 @@ fn loaded(c: &Case) -> (Areas, usize, Tree) {
     (a, triples, tree)
 }
 
-/// `build_planes`; medians.
+/// `build_planes`.
 fn all_planes() {
     for c in [tiled([1; 4]), tiled([8, 5, 9, 5]), tiled([18, 19, 17, 20]), barrel(64, 32), ground(64, 32, 0.02), ground(64, 32, 1.0), stack(4096, 0), stack(1024, 3072), soup(12), soup(500), soup(4096)] {
         let (a, triples, tree) = loaded(&c);
@@ -266,13 +260,12 @@ fn all_planes() {
         }
         let stats = backend.oracle_build_stats();
         let sets = (2048 / triples).max(1);
-        let (p, q) = times(
-            ROUNDS,
+        let (p, q) = both(
             || (),
             |_| (0..sets).for_each(|_| { black_box(work.build(&tree, &a.columns, &l.counts, &l.floats)); }),
             |_| (0..sets).for_each(|_| { black_box(backend.oracle_build_planes()); }),
         );
-        line(&format!("build_planes, {}, {triples} triangles", c.name), p[ROUNDS / 2] / sets as f64, q[ROUNDS / 2] / sets as f64);
+        line(&format!("build_planes, {}, {triples} triangles", c.name), p / sets as f64, q / sets as f64);
         println!("  ({} patches, {} buried, {} groups, {} fitted, {} planes)", stats.patches, stats.buried, stats.groups, stats.fitted, stats.planes);
     }
 }
@@ -319,11 +312,13 @@ fn single_paths() {
     }
 }
 
-/// The search and the ranking: all images of an order.
+/// The search and the ranking: all images of an order, and such that most images are too far.
 fn searches() {
-    for (name, sheets, order) in [("booth", 0, 3), ("12 sheets", 12, 2), ("booth", 0, 8)] {
+    let far = Settings::default().max_distance;
+    for (name, sheets, order, far) in [("booth", 0, 3, far), ("12 sheets", 12, 2, far), ("booth", 0, 8, far), ("booth", 0, 8, 20.0), ("booth", 0, 8, 10.0)] {
         let mut c = hall(sheets);
         c.settings.order = order;
+        c.settings.max_distance = far;
         let (a, triples, tree) = loaded(&c);
         let (backend, built) = (oracle::built(&c, false), planes::build(&c, &a, triples, &tree));
         let scene = paths::scene(&c, &a, triples, &tree, &built);
@@ -331,14 +326,13 @@ fn searches() {
         let (mut rows, mut out) = (Candidates::with_room(theirs.candidates as usize), vec![0; TAPS]);
         let found = scene.search(&c.source, &c.listener, order as usize, &mut rows);
         assert_eq!((found.images, found.rays as u64, found.found), (theirs.images as usize, theirs.rays, theirs.candidates as usize));
-        let few = if found.images > 10_000 { 3 } else { 20 };
         let (p, q) = rounds(
-            few,
+            20,
             || (),
             |_| { let f = scene.search(&c.source, &c.listener, order as usize, &mut rows); black_box(rows.rank_first(f.found, c.settings.speed, c.settings.rate, &mut out)); },
             |_| { black_box(oracle::run_built(&c, &backend)); },
         );
-        line(&format!("search, {name}, order {order}: {} images", found.images), p, q);
+        line(&format!("search, {name}, order {order}, to {far} m: {} images", found.images), p, q);
         println!("  ({} rays, {} candidates)", found.rays, found.found);
     }
 }
@@ -379,4 +373,30 @@ fn packets() {
     let (r, _) = both(|| (), |_| (0..100).for_each(|_| { black_box(port::packet_read(&packet, &mut back).is_ok()); }), |_| ());
     let rate = |ns: f64| len as f64 * 100.0 / ns * 1e3;
     println!("packet of {TAPS} taps, {len} bytes: written at {:.0} MB/s ({:.2} us), read at {:.0} MB/s ({:.2} us)", rate(w), w / 1e5, rate(r), r / 1e5);
+}
+
+/// The whole call, which builds and queries and leaves its areas zero, against what `build_bvh` does but for the statistics of the room
+/// (`triangles_from_scene`, `build_flat_bvh`, `build_planes`), and `trace_early_reflections`.
+fn calls() {
+    let with = |mut c: Case, order: u32, room: u32| { (c.settings.order, c.settings.room) = (order, room); c };
+    for (name, c) in [
+        ("booth, order 3", with(hall(0), 3, 4096)), ("booth, order 3", with(hall(0), 3, 250_000)), ("12 sheets, order 2", with(hall(12), 2, 4096)),
+        ("booth, order 8", with(hall(0), 8, 4096)), ("booth, order 8", with(hall(0), 8, 250_000)), ("500 random triangles, order 1", with(soup(500), 1, 4096)),
+        ("4096 random triangles, order 1", with(soup(4096), 1, 4096)),
+    ] {
+        let (l, backend) = (lent(&c), oracle::built(&c, false));
+        let theirs = oracle::run_built(&c, &backend);
+        let (mut work, mut out) = (Work::new(c.meshes[0].indices.len() / 3, l.room as usize), vec![0u8; OUTPUT]);
+        let mut call = || port::trace(&l, &mut work, &mut out, &c.source, &c.listener, c.separated);
+        let a = call();
+        assert_eq!((a.refusal, a.count, a.images, a.rays as u64), (0, theirs.taps.len(), theirs.images as usize, theirs.rays));
+        let (p, q) = rounds(
+            20,
+            || (),
+            |_| { black_box(call()); },
+            |_| { black_box((backend.oracle_place(), backend.oracle_build_tree(), backend.oracle_build_planes(), oracle::run_built(&c, &backend))); },
+        );
+        line(&format!("the call, {name}, C {}", l.room), p, q);
+        println!("  ({} triangles, {} images, {} rays, {} candidates, {} taps)", c.meshes[0].indices.len() / 3, a.images, a.rays, theirs.candidates, a.count);
+    }
 }

@@ -1,4 +1,5 @@
 //! Runs stages of the port and the Rust on generated cases and on files, stops at the first difference, and makes its case small.
+use crate::calls::{self, Called};
 use crate::front::{self, Damage, DAMAGES};
 use crate::paths::{self, Walked};
 use crate::planes::{self, Built};
@@ -28,6 +29,7 @@ struct Coverage {
     hits: u64,
     built: Built,
     walked: Walked,
+    called: Called,
 }
 
 /// What the tests of a path are called, 0 for a candidate.
@@ -91,6 +93,10 @@ impl Coverage {
         let b = &self.built;
         println!("  planes: {}, {} fitted, of {} triangles, {} border edges; {} patches buried, {} planes past the limit", b.planes, b.fitted, b.triangles, b.edges, b.buried, b.cut);
         println!("  searches: {}, {} images, {} candidates, {} taps", self.searches, self.images, self.candidates, self.taps);
+        let w = &self.called;
+        println!("  whole calls: {}, {} of them with room for 250,000, {} with longer areas; {} results, {} silent, {} images, {} taps", w.calls, w.wide, w.longer, w.packets, w.silent, w.images, w.taps);
+        println!("    of order 7 and more: {}; at most {} images and {} taps in a result", w.deep, w.most_images, w.most_taps);
+        println!("    packets: {}, {} of them with the bytes of the Rust's taps; refusals 1 to 7: {:?}; {} cases left out", w.packets, w.bytes, &w.refusals[1..], w.left_out);
         let w = &self.walked;
         println!("  paths: {}, {} rays", w.fates.iter().sum::<u64>(), w.rays);
         for (name, n) in FATES.iter().zip(w.fates) {
@@ -134,9 +140,10 @@ fn fail(c: &Case, d: Damage, words: &str) -> ! {
     std::process::exit(1)
 }
 
-/// Slips of all stages: those of the front, then those of the tree, of the planes, of the paths, and of the taps.
-const STAGES: [usize; 5] = [front::SLIPS, tree::SLIPS, planes::SLIPS, paths::SLIPS, taps::SLIPS];
-const SLIPS: usize = front::SLIPS + tree::SLIPS + planes::SLIPS + paths::SLIPS + taps::SLIPS;
+/// Slips of all stages: those of the front, then those of the tree, of the planes, of the paths, of the taps, and of the whole call.
+const STAGES: [usize; 6] = [front::SLIPS, tree::SLIPS, planes::SLIPS, paths::SLIPS, taps::SLIPS, calls::SLIPS];
+const SLIPS: usize = front::SLIPS + tree::SLIPS + planes::SLIPS + paths::SLIPS + taps::SLIPS + calls::SLIPS;
+const WHOLE: usize = 5;
 
 /// The stage of a slip, and which of that stage's it is.
 fn slip_of(mut k: usize) -> (usize, usize) {
@@ -156,23 +163,40 @@ struct Went {
     built: Built,
     walked: Walked,
     heard: Heard,
+    called: Called,
+}
+
+impl Went {
+    fn none() -> Went {
+        Went { answer: Loaded::Refused(0), traced: Traced::default(), built: Built::default(), walked: Walked::default(), heard: Heard::default(), called: Called::default() }
+    }
 }
 
 /// One call, stage by stage. None where the damage or the slip does not apply.
 fn stages(c: &Case, d: Damage, planted: Option<usize>) -> Option<Result<Went, String>> {
     let planted = planted.map(slip_of);
+    if let Some((WHOLE, k)) = planted {
+        let backend = (front::expected(c, d) == 0).then(|| oracle::built(c, false));
+        return calls::run(c, d, backend.as_ref(), Some(k)).map(|done| done.map(|called| Went { called, ..Went::none() }));
+    }
     let at = |stage: usize| planted.and_then(|(s, k)| (s == stage).then_some(k));
     let ends_before = |stage: usize| planted.is_none_or(|(s, _)| s < stage);
     let left = match front::run(c, d, at(0))? {
         Ok(left) => left,
         Err(words) => return Some(Err(words)),
     };
-    let mut went = Went { answer: left.answer, traced: Traced::default(), built: Built::default(), walked: Walked::default(), heard: Heard::default() };
-    let Loaded::Triangles { kept, triples, .. } = left.answer else {
+    let mut went = Went { answer: left.answer, ..Went::none() };
+    let mut backend = matches!(left.answer, Loaded::Triangles { .. }).then(|| oracle::built(c, true));
+    if planted.is_none() {
+        match calls::run(c, d, backend.as_ref(), None)? {
+            Ok(called) => went.called = called,
+            Err(words) => return Some(Err(words)),
+        }
+    }
+    let (Loaded::Triangles { kept, triples, .. }, Some(backend)) = (left.answer, &mut backend) else {
         return ends_before(1).then_some(Ok(went));
     };
-    let mut backend = oracle::built(c, true);
-    let tree = match tree::run(c, &backend, &left.areas, kept, triples, at(1))? {
+    let tree = match tree::run(c, backend, &left.areas, kept, triples, at(1))? {
         Ok((traced, tree)) => {
             went.traced = traced;
             tree
@@ -182,7 +206,7 @@ fn stages(c: &Case, d: Damage, planted: Option<usize>) -> Option<Result<Went, St
     let Some(tree) = tree else {
         return ends_before(2).then_some(Ok(went));
     };
-    let planes = match planes::run(c, &backend, &left.areas, triples, &tree, at(2))? {
+    let planes = match planes::run(c, backend, &left.areas, triples, &tree, at(2))? {
         Ok((built, planes)) => {
             went.built = built;
             planes
@@ -193,11 +217,11 @@ fn stages(c: &Case, d: Damage, planted: Option<usize>) -> Option<Result<Went, St
         return ends_before(3).then_some(Ok(went));
     }
     let scene = paths::scene(c, &left.areas, triples, &tree, &planes);
-    match paths::run(c, &mut backend, &scene, planes.len(), at(3))? {
+    match paths::run(c, backend, &scene, planes.len(), at(3))? {
         Ok(walked) => went.walked = walked,
         Err(words) => return Some(Err(words)),
     }
-    match taps::run(c, &backend, &scene, at(4))? {
+    match taps::run(c, backend, &scene, at(4))? {
         Ok(heard) => Some(Ok(Went { heard, ..went })),
         Err(words) => Some(Err(words)),
     }
@@ -212,6 +236,7 @@ fn check(c: &Case, cover: &mut Coverage) {
                 cover.add_planes(went.built);
                 cover.add_paths(went.walked);
                 cover.add_taps(went.heard);
+                cover.called.add(went.called);
             }
             Some(Err(words)) => fail(c, d, &words),
             None => {}

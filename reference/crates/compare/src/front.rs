@@ -1,6 +1,6 @@
 //! The front of a query against the Rust: refusals 1 to 6, triangles and handles bit for bit, counts, and what is not to be touched.
 use oracle::Case;
-use port::{Areas, Lent, Loaded, CANDIDATE_FLOATS, CANDIDATE_WORDS, COLUMNS, OUTPUT};
+use port::{Areas, Lent, Loaded, AREAS};
 
 /// What is done to a sound call, to show refusals 2 and 5.
 #[derive(Clone, Copy, Debug, PartialEq, Eq)]
@@ -8,15 +8,27 @@ pub enum Damage {
     None,
     /// A lent scene part (0 to 4) one shorter or longer.
     Part(usize, bool),
-    /// An area (0 to 4) one shorter than its formula.
+    /// An area (in the order of docs/AREAS.md) one shorter than its formula.
     Area(usize),
 }
 
-pub const DAMAGES: [Damage; 16] = [
-    Damage::None, Damage::Part(0, false), Damage::Part(0, true), Damage::Part(1, false), Damage::Part(1, true), Damage::Part(2, false), Damage::Part(2, true),
-    Damage::Part(3, false), Damage::Part(3, true), Damage::Part(4, false), Damage::Part(4, true), Damage::Area(0), Damage::Area(1), Damage::Area(2),
-    Damage::Area(3), Damage::Area(4),
-];
+const PARTS: usize = 5;
+
+pub const DAMAGES: [Damage; 1 + 2 * PARTS + AREAS] = {
+    let mut all = [Damage::None; 1 + 2 * PARTS + AREAS];
+    let mut k = 0;
+    while k < PARTS {
+        all[1 + 2 * k] = Damage::Part(k, false);
+        all[2 + 2 * k] = Damage::Part(k, true);
+        k += 1;
+    }
+    let mut i = 0;
+    while i < AREAS {
+        all[1 + 2 * PARTS + i] = Damage::Area(i);
+        i += 1;
+    }
+    all
+};
 
 /// A case as the port takes it.
 pub fn lent(c: &Case) -> Lent {
@@ -44,39 +56,42 @@ fn triples(c: &Case) -> usize {
 /// Areas of the least length, full of a pattern, so that what is written shows.
 pub fn areas(t: usize, room: usize) -> Areas {
     Areas {
-        columns: (0..COLUMNS * t).map(|k| f32::from_bits(0x4100_0000 + k as u32)).collect(),
-        handles: (0..t).map(|k| 0x8000_0000 + k as u32).collect(),
-        candidate_floats: CANDIDATE_FLOATS * room,
-        candidate_words: CANDIDATE_WORDS * room,
-        output: OUTPUT,
+        columns: (0..port::least(0, t, room)).map(|k| f32::from_bits(0x4100_0000 + k as u32)).collect(),
+        handles: (0..port::least(1, t, room)).map(|k| 0x8000_0000 + k as u32).collect(),
+        others: std::array::from_fn(|i| port::least(i + 2, t, room)),
     }
 }
 
-/// The call damaged; false where it cannot be (a part or an area of no length).
-fn damage(l: &mut Lent, a: &mut Areas, d: Damage) -> bool {
+/// A damaged scene part; false where it cannot be (a part of no length).
+pub fn cut_part(l: &mut Lent, d: Damage) -> bool {
     fn cut<T: Copy + Default>(v: &mut Vec<T>, longer: bool) -> bool {
         if longer { v.push(T::default()); true } else { v.pop().is_some() }
     }
-    fn less(n: &mut usize) -> bool {
-        *n > 0 && { *n -= 1; true }
-    }
     match d {
-        Damage::None => true,
         Damage::Part(0, longer) => cut(&mut l.meshes, longer),
         Damage::Part(1, longer) => cut(&mut l.transforms, longer),
         Damage::Part(2, longer) => cut(&mut l.positions, longer),
         Damage::Part(3, longer) => cut(&mut l.indices, longer),
         Damage::Part(_, longer) => cut(&mut l.materials, longer),
+        Damage::None | Damage::Area(_) => true,
+    }
+}
+
+/// The call damaged; false where it cannot be (a part or an area of no length).
+fn damage(l: &mut Lent, a: &mut Areas, d: Damage) -> bool {
+    fn less(n: &mut usize) -> bool {
+        *n > 0 && { *n -= 1; true }
+    }
+    match d {
         Damage::Area(0) => a.columns.pop().is_some(),
         Damage::Area(1) => a.handles.pop().is_some(),
-        Damage::Area(2) => less(&mut a.candidate_floats),
-        Damage::Area(3) => less(&mut a.candidate_words),
-        Damage::Area(_) => less(&mut a.output),
+        Damage::Area(i) => less(&mut a.others[i - 2]),
+        Damage::None | Damage::Part(..) => cut_part(l, d),
     }
 }
 
 /// Document 01's first refusal of 1 to 6: the oracle's, which knows nothing of lengths, with 2 and 5 in their places.
-fn expected(c: &Case, d: Damage) -> u32 {
+pub fn expected(c: &Case, d: Damage) -> u32 {
     match (oracle::refusal_before_search(c), d) {
         (1, _) => 1,
         (_, Damage::Part(..)) => 2,

@@ -1,4 +1,5 @@
 //! What the comparison and the benchmark share: the generator of scenes, a case as the port takes it, and the stages compared.
+pub mod calls;
 pub mod cases;
 pub mod front;
 pub mod numbers;
@@ -6,6 +7,7 @@ pub mod paths;
 pub mod planes;
 pub mod random;
 pub mod ranking;
+pub mod record;
 pub mod scenes;
 pub mod taps;
 pub mod tree;

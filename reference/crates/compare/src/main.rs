@@ -1,12 +1,14 @@
 //! The port against the Rust. Stops at the first difference with what shows it and exit status 1.
-use compare::{cases, numbers, ranking};
+use compare::{cases, numbers, ranking, record};
 
 const USAGE: &str = "\
   compare numbers [SEED]         floats: sqrt, abs, round on all 2^32 patterns, the others on many millions of values
-  compare scenes [COUNT [SEED]]  generated scenes, 2,000 unless said: refusals, triangles, areas, tree, hits, planes, single paths, whole queries
+  compare scenes [COUNT [SEED]]  generated scenes, 2,000 unless said: refusals, triangles, areas, tree, hits, planes, single paths, searches, whole calls
   compare ranking [COUNT [SEED]] generated lists of candidates, 2,000 unless said: which are kept, and their order
   compare file FILE ..           the cases of files (FORMAT.md)
-  compare slips [COUNT [SEED]]   plants slips into the port's answers to generated scenes, and counts those found";
+  compare slips [COUNT [SEED]]   plants slips into the port's answers to generated scenes, and counts those found
+  compare record FOLDER COUNT FILE ..
+                                 what the Rust answers to the cases of files and to COUNT generated ones of each kind, for the program in FOLDER";
 
 fn main() {
     let args: Vec<String> = std::env::args().skip(1).collect();
@@ -17,6 +19,7 @@ fn main() {
         ["ranking", ref rest @ ..] => ranking::run(number(rest.first(), 2000), number(rest.get(1), 1)),
         ["file", ref names @ ..] if !names.is_empty() => cases::files(names),
         ["slips", ref rest @ ..] => cases::slips(number(rest.first(), 500), number(rest.get(1), 1)),
+        ["record", folder, count, ref names @ ..] => record::run(folder, number(Some(&count), 0) as usize, names),
         _ => usage("say what to compare"),
     }
 }

@@ -25,15 +25,15 @@ mod ffi {
             meshes: *const u32, meshes_len: usize, transforms: *const f32, transforms_len: usize,
             positions: *const f32, positions_len: usize, indices: *const u32, indices_len: usize,
             materials: *const f32, materials_len: usize, rows: u32,
-            candidate_floats: usize, candidate_words: usize, output: usize,
+            lens: *const usize, lens_len: usize,
             columns: *mut f32, columns_len: usize, handles: *mut u32, handles_len: usize, found: *mut usize, found_len: usize,
         ) -> u32;
         #[rustfmt::skip]
         pub fn biv_build_flat_bvh(
             columns: *const f32, columns_len: usize, handles: *const u32, handles_len: usize, n: usize, extents: *mut f32, extents_len: usize,
-            kx: *mut u64, kx_len: usize, ky: *mut u64, ky_len: usize, kz: *mut u64, kz_len: usize, perm: *mut u32, perm_len: usize,
-            words: *mut u64, words_len: usize, scratch: *mut u64, scratch_len: usize, areas: *mut f32, areas_len: usize,
-            boxes: *mut f32, boxes_len: usize, nodes: *mut u32, nodes_len: usize, padded: *mut f32, padded_len: usize, rows: *mut f32, rows_len: usize,
+            keys: *mut u64, keys_len: usize, perm: *mut u32, perm_len: usize, words: *mut u64, words_len: usize,
+            scratch: *mut u64, scratch_len: usize, areas: *mut f32, areas_len: usize, boxes: *mut f32, boxes_len: usize,
+            nodes: *mut u32, nodes_len: usize, tree: *mut f32, tree_len: usize,
         ) -> usize;
         #[rustfmt::skip]
         pub fn biv_intersect(
@@ -87,6 +87,21 @@ mod ffi {
             listener: *const f32, listener_len: usize, order: usize, room: usize, fs: *mut f32, fs_len: usize, ws: *mut u32, ws_len: usize,
             found: *mut usize, found_len: usize,
         ) -> bool;
+        #[rustfmt::skip]
+        pub fn biv_trace_early_reflections(
+            columns: *mut f32, columns_len: usize, handles: *mut u32, handles_len: usize, tree: *mut f32, tree_len: usize,
+            nodes: *mut u32, nodes_len: usize, perm: *mut u32, perm_len: usize, hi: *mut u64, hi_len: usize, lo: *mut u64, lo_len: usize,
+            words: *mut u64, words_len: usize, scratch: *mut u64, scratch_len: usize, index: *mut u32, index_len: usize,
+            id: *mut u32, id_len: usize, first: *mut u32, first_len: usize, next: *mut u32, next_len: usize, of: *mut u32, of_len: usize,
+            linked: *mut u32, linked_len: usize, queue: *mut u32, queue_len: usize, starts: *mut u32, starts_len: usize,
+            gfloats: *mut f32, gfloats_len: usize, members: *mut u32, members_len: usize, rows: *mut f32, rows_len: usize,
+            kept: *mut u32, kept_len: usize, edges: *mut f32, edges_len: usize, out: *mut u8, out_len: usize,
+            found: *mut usize, found_len: usize, counts: *const u32, counts_len: usize,
+            setting_floats: *const f32, setting_floats_len: usize, c: u32, meshes: *const u32, meshes_len: usize,
+            transforms: *const f32, transforms_len: usize, positions: *const f32, positions_len: usize,
+            indices: *const u32, indices_len: usize, materials: *const f32, materials_len: usize, rows_count: u32,
+            source: *const f32, source_len: usize, listener: *const f32, listener_len: usize, separated: bool,
+        ) -> u32;
         pub fn biv_distance_gain(curve: u32, reference: f32, rolloff: f32, least: f32, greatest: f32, distance: f32) -> f32;
     }
 }
@@ -185,14 +200,59 @@ pub struct Lent {
     pub rows: u32,
 }
 
-/// The work areas and the length of the output area.
+/// How many areas a query is lent, the output the last.
+pub const AREAS: usize = 23;
+
+/// The two areas that `load_scene` writes, and the lengths of those behind them.
 #[derive(Clone, Debug, Default)]
 pub struct Areas {
     pub columns: Vec<f32>,
     pub handles: Vec<u32>,
-    pub candidate_floats: usize,
-    pub candidate_words: usize,
-    pub output: usize,
+    pub others: [usize; AREAS - 2],
+}
+
+impl Areas {
+    /// The lengths of all areas, in the order of docs/AREAS.md.
+    pub fn lens(&self) -> [usize; AREAS] {
+        std::array::from_fn(|i| match i {
+            0 => self.columns.len(),
+            1 => self.handles.len(),
+            _ => self.others[i - 2],
+        })
+    }
+}
+
+/// The least length of each area: so much a triple, a candidate, and more (docs/AREAS.md).
+#[rustfmt::skip]
+pub const LEAST: [[usize; 3]; AREAS] = [
+    [COLUMNS, 0, 0], // columns
+    [1, 0, 0], // handles
+    [22, 0, 0], // tree
+    [8, 0, 0], // nodes
+    [1, 0, 0], // perm
+    [3, 1, 0], // hi
+    [3, 0, 0], // lo
+    [24, 1, 0], // words
+    [24, 1, 0], // scratch
+    [3, 0, 0], // index
+    [3, CANDIDATE_WORDS, 0], // id
+    [1, 0, 0], // first
+    [1, 0, 64], // next
+    [1, 0, 0], // of
+    [24, 0, 4096], // linked
+    [3, 1, 0], // queue
+    [3, 0, 1], // starts
+    [12, CANDIDATE_FLOATS, 0], // gfloats
+    [1, 0, 1], // members
+    [12, 0, 0], // rows
+    [5, 0, 0], // kept
+    [18, 0, 0], // edges
+    [0, 0, OUTPUT], // output
+];
+
+/// The least length of area i for t triples and c candidates.
+pub fn least(i: usize, t: usize, c: usize) -> usize {
+    LEAST[i][0] * t + LEAST[i][1] * c + LEAST[i][2]
 }
 
 /// Columns of a triangle, floats and words of a candidate, and the least output (docs/AREAS.md).
@@ -210,8 +270,9 @@ pub enum Loaded {
 
 /// The front of a query: settings, scene and areas tested, triangles placed into the columns.
 pub fn load_scene(l: &Lent, a: &mut Areas) -> Loaded {
-    let mut found = [0usize; 3];
-    // SAFETY: each pointer goes with its own length, the `&mut` areas are distinct, and counts, floats and found have their lengths.
+    let (mut found, lens) = ([0usize; 3], a.lens());
+    // SAFETY: each pointer goes with its own length, the `&mut` areas are distinct, counts, floats, lens and found have their lengths, and
+    // lens begins with those of columns and handles.
     #[rustfmt::skip]
     let refusal = unsafe {
         ffi::biv_load_scene(
@@ -219,7 +280,7 @@ pub fn load_scene(l: &Lent, a: &mut Areas) -> Loaded {
             l.meshes.as_ptr(), l.meshes.len(), l.transforms.as_ptr(), l.transforms.len(),
             l.positions.as_ptr(), l.positions.len(), l.indices.as_ptr(), l.indices.len(),
             l.materials.as_ptr(), l.materials.len(), l.rows,
-            a.candidate_floats, a.candidate_words, a.output,
+            lens.as_ptr(), lens.len(),
             a.columns.as_mut_ptr(), a.columns.len(), a.handles.as_mut_ptr(), a.handles.len(), found.as_mut_ptr(), found.len(),
         )
     };
@@ -233,10 +294,10 @@ pub fn load_scene(l: &Lent, a: &mut Areas) -> Loaded {
 #[derive(Clone, Debug)]
 pub struct Tree {
     extents: Vec<f32>,
-    keys: [Vec<u64>; 5],
+    keys: [Vec<u64>; 3],
     areas: Vec<f32>,
-    padded: Vec<f32>,
-    rows: Vec<f32>,
+    /// What a trace reads: 12 floats a triangle for the padded boxes, and then 10 for the rows.
+    traced: Vec<f32>,
     handles: Vec<u32>,
     /// Six floats a node, its box; four words a node, its links (left, right, start, len); the triangles in the order of the leaves.
     pub boxes: Vec<f32>,
@@ -264,11 +325,20 @@ fn sound(nodes: &[u32], count: usize, m: usize) -> bool {
 impl Tree {
     /// Areas for a tree of `m` triangles; no tree stands in them yet.
     pub fn areas(m: usize) -> Tree {
-        let words = || vec![0u64; m];
         Tree {
-            extents: vec![0.0; 9 * m], keys: [words(), words(), words(), words(), words()], areas: vec![0.0; m], padded: vec![0.0; 12 * m],
-            rows: vec![0.0; 10 * m], handles: Vec::new(), boxes: vec![0.0; 12 * m], nodes: vec![0; 8 * m], order: vec![0; m], count: 0,
+            extents: vec![0.0; 9 * m], keys: [vec![0; 3 * m], vec![0; m], vec![0; m]], areas: vec![0.0; m], traced: vec![0.0; 22 * m],
+            handles: Vec::new(), boxes: vec![0.0; 12 * m], nodes: vec![0; 8 * m], order: vec![0; m], count: 0,
         }
+    }
+
+    /// The padded boxes of the nodes, six floats each.
+    fn padded(&self) -> &[f32] {
+        &self.traced[..12 * self.order.len()]
+    }
+
+    /// The rows of the triangles in the order of the leaves, ten floats each.
+    fn rows(&self) -> &[f32] {
+        &self.traced[12 * self.order.len()..]
     }
 
     /// Builds the tree over the first triangles of columns of `n` floats, as many as it has areas for; false where a centroid is not finite.
@@ -276,16 +346,16 @@ impl Tree {
         let m = self.order.len();
         assert!(columns.len() >= COLUMNS * n && handles.len() >= n, "the columns are short of {n} triangles");
         assert!(0 < m && m <= n && m < 65536, "{m} of {n} triangles are no tree");
-        let [kx, ky, kz, words, scratch] = &mut self.keys;
+        let [keys, words, scratch] = &mut self.keys;
         // SAFETY: as asserted; the areas have the lengths of `areas`, each is distinct and goes with its own length.
         #[rustfmt::skip]
         let count = unsafe {
             ffi::biv_build_flat_bvh(
                 columns.as_ptr(), columns.len(), handles.as_ptr(), handles.len(), n, self.extents.as_mut_ptr(), self.extents.len(),
-                kx.as_mut_ptr(), kx.len(), ky.as_mut_ptr(), ky.len(), kz.as_mut_ptr(), kz.len(), self.order.as_mut_ptr(), m,
+                keys.as_mut_ptr(), keys.len(), self.order.as_mut_ptr(), m,
                 words.as_mut_ptr(), words.len(), scratch.as_mut_ptr(), scratch.len(), self.areas.as_mut_ptr(), self.areas.len(),
                 self.boxes.as_mut_ptr(), self.boxes.len(), self.nodes.as_mut_ptr(), self.nodes.len(),
-                self.padded.as_mut_ptr(), self.padded.len(), self.rows.as_mut_ptr(), self.rows.len(),
+                self.traced.as_mut_ptr(), self.traced.len(),
             )
         };
         self.count = count;
@@ -306,8 +376,8 @@ impl Tree {
         #[rustfmt::skip]
         let found = unsafe {
             ffi::biv_intersect(
-                self.padded.as_ptr(), self.padded.len(), self.nodes.as_ptr(), self.nodes.len(), self.order.as_ptr(), self.order.len(),
-                self.rows.as_ptr(), self.rows.len(), self.handles.as_ptr(), self.handles.len(), self.count,
+                self.padded().as_ptr(), self.padded().len(), self.nodes.as_ptr(), self.nodes.len(), self.order.as_ptr(), self.order.len(),
+                self.rows().as_ptr(), self.rows().len(), self.handles.as_ptr(), self.handles.len(), self.count,
                 ray.as_ptr(), ray.len(), hit.as_mut_ptr(), hit.len(), place.as_mut_ptr(), place.len(),
             )
         };
@@ -406,15 +476,15 @@ impl PlaneAreas {
         let (n, m) = (self.n, tree.order.len());
         assert!(m <= n && tree.handles.len() == n, "the tree stands over columns of {} floats, not of {n}", tree.handles.len());
         assert!(columns.len() >= COLUMNS * n, "the columns are short of {n} triangles");
-        assert!(tree.count > 0 && 6 * tree.count <= tree.padded.len() && 4 * tree.count <= tree.nodes.len() && 10 * m <= tree.rows.len());
+        assert!(tree.count > 0 && 6 * tree.count <= tree.padded().len() && 4 * tree.count <= tree.nodes.len() && 10 * m <= tree.rows().len());
         debug_assert!(sound(&tree.nodes, tree.count, m));
         // SAFETY: as asserted; the areas have the lengths of `new`, each is distinct and goes with its own length.
         #[rustfmt::skip]
         let count = unsafe {
             ffi::biv_build_planes(
                 columns.as_ptr(), columns.len(), tree.handles.as_ptr(), n, n, m, counts.as_ptr(), counts.len(), floats.as_ptr(), floats.len(),
-                tree.padded.as_ptr(), tree.padded.len(), tree.nodes.as_ptr(), tree.nodes.len(), tree.order.as_ptr(), m,
-                tree.rows.as_ptr(), tree.rows.len(), tree.count,
+                tree.padded().as_ptr(), tree.padded().len(), tree.nodes.as_ptr(), tree.nodes.len(), tree.order.as_ptr(), m,
+                tree.rows().as_ptr(), tree.rows().len(), tree.count,
                 self.hi.as_mut_ptr(), self.hi.len(), self.lo.as_mut_ptr(), self.lo.len(), self.words.as_mut_ptr(), self.words.len(),
                 self.scratch.as_mut_ptr(), self.scratch.len(), self.index.as_mut_ptr(), self.index.len(), self.id.as_mut_ptr(), self.id.len(),
                 self.first.as_mut_ptr(), self.first.len(), self.next.as_mut_ptr(), self.next.len(), self.of.as_mut_ptr(), self.of.len(),
@@ -464,7 +534,7 @@ impl Scene {
     pub fn new(mut tree: Tree, columns: Vec<f32>, n: usize, materials: Vec<f32>, planes: Planes, counts: [u32; 5], floats: [f32; 11]) -> Scene {
         let m = tree.order.len();
         tree.handles.truncate(m); // rows past the tree's triangles were never written
-        assert!(tree.count > 0 && 6 * tree.count <= tree.padded.len() && 4 * tree.count <= tree.nodes.len() && 10 * m <= tree.rows.len());
+        assert!(tree.count > 0 && 6 * tree.count <= tree.padded().len() && 4 * tree.count <= tree.nodes.len() && 10 * m <= tree.rows().len());
         assert!(sound(&tree.nodes, tree.count, m), "a link leads out of the tree");
         assert!(columns.len() >= COLUMNS * n, "the columns are short of {n} triangles");
         assert!(tree.handles.iter().chain([&0]).all(|&h| 16 * (h as usize + 1) <= materials.len()), "a handle has no row");
@@ -481,8 +551,8 @@ impl Scene {
         #[rustfmt::skip]
         let fate = unsafe {
             ffi::biv_path(
-                t.padded.as_ptr(), t.padded.len(), t.nodes.as_ptr(), t.nodes.len(), t.order.as_ptr(), t.order.len(),
-                t.rows.as_ptr(), t.rows.len(), t.handles.as_ptr(), t.handles.len(), t.count,
+                t.padded().as_ptr(), t.padded().len(), t.nodes.as_ptr(), t.nodes.len(), t.order.as_ptr(), t.order.len(),
+                t.rows().as_ptr(), t.rows().len(), t.handles.as_ptr(), t.handles.len(), t.count,
                 self.materials.as_ptr(), self.materials.len(), self.columns.as_ptr(), self.columns.len(), self.n,
                 p.floats.as_ptr(), p.floats.len(), p.words.as_ptr(), p.words.len(), p.members.as_ptr(), p.members.len(),
                 p.edges.as_ptr(), p.edges.len(), p.count, self.counts.as_ptr(), self.counts.len(),
@@ -532,8 +602,8 @@ impl Scene {
         #[rustfmt::skip]
         let over = unsafe {
             ffi::biv_search_images(
-                t.padded.as_ptr(), t.padded.len(), t.nodes.as_ptr(), t.nodes.len(), t.order.as_ptr(), t.order.len(),
-                t.rows.as_ptr(), t.rows.len(), t.handles.as_ptr(), t.handles.len(), t.count,
+                t.padded().as_ptr(), t.padded().len(), t.nodes.as_ptr(), t.nodes.len(), t.order.as_ptr(), t.order.len(),
+                t.rows().as_ptr(), t.rows().len(), t.handles.as_ptr(), t.handles.len(), t.count,
                 self.materials.as_ptr(), self.materials.len(), self.columns.as_ptr(), self.columns.len(), self.n,
                 p.floats.as_ptr(), p.floats.len(), p.words.as_ptr(), p.words.len(), p.members.as_ptr(), p.members.len(),
                 p.edges.as_ptr(), p.edges.len(), p.count, self.counts.as_ptr(), self.counts.len(),
@@ -594,4 +664,119 @@ impl Candidates {
         };
         kept
     }
+}
+
+/// An element of an area, as bits.
+pub trait Element: Copy + Default {
+    fn bits(self) -> u64;
+    fn of(bits: u32) -> Self;
+}
+
+impl Element for f32 {
+    fn bits(self) -> u64 {
+        self.to_bits() as u64
+    }
+    fn of(bits: u32) -> f32 {
+        f32::from_bits(bits)
+    }
+}
+
+impl Element for u32 {
+    fn bits(self) -> u64 {
+        self as u64
+    }
+    fn of(bits: u32) -> u32 {
+        bits
+    }
+}
+
+impl Element for u64 {
+    fn bits(self) -> u64 {
+        self
+    }
+    fn of(bits: u32) -> u64 {
+        (bits as u64) << 32 | bits as u64
+    }
+}
+
+macro_rules! work {
+    ($($name:ident: $t:ty),*) => {
+        /// The 22 work areas of a query (docs/AREAS.md).
+        #[derive(Clone, Debug, Default)]
+        pub struct Work {
+            $(pub $name: Vec<$t>),*
+        }
+
+        impl Work {
+            /// Areas of the least lengths for t triples and c candidates, all zero.
+            pub fn new(t: usize, c: usize) -> Work {
+                let mut lengths = (0..AREAS).map(|i| least(i, t, c));
+                Work { $($name: vec![Default::default(); lengths.next().expect("a length")]),* }
+            }
+
+            /// Every element another than zero and than the one before it, so that what is written shows.
+            pub fn fill(&mut self) {
+                $(self.$name.iter_mut().enumerate().for_each(|(k, x)| *x = Element::of(0x4100_0000 + k as u32));)*
+            }
+
+            /// Area i one shorter; false where it has no length.
+            pub fn cut(&mut self, i: usize) -> bool {
+                let cuts: Vec<fn(&mut Work) -> bool> = vec![$(|w: &mut Work| w.$name.pop().is_some()),*];
+                cuts[i](self)
+            }
+
+            /// The first area that is not all zero.
+            pub fn not_zero(&self) -> Option<&'static str> {
+                $(if self.$name.iter().any(|x| x.bits() != 0) { return Some(stringify!($name)); })*
+                None
+            }
+
+            /// The first area that is another than the other's.
+            pub fn differs(&self, other: &Work) -> Option<&'static str> {
+                $(if self.$name.len() != other.$name.len() || self.$name.iter().zip(&other.$name).any(|(a, b)| a.bits() != b.bits()) { return Some(stringify!($name)); })*
+                None
+            }
+        }
+    };
+}
+
+#[rustfmt::skip]
+work!(
+    columns: f32, handles: u32, tree: f32, nodes: u32, perm: u32, hi: u64, lo: u64, words: u64, scratch: u64, index: u32, id: u32,
+    first: u32, next: u32, of: u32, linked: u32, queue: u32, starts: u32, gfloats: f32, members: u32, rows: f32, kept: u32, edges: f32
+);
+
+/// What the whole call answers: a refusal of 1 to 7 with zeros, or 0 with the counts and the packet's length.
+#[derive(Clone, Copy, Debug, Default, PartialEq, Eq)]
+pub struct Traced {
+    pub refusal: u32,
+    pub count: usize,
+    pub images: usize,
+    pub rays: usize,
+    pub bytes: usize,
+}
+
+/// `trace_early_reflections`, from the scene's parts to the packet in `out`. Any lengths of the areas will do: those that are short are refused.
+pub fn trace(l: &Lent, work: &mut Work, out: &mut [u8], source: &[f32; 3], listener: &[f32; 3], separated: bool) -> Traced {
+    let mut found = [0usize; 4];
+    // SAFETY: each pointer goes with its own length, the `&mut` areas are distinct, and counts, floats, source, listener and found have their lengths.
+    #[rustfmt::skip]
+    let refusal = unsafe {
+        ffi::biv_trace_early_reflections(
+            work.columns.as_mut_ptr(), work.columns.len(), work.handles.as_mut_ptr(), work.handles.len(),
+            work.tree.as_mut_ptr(), work.tree.len(), work.nodes.as_mut_ptr(), work.nodes.len(), work.perm.as_mut_ptr(), work.perm.len(),
+            work.hi.as_mut_ptr(), work.hi.len(), work.lo.as_mut_ptr(), work.lo.len(), work.words.as_mut_ptr(), work.words.len(),
+            work.scratch.as_mut_ptr(), work.scratch.len(), work.index.as_mut_ptr(), work.index.len(), work.id.as_mut_ptr(), work.id.len(),
+            work.first.as_mut_ptr(), work.first.len(), work.next.as_mut_ptr(), work.next.len(), work.of.as_mut_ptr(), work.of.len(),
+            work.linked.as_mut_ptr(), work.linked.len(), work.queue.as_mut_ptr(), work.queue.len(),
+            work.starts.as_mut_ptr(), work.starts.len(), work.gfloats.as_mut_ptr(), work.gfloats.len(),
+            work.members.as_mut_ptr(), work.members.len(), work.rows.as_mut_ptr(), work.rows.len(),
+            work.kept.as_mut_ptr(), work.kept.len(), work.edges.as_mut_ptr(), work.edges.len(), out.as_mut_ptr(), out.len(),
+            found.as_mut_ptr(), found.len(), l.counts.as_ptr(), l.counts.len(), l.floats.as_ptr(), l.floats.len(), l.room,
+            l.meshes.as_ptr(), l.meshes.len(), l.transforms.as_ptr(), l.transforms.len(), l.positions.as_ptr(), l.positions.len(),
+            l.indices.as_ptr(), l.indices.len(), l.materials.as_ptr(), l.materials.len(), l.rows, source.as_ptr(), source.len(),
+            listener.as_ptr(), listener.len(), separated,
+        )
+    };
+    Traced { refusal, count: found[0], images: found[1], rays: found[2], bytes: found[3] }
 }
