@@ -18,7 +18,8 @@ use lib.Ieee.Positive.{num, den, den-pos, positive-of-value, value→cross, le�
 use Rattle.float.specs.Literals.{zero32, one32}
 use Rattle.float.specs.Compare.{clampOf, isFinite}
 use Rattle.float.specs.Sqrt.{isqrt, rootOf, sqrtOf}
-use Rattle.float.proofs.Squares.{mul-lt-pow, square-lt-back}
+use Rattle.guesses.proofs.Products.{mul-lt-pow}
+use Rattle.float.proofs.Squares.{square-lt-back}
 use Rattle.float.proofs.Rounds.{isqrt-is}
 use Rattle.paths.specs.Numbers.{isNumber}
 use Rattle.paths.proofs.Signs.{NotNegative, round-false, clamp-not-negative}
