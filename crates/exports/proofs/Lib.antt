@@ -1,5 +1,2 @@
 -- The laws that the proofs of `exports` cite.
-pub mod Loaded
-pub mod Courses
-mod Three
 mod Answers

@@ -1,8 +1,2 @@
--- The definitions that the contracts of `exports` cite: how numbers and slices stand for the port's structs and answers.
-pub mod Model
-pub mod Settings
-pub mod Loads
-pub mod Hits
-pub mod Paths
-pub mod Searches
+-- The definition that the contract of the query cites: how the numbers that it gives stand for its answer.
 pub mod Answers

@@ -1,0 +1,27 @@
+-- Settings as two lists: counts (order, reflections, planes, merge, curve) and floats (fade, distance, speed, rate, cosine, offset, buried
+-- distance, and the distance model's four).
+use Prim.Native.Nat.{ℕ}
+use lib.Ieee.{Float, nan}
+use lib.ListN.{getD}
+use lib.Dec.{eqb}
+use mathlib.Core.Bool.{not}
+use mathlib.Core.List.{List}
+use Rattle.scene.specs.declared.Settings.{Settings}
+use Rattle.arguments.specs.Model.{modelOf}
+
+unfoldable pub settingsFrom : List ℕ → List Float → Settings
+settingsFrom counts floats =
+    record {
+      «max_reflection_order» = getD counts 0 0;
+      «max_reflections» = getD counts 1 0;
+      «max_reflection_planes» = getD counts 2 0;
+      «reflection_edge_fade» = getD floats 0 nan;
+      «max_reflection_distance» = getD floats 1 nan;
+      «speed_of_sound» = getD floats 2 nan;
+      «sample_rate» = getD floats 3 nan;
+      «plane_merge_cos» = getD floats 4 nan;
+      «plane_merge» = not (eqb (getD counts 3 0) 0);
+      «plane_merge_offset» = getD floats 5 nan;
+      «plane_buried_distance» = getD floats 6 nan;
+      «distance_model» = modelOf (getD counts 4 0) (getD floats 7 nan) (getD floats 8 nan) (getD floats 9 nan) (getD floats 10 nan);
+    }

@@ -1,0 +1,4 @@
+-- The laws that the proofs of `stages` cite.
+mod Loaded
+mod Courses
+mod Three
