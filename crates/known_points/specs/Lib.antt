@@ -1,0 +1,2 @@
+-- The known points of document 01.
+pub mod CaseA
