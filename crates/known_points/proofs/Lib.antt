@@ -4,3 +4,5 @@ pub mod Tree
 pub mod Planes
 pub mod Path
 pub mod Search
+pub mod Whole
+pub mod Points

@@ -1,10 +1,9 @@
 -- Case A's path by way of the floor.
-use Prim.Native.Nat.{ℕ}
 use mathlib.Core.Path.{_≡_, refl}
 use mathlib.Core.Bool.{true, false}
-use mathlib.Core.List.{List, [], _∷_}
+use mathlib.Core.List.{[], _∷_}
 use lib.IntN.{pos, negsuc}
-use lib.Ieee.{Float, fin, add, sub, mul, div, neg, lt, le, eq, isNan, ofBits, round}
+use lib.Ieee.{fin, add, sub, mul, div, neg, lt, le, eq, isNan, ofBits, round}
 use Rattle.float.specs.Literals.{one32}
 use Rattle.float.specs.Compare.{minOf, maxOf, absOf, clampOf, isFinite}
 use Rattle.float.specs.Sqrt.{isqrt, rootOf, sqrtOf}

@@ -3,9 +3,9 @@ use Prim.Native.Nat.{ℕ}
 use mathlib.Core.Path.{_≡_, refl}
 use mathlib.Core.Bool.{true, false}
 use mathlib.Core.List.{List, [], _∷_}
-use lib.IntN.{pos, negsuc}
-use lib.Ieee.{Float, fin, binary32, add, sub, mul, div, neg, lt, le, eq, isNan, ofBits, round}
-use Rattle.float.specs.Compare.{minOf, maxOf, absOf, isFinite}
+use lib.IntN.{pos}
+use lib.Ieee.{Float, fin, add, sub, mul, div, neg, lt, le, eq, ofBits, round}
+use Rattle.float.specs.Compare.{absOf, isFinite}
 use Rattle.float.specs.Sqrt.{isqrt, rootOf, sqrtOf}
 use Rattle.vector.specs.declared.Vec3.{Vec3}
 use Rattle.vector.specs.Vector.{vec, dot3Of, sub3Of, cross3Of, length3Of}
@@ -13,10 +13,10 @@ use Rattle.vector.specs.Transform.{rowOf, transformPointOf}
 use Rattle.geometry.specs.declared.Triangle.{Triangle}
 use Rattle.geometry.specs.Triangle.{crossOf, isDegenerateOf, normalOf, triangleOf}
 use Rattle.scene.specs.Limits.{betweenOf, aboveZeroOf, countsOf, ratesOf, mergesOf, modelNumberOf, modelNumbersOf, settingsOf}
-use Rattle.scene.specs.Scene.{Scene, headers, vertexSum, indexSum, tripleSum, cut}
+use Rattle.scene.specs.Scene.{headers, vertexSum, indexSum, tripleSum, cut}
 use Rattle.scene.specs.Areas.{shortIn, shortOf}
 use Rattle.scene.specs.Refusals.{refusal1, refusal2, refusal3, refusal4, refusal5, meshesWhole, transformsRight, positionsRight, indicesRight, materialsRight, lengthsRightOf, unknownHandle}
-use Rattle.placing.specs.Corners.{triples, cornerOf, cornersIn, cornersOf, cornersAll, trianglesOf, triangles, corners, farOf, farCorner, farCorners, anyFar, refusal6}
+use Rattle.placing.specs.Corners.{triples, cornerOf, cornersIn, cornersOf, cornersAll, trianglesOf, triangles, farOf, farCorner, farCorners, anyFar, refusal6}
 use Rattle.placing.specs.Loading.{firstRefusal}
 use Rattle.known_points.specs.CaseA.{settings, room, floor, leastLengths}
 

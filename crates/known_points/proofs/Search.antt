@@ -8,7 +8,7 @@ use lib.Dec.{ltb}
 use lib.Ieee.{Float}
 use Rattle.ranking.specs.Lists.{insertBy, sorted, duplicatesAny, keptAfter}
 use Rattle.ranking.specs.Candidate.{ranked}
-use Rattle.sequences.specs.Allowed.{upto, may, below, allowed, visited}
+use Rattle.sequences.specs.Allowed.{upto, may, below, visited}
 use Rattle.claim.specs.Answer.{Found, Outcome, fails, passes, raysOf, tapOf, found, raysFor, Answer}
 use Rattle.claim.specs.Query.{Query, refused, given, queryOf}
 

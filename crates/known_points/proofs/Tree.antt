@@ -1,15 +1,14 @@
 -- Case A's tree: one leaf of both triangles.
-use Prim.Native.Nat.{ℕ, _≤_}
 use mathlib.Core.Path.{_≡_, refl, sym, _∙_}
-use mathlib.Core.List.{List, [], _∷_}
+use mathlib.Core.List.{[], _∷_}
 use native.Mathlib.Omega.{arith}
-use lib.Ieee.{add, div, lt, isNan, ofBits}
+use lib.Ieee.{lt, isNan, ofBits}
 use Rattle.float.specs.Compare.{minOf, maxOf}
 use Rattle.geometry.specs.Aabb.{box, lowOf, highOf, newEmptyOf, unionOf, growOf, fromCornersOf}
 use Rattle.geometry.specs.Triangle.{centroidOf}
 use Rattle.patches.specs.Triangles.{triangleAt, boxOf}
 use Rattle.split.specs.Split.{boundsOf}
-use Rattle.build.specs.Tree.{Tree, leaf, leafOf, countTo, buildSahOf}
+use Rattle.build.specs.Tree.{Tree, leaf, leafOf, countTo}
 use Rattle.build.proofs.Grows.{build-few}
 use Rattle.scene_bvh.specs.SceneTree.{treeOf}
 use Rattle.known_points.proofs.Scene.{corner0, corner2, two}
