@@ -1,9 +1,8 @@
--- The laws of a path: its loops and images, how many rays it takes, what its candidate has of numbers, that its energy is finite, and case A.
+-- The laws of a path: its loops and images, how many rays it takes, what its candidate has of numbers, and that its energy is finite.
 pub mod Laws
 pub mod Bound
 pub mod Numbers
 pub mod Finite
-pub mod CaseA
 mod Floats
 mod Ranges
 mod Signs
