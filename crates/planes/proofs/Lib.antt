@@ -1,4 +1,3 @@
 -- The laws of the planes.
-pub mod Ranking
-pub mod Ranked
 pub mod Steps
+mod Rooms

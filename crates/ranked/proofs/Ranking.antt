@@ -16,7 +16,7 @@ use Rattle.order.specs.Sort.{Below}
 use Rattle.fit.specs.Rows.{Small}
 use Rattle.borders.specs.Uses.{borderIn, Appended}
 use Rattle.borders.proofs.Storing.{edges-same}
-use Rattle.planes.specs.Areas.{withEdges, sumCounts, borderedIn}
+use Rattle.ranked.specs.Areas.{withEdges, sumCounts, borderedIn}
 
 -- ---- the triangles so far
 

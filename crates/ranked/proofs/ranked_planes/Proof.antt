@@ -6,11 +6,11 @@ use lib.ListN.{length, take, drop}
 use lib.Seq.{length-take-le, length-front}
 use borrow.Author.Needs.{needs}
 use Rattle.order.proofs.Laws.{below-take}
-use Rattle.planes.proofs.Ranked.{counts-all, ranking-below, stored-is, order-is, cut-is}
-use Rattle.planes.proofs.ranked_planes.Statement.{statement}
-use Rattle.planes.proofs.ranked_planes.Tie as tie
+use Rattle.ranked.proofs.Ranked.{counts-all, ranking-below, stored-is, order-is, cut-is}
+use Rattle.ranked.proofs.ranked_planes.Statement.{statement}
+use Rattle.ranked.proofs.ranked_planes.Tie as tie
 
--- `planes::ranked_planes` meets its contract: ranking, edges counted, the best planes stored.
+-- `ranked::ranked_planes` meets its contract: ranking, edges counted, the best planes stored.
 
 slice-relend-prefix-rank-planes : tie.Need-slice-relend-prefix-rank-planes
 slice-relend-prefix-rank-planes c = omega (arith, c .before .before .before .before .before .before .before .before .before .before .before .before .before .before .before .before .before .before .pre .1 .0 .few, c .before .before .before .before .before .before .before .before .before .before .before .before .before .before .before .before .before .before .pre .0 .some, c .before .before .before .before .before .before .before .before .before .before .before .before .before .before .before .before .before .before .pre .1 .1 .0 .hi-room)

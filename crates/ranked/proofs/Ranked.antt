@@ -29,8 +29,8 @@ use Rattle.importance.specs.Importance.{sceneBoxOf, keyOfPlane, rankingOf, rank
 use Rattle.borders.specs.Border.{borderOf, borderedOf}
 use Rattle.borders.specs.Uses.{borderIn, OnceCounted}
 use Rattle.borders.proofs.Bordering.{border-is}
-use Rattle.planes.specs.Areas.{sumCounts, borderedIn}
-use Rattle.planes.proofs.Ranking.{sum-snoc, sum-le}
+use Rattle.ranked.specs.Areas.{sumCounts, borderedIn}
+use Rattle.ranked.proofs.Ranking.{sum-snoc, sum-le}
 
 -- ---- a triangle counts for one plane
 

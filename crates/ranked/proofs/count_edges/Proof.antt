@@ -5,10 +5,10 @@ use mathlib.Core.List.{_++_}
 use lib.ListN.{length, take, drop}
 use lib.Seq.{length-take-le, length-front, take-at}
 use borrow.Author.Needs.{needs}
-use Rattle.planes.proofs.count_edges.Statement.{statement}
-use Rattle.planes.proofs.count_edges.Tie as tie
+use Rattle.ranked.proofs.count_edges.Statement.{statement}
+use Rattle.ranked.proofs.count_edges.Tie as tie
 
--- `planes::count_edges` meets its contract: parts of the areas are lent, and read back as they were left.
+-- `ranked::count_edges` meets its contract: parts of the areas are lent, and read back as they were left.
 
 mul-edge-numbers : tie.Need-mul-edge-numbers
 mul-edge-numbers c = omega (arith, c .before .before .before .before .before .before .before .before .before .before .pre .0 .0)

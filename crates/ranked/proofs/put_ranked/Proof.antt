@@ -7,13 +7,13 @@ use lib.ListN.{length, getD}
 use Rattle.order.specs.Sort.{Below}
 use Rattle.mirror.specs.declared.PlaneRow.{PlaneRow}
 use Rattle.mirror.specs.Rows.{rowOf, trisOf}
-use Rattle.planes.proofs.Ranking.{Putting, putting-more, placed-is, all-held, sum-le, third, small-is, border-room}
-use Rattle.planes.proofs.put_ranked.Statement.{statement}
-use Rattle.planes.proofs.put_ranked.Tie as tie
-use Rattle.planes.proofs.put_ranked.Statement.{statement}
-use Rattle.planes.proofs.put_ranked.Tie as tie
+use Rattle.ranked.proofs.Ranking.{Putting, putting-more, placed-is, all-held, sum-le, third, small-is, border-room}
+use Rattle.ranked.proofs.put_ranked.Statement.{statement}
+use Rattle.ranked.proofs.put_ranked.Tie as tie
+use Rattle.ranked.proofs.put_ranked.Statement.{statement}
+use Rattle.ranked.proofs.put_ranked.Tie as tie
 
--- `planes::put_ranked` meets its contract: the planes so far stand in their rows.
+-- `ranked::put_ranked` meets its contract: the planes so far stand in their rows.
 
 abbrev Inv-loop : tie.InvT-loop
 Inv-loop area n m gfloats gwords members index count first uses floats₀ words₀ edges₀ at₀ r₀ floats words edges at r =

@@ -5,12 +5,12 @@ use borrow.Author.Needs.{needs}
 use lib.ListN.{length, take, drop}
 use Rattle.mirror.specs.Rows.{trisOf}
 use Rattle.links.proofs.Linking.{length-part}
-use Rattle.planes.proofs.bordered.Statement.{statement}
-use Rattle.planes.proofs.bordered.Tie as tie
-use Rattle.planes.proofs.bordered.Statement.{statement}
-use Rattle.planes.proofs.bordered.Tie as tie
+use Rattle.ranked.proofs.bordered.Statement.{statement}
+use Rattle.ranked.proofs.bordered.Tie as tie
+use Rattle.ranked.proofs.bordered.Statement.{statement}
+use Rattle.ranked.proofs.bordered.Tie as tie
 
--- `planes::bordered` meets its contract: by the contract of `put_border`.
+-- `ranked::bordered` meets its contract: by the contract of `put_border`.
 
 add-to : tie.Need-add-to
 add-to c = omega (arith, c .before .before .before .before .before .before .pre .1 .0 .0, c .before .before .before .before .before .before .good)

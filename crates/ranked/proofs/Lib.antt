@@ -1,0 +1,3 @@
+-- The laws of the ranked planes.
+mod Ranking
+mod Ranked
