@@ -24,10 +24,11 @@ use Rattle.ranking.specs.Rows.{candidatesIn}
 use Rattle.claim.specs.Query.{Search, search, visitPath}
 use Rattle.search.specs.declared.Task.{Task}
 use Rattle.search.specs.declared.Tally.{Tally}
-use Rattle.paths.proofs.Laws.{path-far}
+use Rattle.paths.proofs.Laws.{path-far, path-lost}
+use Rattle.claim.specs.Answer.{fails}
 use Rattle.search.specs.Outcome.{outcomeOf}
 use Rattle.search.proofs.Laws.{on-length, planes-length, judged-lost, square-far}
-use Rattle.search.specs.Contract.{Scene, State, state, pointPut, squareOf, Beyond, planesOf, firstsOf, pathIn, runIn, Sound, Ready, Visitable, heldIn, Walked, Visited, withNodes, Skips}
+use Rattle.search.specs.Contract.{Scene, State, state, pointPut, squareOf, Beyond, Lost, planesOf, firstsOf, pathIn, runIn, Sound, Ready, Visitable, heldIn, Walked, Visited, withNodes, Skips}
 
 abbrev count : Search → ℕ
 count w = w .images
@@ -211,8 +212,9 @@ module _ (S : Scene) (q : Task) where
         walked-visit k p seq seq₁ images images₁ s v (state seq₁ images₁ v) fs fs₁ fs₁ ws ws₁ ws₁ room deep wide ok put seen
         (rw z (record { ran = λ tri t e. refl; stays = refl; sound = h }))
 
-    -- ---- images too far
+    -- ---- images that are only counted
 
+    -- one too far
     pub visited-far :
         (seq : List ℕ) (images : List Float) (t : Tally) (fs : List Float) (ws : List ℕ) → d ≤ maxOrder → Sound S q d (state seq images t) →
         Beyond (q .settings .«max_reflection_distance») (q .beyond) → lt (q .beyond) (squareOf (q .listener) (pointIn images d)) ≡ true →
@@ -228,6 +230,23 @@ module _ (S : Scene) (q : Task) where
           (sym (ap outcomeOf
           (path-far (q .settings) (planesOf S q) tri tr (S .materials) (q .source) (q .listener) seq (pointIn images) d (omega (arith, h, k .seq-room)) (k .are)
           (square-far (q .settings .«max_reflection_distance») (q .beyond) (q .listener) (pointIn images d) b far))));
+    }
+
+    -- one whose bounces are not all made
+    pub visited-lost :
+        (seq : List ℕ) (images : List Float) (t : Tally) (fs : List Float) (ws : List ℕ) → d ≤ maxOrder → Sound S q d (state seq images t) →
+        Lost (S .columns) (q .n) (S .floats) (S .words) (S .members) (S .edges) (q .count) seq images d (q .listener) →
+        Visited S q d seq t fs ws (withNodes t (t .nodes + 1)) fs ws
+    unfolding visitPath outcomeOf
+    visited-lost seq images t fs ws h k lost = record {
+      counted = refl;
+      cost = omega arith;
+      few = k .few;
+      seen =
+          λ tri tr e.
+          judged-lost (q .room) (t .found) (t .nodes) (t .rays) fs ws (not (eqb (t .over) 0)) (take d seq) _
+          (path-lost (q .settings) (planesOf S q) tri tr (S .materials) (q .source) (q .listener) seq (pointIn images) d (omega (arith, h, k .seq-room)) (k .are)
+          outcomeOf (fails 0) refl refl refl (lost tri (q .settings .«reflection_edge_fade») (e .planes)));
     }
 
   -- at the last place: nothing is stored, since a run does not read the sequence and the images that the search holds

@@ -13,7 +13,9 @@ use Rattle.vector.specs.declared.Vec3.{Vec3}
 use Rattle.vector.specs.Vector.{sub3Of, dot3Of}
 use Rattle.mirror.specs.Plane.{Plane}
 use Rattle.mirror.specs.Rows.{planesIn}
-use Rattle.bounces.specs.Areas.{maxOrder, pointFloats, pointIn}
+use Rattle.float.specs.Literals.{one32}
+use Rattle.bounces.specs.Areas.{PlanesRead, maxOrder, madeFate, fateOf, pointFloats, pointIn}
+use Rattle.bounces.specs.Bounces.{backOf, planeOn}
 use Rattle.bounces.specs.Image.{imageOf}
 use Rattle.sequences.specs.Allowed.{most, mostPlanes, may, upto, at}
 use Rattle.sequences.specs.Run.{run}
@@ -79,6 +81,12 @@ squareOf a b = dot3Of (sub3Of a b) (sub3Of a b)
 -- what is above b has a root that is not at most `far`
 abbrev pub Beyond : Float → Float → Type 0
 Beyond far b = (x : Float) → lt b x ≡ true → le (sqrtOf x) far ≡ false
+
+-- the bounces of the first `len` planes are not all made, for all that the areas read as
+abbrev pub Lost : List Float → ℕ → List Float → List ℕ → List ℕ → List Float → ℕ → List ℕ → List Float → ℕ → Vec3 → Type 0
+Lost columns n floats words members edges count seq images len listener =
+    (tri : ℕ → Triangle) (fade : Float) → PlanesRead tri columns n floats words members count →
+    fateOf (backOf tri fade (planeOn (planesIn floats words members edges count) seq) (pointIn images) len listener one32 [] []) ≡ madeFate → ⊥
 
 -- what a path takes at most: 162 × 9 rays
 abbrev pub mostRays : ℕ

@@ -6,6 +6,7 @@ use ranking::Candidate;
 use scene::Settings;
 use vector::Vec3;
 ghost use mathlib.Core.Path.{_≡_};
+ghost use mathlib.Core.Bool.{false};
 ghost use mathlib.Core.List.{List};
 ghost use Prim.Native.Nat.{ℕ, _+_, _-_, _*_, _<_, _≤_};
 ghost use lib.ListN.{length, getD, take, set};
@@ -16,12 +17,12 @@ ghost use Rattle.mirror.specs.Plane.{noPoint, planeAt};
 ghost use Rattle.mirror.specs.Mirror.{mirrorOf};
 ghost use Rattle.mirror.specs.Rows.{planeFloats, planeWords, planesIn};
 ghost use Rattle.sequences.specs.Allowed as spec;
-ghost use Rattle.bounces.specs.Areas.{maxOrder, pointFloats, pointIn};
+ghost use Rattle.bounces.specs.Areas.{PlanesLent, maxOrder, pointFloats, pointIn};
 ghost use Rattle.ranking.specs.Rows.{Rows, candidatesIn};
 ghost use Rattle.paths.specs.Areas.{Lent, ReadAs};
 ghost use Rattle.claim.specs.Query.{search, searched};
 ghost use Rattle.search.specs.Outcome.{onOf, outcomesOf};
-ghost use Rattle.search.specs.Contract.{scene, state, pointPut, firstsOf, squareOf, Beyond, Ready, Visitable, Walked, Kept, Visited, Skipped};
+ghost use Rattle.search.specs.Contract.{scene, state, pointPut, firstsOf, squareOf, Beyond, Lost, Ready, Visitable, Walked, Kept, Visited, Skipped};
 
 // Floats of a point in an area.
 const POINT_FLOATS: usize = 3;
@@ -48,7 +49,7 @@ struct Tally {
     over: usize,
 }
 
-// Where the images too far end: the next plane whose image is not too far, or the count of planes, and the images counted before it.
+// The next plane whose image is not too far, or the count of planes, and the images counted before it.
 struct Near {
     plane: usize,
     nodes: u32,
@@ -253,7 +254,45 @@ fn too_far(images: &[f32], len: usize, listener: Vec3, beyond: f32) -> bool
     far(listener, mirror::vec_in(images, POINT_FLOATS * len), beyond)
 }
 
-// Visits the first `len` planes. A bounce of nearly every path fails: it is then only counted.
+// Whether all bounces of the path of the first `len` planes are made. Of nearly every path one fails.
+fn made(
+    columns: &[f32],
+    n: usize,
+    floats: &[f32],
+    words: &[u32],
+    members: &[u32],
+    edges: &[f32],
+    count: usize,
+    seq: &[u32],
+    images: &[f32],
+    len: usize,
+    listener: Vec3,
+) -> bool
+    requires { ⌜ PlanesLent (now columns) n (now floats) (now words) (now members) (now edges) count ⌝ }
+    requires { ⌜ (len ≤ length (now seq)) × (pointFloats * len + pointFloats ≤ length (now images)) ⌝ }
+    requires { ⌜ ((j : ℕ) → j < len → getD (now seq) j 0 < count) ⌝ }
+    ensures { λ r. ⌜ (r ≡ false → Lost (now (columns .entry)) n (now (floats .entry)) (now (words .entry)) (now (members .entry)) (now (edges .entry)) count (now (seq .entry)) (now (images .entry)) len listener) ⌝ }
+{
+    let fate = bounces::fate_back(
+        columns,
+        n,
+        floats,
+        words,
+        members,
+        edges,
+        count,
+        seq,
+        images,
+        len,
+        listener,
+    );
+    if fate != bounces::MADE {
+        return false;
+    }
+    true
+}
+
+// Visits the first `len` planes: where a bounce fails, the image is only counted.
 fn visit(
     padded: &[f32],
     nodes: &[u32],
@@ -277,7 +316,7 @@ fn visit(
     requires { ⌜ Visitable (scene (now padded) (now nodes) (now perm) (now rows) (now handles) (now materials) (now columns) (now floats) (now words) (now members) (now edges)) q len (state (now seq) (now images) t) (now fs) (now ws) ⌝ }
     ensures { λ r. ⌜ Visited (scene (now (padded .entry)) (now (nodes .entry)) (now (perm .entry)) (now (rows .entry)) (now (handles .entry)) (now (materials .entry)) (now (columns .entry)) (now (floats .entry)) (now (words .entry)) (now (members .entry)) (now (edges .entry))) q len (now (seq .entry)) t (now (fs .entry)) (now (ws .entry)) r (now (fs .exit)) (now (ws .exit)) ⌝ }
 {
-    let fate = bounces::fate_back(
+    if made(
         columns,
         q.n,
         floats,
@@ -289,38 +328,37 @@ fn visit(
         images,
         len,
         q.listener,
-    );
-    if fate != bounces::MADE {
-        let mut s = t;
-        s.nodes = s.nodes + 1;
-        return s;
+    ) {
+        return judge(
+            padded,
+            nodes,
+            perm,
+            rows,
+            handles,
+            materials,
+            columns,
+            floats,
+            words,
+            members,
+            edges,
+            q,
+            len,
+            t,
+            seq,
+            images,
+            fs,
+            ws,
+        );
     }
-    judge(
-        padded,
-        nodes,
-        perm,
-        rows,
-        handles,
-        materials,
-        columns,
-        floats,
-        words,
-        members,
-        edges,
-        q,
-        len,
-        t,
-        seq,
-        images,
-        fs,
-        ws,
-    )
+    let mut s = t;
+    s.nodes = s.nodes + 1;
+    s
 }
 
 // ---- the last place
 
-// Goes over the planes from `from` on at the last place, to the first whose image is not too far; those too far are counted. Nearly all images of
-// a search are: this loop keeps what it reads out of memory, stores nothing and calls nothing.
+// From plane `from` on to the first whose image at the last place is not too far; the images too far are counted. Nearly all images of a search may
+// be such: so nothing is stored, and no function is handed more than it reads.
 fn next_near(
     floats: &[f32],
     words: &[u32],
@@ -359,7 +397,7 @@ fn next_near(
     Near { plane: p, nodes: n }
 }
 
-// All planes at the last place.
+// Each plane in turn at the last place, where nothing goes on.
 fn last_planes(
     padded: &[f32],
     nodes: &[u32],
@@ -389,7 +427,7 @@ fn last_planes(
     while p < q.count {
         let next = next_near(floats, words, q, seq, images, depth, p, s.nodes);
         let at = next.plane;
-        // tallies field by field, so that the compiler keeps them out of memory
+        // tallies field by field, so that the compiler keeps them in registers
         let u = Tally {
             nodes: next.nodes,
             rays: s.rays,
@@ -399,34 +437,56 @@ fn last_planes(
         if at == q.count {
             return u;
         }
+        p = at + 1;
         push(floats, words, q.count, depth, at, seq, images);
-        let v = visit(
-            padded,
-            nodes,
-            perm,
-            rows,
-            handles,
-            materials,
+        if made(
             columns,
+            q.n,
             floats,
             words,
             members,
             edges,
-            q,
-            depth + 1,
-            u,
+            q.count,
             seq,
             images,
-            fs,
-            ws,
-        );
+            depth + 1,
+            q.listener,
+        ) {
+            let v = judge(
+                padded,
+                nodes,
+                perm,
+                rows,
+                handles,
+                materials,
+                columns,
+                floats,
+                words,
+                members,
+                edges,
+                q,
+                depth + 1,
+                u,
+                seq,
+                images,
+                fs,
+                ws,
+            );
+            s = Tally {
+                nodes: v.nodes,
+                rays: v.rays,
+                found: v.found,
+                over: v.over,
+            };
+            continue;
+        }
+        let counted = next.nodes + 1;
         s = Tally {
-            nodes: v.nodes,
-            rays: v.rays,
-            found: v.found,
-            over: v.over,
+            nodes: counted,
+            rays: u.rays,
+            found: u.found,
+            over: u.over,
         };
-        p = at + 1;
     }
     s
 }
@@ -434,7 +494,7 @@ fn last_planes(
 // ---- the search
 
 // Each plane in turn at place `depth`, with all that goes on from it. The sequence and the image of each of its beginnings stand in `seq` and
-// `images`. What an image too far needs is done here, and not in functions that are handed all areas: the compiler copies these for a call.
+// `images`. An image too far is tested and counted here: a function that visits is handed all areas and the task, which the compiler copies first.
 fn expand_images(
     padded: &[f32],
     nodes: &[u32],
@@ -471,7 +531,7 @@ fn expand_images(
             if too_far(images, depth + 1, q.listener, q.beyond) {
                 s.nodes = s.nodes + 1;
             } else {
-                let u = visit(
+                s = visit(
                     padded,
                     nodes,
                     perm,
@@ -491,19 +551,12 @@ fn expand_images(
                     fs,
                     ws,
                 );
-                // tallies field by field, so that the compiler keeps them out of memory
-                s = Tally {
-                    nodes: u.nodes,
-                    rays: u.rays,
-                    found: u.found,
-                    over: u.over,
-                };
             }
             if depth + 1 == q.order {
                 continue;
             }
             if depth + 2 == q.order {
-                let l = last_planes(
+                s = last_planes(
                     padded,
                     nodes,
                     perm,
@@ -523,15 +576,9 @@ fn expand_images(
                     fs,
                     ws,
                 );
-                s = Tally {
-                    nodes: l.nodes,
-                    rays: l.rays,
-                    found: l.found,
-                    over: l.over,
-                };
                 continue;
             }
-            let r = expand_images(
+            s = expand_images(
                 padded,
                 nodes,
                 perm,
@@ -551,12 +598,6 @@ fn expand_images(
                 fs,
                 ws,
             );
-            s = Tally {
-                nodes: r.nodes,
-                rays: r.rays,
-                found: r.found,
-                over: r.over,
-            };
         }
     }
     s

@@ -1,15 +1,15 @@
-use borrow.Author.Needs.{needs}
-use Prim.Native.Nat.{ℕ, _+_, _-_, _*_, _≤_, _<_}
+use Prim.Native.Nat.{_+_, _-_, _≤_, _<_}
 use mathlib.Core.Path.{_≡_, refl, sym, _∙_}
 use native.Mathlib.Omega.{arith}
 use lib.ListN.{length, take}
 use Rattle.sequences.specs.Allowed.{upto, at}
-use Rattle.search.specs.Contract.{Scene, scene, state, firstsOf, withNodes, Ready, Visitable, Walked, Skipped}
+use Rattle.search.specs.Contract.{Scene, scene, state, firstsOf, withNodes, Ready, Visitable, Visited, Walked, Skipped}
 use Rattle.search.proofs.Walks as law
 use Rattle.search.proofs.last_planes.Statement.{statement}
 use Rattle.search.proofs.last_planes.Tie as tie
 
--- `search::last_planes` meets its contract, by the laws of `proofs/Walks.antt`: the planes up to the next near one were run over, then that one is.
+-- `search::last_planes` meets its contract, by the laws of `proofs/Walks.antt`: the planes up to the next near one were run over, then
+-- that one is.
 
 abbrev Inv-loop : tie.InvT-loop
 Inv-loop padded nodes perm rows handles materials columns floats words members edges q depth seq₀ images₀ fs₀ ws₀ s₀ p₀ seq images fs ws s p =
@@ -59,6 +59,15 @@ returns c = let a = c .before .before .before .before .before .before .before .b
     k .skips .walked (state (a .seq .now) (a .images .now) (a .t)) (a .fs .now) (a .ws .now) (l .s) (l .fs) (l .ws) r (pre .0) refl (l .inv .5) in
     law.walked-all S (a .q) (a .depth) (c .before .before .next-near .result .plane) (pre .1 .deep) (c .if2 .taken ∙ sym (law.firsts-length S (a .q))) w
 
+add-p : tie.Need-add-p Inv-loop μ-loop
+add-p c = let a = c .before .before .before .before .before .before .before .before .before .before .before .before .before .before .before .before .before .before .before .before .before .before .before .args in
+    let pre = c .before .before .before .before .before .before .before .before .before .before .before .before .before .before .before .before .before .before .before .before .before .before .before .pre in
+    let l = c .before .before .before .before .before .before .before .loop in
+    let S : Scene = (scene (a .padded .now) (a .nodes .now) (a .perm .now) (a .rows .now) (a .handles .now) (a .materials .now) (a .columns .now) (a .floats .now) (a .words .now) (a .members .now) (a .edges .now)) in
+    let k : Skipped S (a .q) (a .depth) (l .seq) (l .images) (l .p) (l .s .nodes) (c .before .before .next-near .result .plane) (c .before .before .next-near .result .nodes) =
+    c .before .before .next-near .ensures (a .padded .now) (a .nodes .now) (a .perm .now) (a .rows .now) (a .handles .now) (a .materials .now) (a .columns .now) (a .members .now) (a .edges .now) in
+    omega (arith, k .within, c .if2 .left, pre .1 .small)
+
 push-requires : tie.Need-push-requires Inv-loop μ-loop
 push-requires c κs = let a = c .before .before .before .before .before .before .before .before .before .before .before .before .before .before .before .before .before .before .before .before .before .before .before .before .before .args in
     let pre = c .before .before .before .before .before .before .before .before .before .before .before .before .before .before .before .before .before .before .before .before .before .before .before .before .before .pre in
@@ -71,67 +80,126 @@ push-requires c κs = let a = c .before .before .before .before .before .before 
     let h = pre .1 .lent .planes .held in
     ((omega (arith, d, w, l .inv .5 .sound .seq-room), omega (arith, d, w, l .inv .5 .sound .images-room), omega (arith, k .within, c .before .before .if2 .left), pre .1 .small), (h .floats-room, h .words-room))
 
-add-visit : tie.Need-add-visit Inv-loop μ-loop
-add-visit c = omega (arith, c .before .before .before .before .before .before .before .before .before .before .before .before .before .before .before .before .before .before .before .before .before .before .before .before .before .before .before .before .before .before .pre .1 .deep, c .before .before .before .before .before .before .before .before .before .before .before .before .before .before .before .before .before .before .before .before .before .before .before .before .before .before .before .before .before .before .pre .1 .within)
+add-made : tie.Need-add-made Inv-loop μ-loop
+add-made c = omega (arith, c .before .before .before .before .before .before .before .before .before .before .before .before .before .before .before .before .before .before .before .before .before .before .before .before .before .before .before .before .before .before .before .before .pre .1 .deep, c .before .before .before .before .before .before .before .before .before .before .before .before .before .before .before .before .before .before .before .before .before .before .before .before .before .before .before .before .before .before .before .before .pre .1 .within)
 
-visit-requires : tie.Need-visit-requires Inv-loop μ-loop
-visit-requires c κs = let a = c .before .before .before .before .before .before .before .before .before .before .before .before .before .before .before .before .before .before .before .before .before .before .before .before .before .before .before .before .before .before .before .before .before .before .args in
-    let pre = c .before .before .before .before .before .before .before .before .before .before .before .before .before .before .before .before .before .before .before .before .before .before .before .before .before .before .before .before .before .before .before .before .before .before .pre in
-    let l = c .before .before .before .before .before .before .before .before .before .before .before .before .before .before .before .before .before .before .loop in
+made-requires : tie.Need-made-requires Inv-loop μ-loop
+made-requires c κs = let a = c .before .before .before .before .before .before .before .before .before .before .before .before .before .before .before .before .before .before .before .before .before .before .before .before .before .before .before .before .before .before .before .before .args in
+    let pre = c .before .before .before .before .before .before .before .before .before .before .before .before .before .before .before .before .before .before .before .before .before .before .before .before .before .before .before .before .before .before .before .before .pre in
+    let l = c .before .before .before .before .before .before .before .before .before .before .before .before .before .before .before .before .loop in
     let S : Scene = (scene (a .padded .now) (a .nodes .now) (a .perm .now) (a .rows .now) (a .handles .now) (a .materials .now) (a .columns .now) (a .floats .now) (a .words .now) (a .members .now) (a .edges .now)) in
     let r : Ready S (a .q) (a .depth) (state (l .seq) (l .images) (l .s)) (l .fs) (l .ws) =
     law.ready-same S (a .q) (a .depth) (a .depth) (state (a .seq .now) (a .images .now) (a .t)) (state (l .seq) (l .images) (l .s)) (a .fs .now) (l .fs) (a .ws .now) (l .ws) (pre .1) (pre .1 .deep) (l .inv .3) (l .inv .4) (l .inv .5 .sound) in
-    let k : Skipped S (a .q) (a .depth) (l .seq) (l .images) (l .p) (l .s .nodes) (c .before .before .before .before .before .before .before .before .before .before .before .before .before .next-near .result .plane) (c .before .before .before .before .before .before .before .before .before .before .before .before .before .next-near .result .nodes) =
-    c .before .before .before .before .before .before .before .before .before .before .before .before .before .next-near .ensures (a .padded .now) (a .nodes .now) (a .perm .now) (a .rows .now) (a .handles .now) (a .materials .now) (a .columns .now) (a .members .now) (a .edges .now) in
-    let w : Walked S (a .q) (a .depth) (upto (at (firstsOf S (a .q)) (a .q .order - (a .depth + 1)) (take (a .depth) (a .seq .now))) (c .before .before .before .before .before .before .before .before .before .before .before .before .before .next-near .result .plane)) (state (a .seq .now) (a .images .now) (a .t)) (a .fs .now) (a .ws .now) (state (l .seq) (l .images) (withNodes (l .s) (c .before .before .before .before .before .before .before .before .before .before .before .before .before .next-near .result .nodes))) (l .fs) (l .ws) =
+    let k : Skipped S (a .q) (a .depth) (l .seq) (l .images) (l .p) (l .s .nodes) (c .before .before .before .before .before .before .before .before .before .before .before .next-near .result .plane) (c .before .before .before .before .before .before .before .before .before .before .before .next-near .result .nodes) =
+    c .before .before .before .before .before .before .before .before .before .before .before .next-near .ensures (a .padded .now) (a .nodes .now) (a .perm .now) (a .rows .now) (a .handles .now) (a .materials .now) (a .columns .now) (a .members .now) (a .edges .now) in
+    let w : Walked S (a .q) (a .depth) (upto (at (firstsOf S (a .q)) (a .q .order - (a .depth + 1)) (take (a .depth) (a .seq .now))) (c .before .before .before .before .before .before .before .before .before .before .before .next-near .result .plane)) (state (a .seq .now) (a .images .now) (a .t)) (a .fs .now) (a .ws .now) (state (l .seq) (l .images) (withNodes (l .s) (c .before .before .before .before .before .before .before .before .before .before .before .next-near .result .nodes))) (l .fs) (l .ws) =
     k .skips .walked (state (a .seq .now) (a .images .now) (a .t)) (a .fs .now) (a .ws .now) (l .s) (l .fs) (l .ws) r (pre .0) refl (l .inv .5) in
-    let r₁ : Ready S (a .q) (a .depth) (state (l .seq) (l .images) (withNodes (l .s) (c .before .before .before .before .before .before .before .before .before .before .before .before .before .next-near .result .nodes))) (l .fs) (l .ws) =
-    law.ready-same S (a .q) (a .depth) (a .depth) (state (l .seq) (l .images) (l .s)) (state (l .seq) (l .images) (withNodes (l .s) (c .before .before .before .before .before .before .before .before .before .before .before .before .before .next-near .result .nodes))) (l .fs) (l .fs) (l .ws) (l .ws) r (r .deep) refl refl (w .sound) in
-    let h : c .before .before .before .before .before .before .before .before .before .before .before .before .before .next-near .result .plane < a .q .count = omega (arith, k .within, c .before .before .before .before .before .before .before .before .before .before .before .if2 .left) in
-    law.visitable-push S (a .q) (a .depth) (c .before .before .before .before .before .before .before .before .before .before .before .before .before .next-near .result .plane) (l .seq) (c .before .before .before .before .before .before .before .before .push .last .1 .1 .1 .1 .1 .0) (l .images) (c .before .before .before .before .before .before .before .before .push .last .1 .1 .1 .1 .1 .1 .0) (withNodes (l .s) (c .before .before .before .before .before .before .before .before .before .before .before .before .before .next-near .result .nodes)) (c .before .before .before .before .before .before .before .before .push .ensures .0) (c .before .before .before .before .before .before .before .before .push .ensures .1 (a .members .now) (a .edges .now)) (l .fs) (l .ws) r₁ h (k .next h .0)
+    let r₁ : Ready S (a .q) (a .depth) (state (l .seq) (l .images) (withNodes (l .s) (c .before .before .before .before .before .before .before .before .before .before .before .next-near .result .nodes))) (l .fs) (l .ws) =
+    law.ready-same S (a .q) (a .depth) (a .depth) (state (l .seq) (l .images) (l .s)) (state (l .seq) (l .images) (withNodes (l .s) (c .before .before .before .before .before .before .before .before .before .before .before .next-near .result .nodes))) (l .fs) (l .fs) (l .ws) (l .ws) r (r .deep) refl refl (w .sound) in
+    let h : c .before .before .before .before .before .before .before .before .before .before .before .next-near .result .plane < a .q .count = omega (arith, k .within, c .before .before .before .before .before .before .before .before .before .if2 .left) in
+    let v : Visitable S (a .q) (a .depth + 1) (state (c .before .before .before .before .before .before .push .last .1 .1 .1 .1 .1 .0) (c .before .before .before .before .before .before .push .last .1 .1 .1 .1 .1 .1 .0) (withNodes (l .s) (c .before .before .before .before .before .before .before .before .before .before .before .next-near .result .nodes))) (l .fs) (l .ws) =
+    law.visitable-push S (a .q) (a .depth) (c .before .before .before .before .before .before .before .before .before .before .before .next-near .result .plane) (l .seq) (c .before .before .before .before .before .before .push .last .1 .1 .1 .1 .1 .0) (l .images) (c .before .before .before .before .before .before .push .last .1 .1 .1 .1 .1 .1 .0) (withNodes (l .s) (c .before .before .before .before .before .before .before .before .before .before .before .next-near .result .nodes)) (c .before .before .before .before .before .before .push .ensures .0) (c .before .before .before .before .before .before .push .ensures .1 (a .members .now) (a .edges .now)) (l .fs) (l .ws) r₁ h (k .next h .0) in
+    (v .lent .planes, ((omega (arith, v .within, v .sound .seq-room), omega (arith, v .within, v .sound .images-room)), v .sound .planes))
 
-add-p : tie.Need-add-p Inv-loop μ-loop
-add-p c = let a = c .before .before .before .before .before .before .before .before .before .before .before .before .before .before .before .before .before .before .before .before .before .before .before .before .before .before .before .before .before .before .before .before .before .before .before .before .before .before .before .args in
-    let pre = c .before .before .before .before .before .before .before .before .before .before .before .before .before .before .before .before .before .before .before .before .before .before .before .before .before .before .before .before .before .before .before .before .before .before .before .before .before .before .before .pre in
-    let l = c .before .before .before .before .before .before .before .before .before .before .before .before .before .before .before .before .before .before .before .before .before .before .before .loop in
+add-judge : tie.Need-add-judge Inv-loop μ-loop
+add-judge c = omega (arith, c .before .before .before .before .before .before .before .before .before .before .before .before .before .before .before .before .before .before .before .before .before .before .before .before .before .before .before .before .before .before .before .before .before .before .pre .1 .deep, c .before .before .before .before .before .before .before .before .before .before .before .before .before .before .before .before .before .before .before .before .before .before .before .before .before .before .before .before .before .before .before .before .before .before .pre .1 .within)
+
+judge-requires : tie.Need-judge-requires Inv-loop μ-loop
+judge-requires c κs = let a = c .before .before .before .before .before .before .before .before .before .before .before .before .before .before .before .before .before .before .before .before .before .before .before .before .before .before .before .before .before .before .before .before .before .before .before .before .before .before .args in
+    let pre = c .before .before .before .before .before .before .before .before .before .before .before .before .before .before .before .before .before .before .before .before .before .before .before .before .before .before .before .before .before .before .before .before .before .before .before .before .before .before .pre in
+    let l = c .before .before .before .before .before .before .before .before .before .before .before .before .before .before .before .before .before .before .before .before .before .before .loop in
     let S : Scene = (scene (a .padded .now) (a .nodes .now) (a .perm .now) (a .rows .now) (a .handles .now) (a .materials .now) (a .columns .now) (a .floats .now) (a .words .now) (a .members .now) (a .edges .now)) in
-    let k : Skipped S (a .q) (a .depth) (l .seq) (l .images) (l .p) (l .s .nodes) (c .before .before .before .before .before .before .before .before .before .before .before .before .before .before .before .before .before .before .next-near .result .plane) (c .before .before .before .before .before .before .before .before .before .before .before .before .before .before .before .before .before .before .next-near .result .nodes) =
-    c .before .before .before .before .before .before .before .before .before .before .before .before .before .before .before .before .before .before .next-near .ensures (a .padded .now) (a .nodes .now) (a .perm .now) (a .rows .now) (a .handles .now) (a .materials .now) (a .columns .now) (a .members .now) (a .edges .now) in
-    omega (arith, k .within, c .before .before .before .before .before .before .before .before .before .before .before .before .before .before .before .before .if2 .left, pre .1 .small)
+    let r : Ready S (a .q) (a .depth) (state (l .seq) (l .images) (l .s)) (l .fs) (l .ws) =
+    law.ready-same S (a .q) (a .depth) (a .depth) (state (a .seq .now) (a .images .now) (a .t)) (state (l .seq) (l .images) (l .s)) (a .fs .now) (l .fs) (a .ws .now) (l .ws) (pre .1) (pre .1 .deep) (l .inv .3) (l .inv .4) (l .inv .5 .sound) in
+    let k : Skipped S (a .q) (a .depth) (l .seq) (l .images) (l .p) (l .s .nodes) (c .before .before .before .before .before .before .before .before .before .before .before .before .before .before .before .before .before .next-near .result .plane) (c .before .before .before .before .before .before .before .before .before .before .before .before .before .before .before .before .before .next-near .result .nodes) =
+    c .before .before .before .before .before .before .before .before .before .before .before .before .before .before .before .before .before .next-near .ensures (a .padded .now) (a .nodes .now) (a .perm .now) (a .rows .now) (a .handles .now) (a .materials .now) (a .columns .now) (a .members .now) (a .edges .now) in
+    let w : Walked S (a .q) (a .depth) (upto (at (firstsOf S (a .q)) (a .q .order - (a .depth + 1)) (take (a .depth) (a .seq .now))) (c .before .before .before .before .before .before .before .before .before .before .before .before .before .before .before .before .before .next-near .result .plane)) (state (a .seq .now) (a .images .now) (a .t)) (a .fs .now) (a .ws .now) (state (l .seq) (l .images) (withNodes (l .s) (c .before .before .before .before .before .before .before .before .before .before .before .before .before .before .before .before .before .next-near .result .nodes))) (l .fs) (l .ws) =
+    k .skips .walked (state (a .seq .now) (a .images .now) (a .t)) (a .fs .now) (a .ws .now) (l .s) (l .fs) (l .ws) r (pre .0) refl (l .inv .5) in
+    let r₁ : Ready S (a .q) (a .depth) (state (l .seq) (l .images) (withNodes (l .s) (c .before .before .before .before .before .before .before .before .before .before .before .before .before .before .before .before .before .next-near .result .nodes))) (l .fs) (l .ws) =
+    law.ready-same S (a .q) (a .depth) (a .depth) (state (l .seq) (l .images) (l .s)) (state (l .seq) (l .images) (withNodes (l .s) (c .before .before .before .before .before .before .before .before .before .before .before .before .before .before .before .before .before .next-near .result .nodes))) (l .fs) (l .fs) (l .ws) (l .ws) r (r .deep) refl refl (w .sound) in
+    let h : c .before .before .before .before .before .before .before .before .before .before .before .before .before .before .before .before .before .next-near .result .plane < a .q .count = omega (arith, k .within, c .before .before .before .before .before .before .before .before .before .before .before .before .before .before .before .if2 .left) in
+    law.visitable-push S (a .q) (a .depth) (c .before .before .before .before .before .before .before .before .before .before .before .before .before .before .before .before .before .next-near .result .plane) (l .seq) (c .before .before .before .before .before .before .before .before .before .before .before .before .push .last .1 .1 .1 .1 .1 .0) (l .images) (c .before .before .before .before .before .before .before .before .before .before .before .before .push .last .1 .1 .1 .1 .1 .1 .0) (withNodes (l .s) (c .before .before .before .before .before .before .before .before .before .before .before .before .before .before .before .before .before .next-near .result .nodes)) (c .before .before .before .before .before .before .before .before .before .before .before .before .push .ensures .0) (c .before .before .before .before .before .before .before .before .before .before .before .before .push .ensures .1 (a .members .now) (a .edges .now)) (l .fs) (l .ws) r₁ h (k .next h .0)
 
 loop-less : tie.Need-loop-less Inv-loop μ-loop
-loop-less c = let a = c .before .before .before .before .before .before .before .before .before .before .before .before .before .before .before .before .before .before .before .before .before .before .before .before .before .before .before .before .before .before .before .before .before .before .before .before .before .before .before .args in
-    let pre = c .before .before .before .before .before .before .before .before .before .before .before .before .before .before .before .before .before .before .before .before .before .before .before .before .before .before .before .before .before .before .before .before .before .before .before .before .before .before .before .pre in
-    let l = c .before .before .before .before .before .before .before .before .before .before .before .before .before .before .before .before .before .before .before .before .before .before .before .loop in
+loop-less c = let a = c .before .before .before .before .before .before .before .before .before .before .before .before .before .before .before .before .before .before .before .before .before .before .before .before .before .before .before .before .before .before .before .before .before .before .before .before .before .before .before .before .before .before .before .args in
+    let pre = c .before .before .before .before .before .before .before .before .before .before .before .before .before .before .before .before .before .before .before .before .before .before .before .before .before .before .before .before .before .before .before .before .before .before .before .before .before .before .before .before .before .before .before .pre in
+    let l = c .before .before .before .before .before .before .before .before .before .before .before .before .before .before .before .before .before .before .before .before .before .before .before .before .before .before .before .loop in
     let S : Scene = (scene (a .padded .now) (a .nodes .now) (a .perm .now) (a .rows .now) (a .handles .now) (a .materials .now) (a .columns .now) (a .floats .now) (a .words .now) (a .members .now) (a .edges .now)) in
-    let k : Skipped S (a .q) (a .depth) (l .seq) (l .images) (l .p) (l .s .nodes) (c .before .before .before .before .before .before .before .before .before .before .before .before .before .before .before .before .before .before .next-near .result .plane) (c .before .before .before .before .before .before .before .before .before .before .before .before .before .before .before .before .before .before .next-near .result .nodes) =
-    c .before .before .before .before .before .before .before .before .before .before .before .before .before .before .before .before .before .before .next-near .ensures (a .padded .now) (a .nodes .now) (a .perm .now) (a .rows .now) (a .handles .now) (a .materials .now) (a .columns .now) (a .members .now) (a .edges .now) in
-    omega (arith, k .within, c .before .before .before .before .before .before .before .before .before .before .before .before .before .before .before .before .if2 .left, c .before .before .before .before .before .before .before .before .before .before .before .before .before .before .before .before .before .before .before .before .before .if1 .taken, k .from)
+    let k : Skipped S (a .q) (a .depth) (l .seq) (l .images) (l .p) (l .s .nodes) (c .before .before .before .before .before .before .before .before .before .before .before .before .before .before .before .before .before .before .before .before .before .before .next-near .result .plane) (c .before .before .before .before .before .before .before .before .before .before .before .before .before .before .before .before .before .before .before .before .before .before .next-near .result .nodes) =
+    c .before .before .before .before .before .before .before .before .before .before .before .before .before .before .before .before .before .before .before .before .before .before .next-near .ensures (a .padded .now) (a .nodes .now) (a .perm .now) (a .rows .now) (a .handles .now) (a .materials .now) (a .columns .now) (a .members .now) (a .edges .now) in
+    omega (arith, k .within, c .before .before .before .before .before .before .before .before .before .before .before .before .before .before .before .before .before .before .before .before .if2 .left, c .before .before .before .before .before .before .before .before .before .before .before .before .before .before .before .before .before .before .before .before .before .before .before .before .before .if1 .taken, k .from)
 
 loop-again : tie.Need-loop-again Inv-loop μ-loop
-loop-again c = let a = c .before .before .before .before .before .before .before .before .before .before .before .before .before .before .before .before .before .before .before .before .before .before .before .before .before .before .before .before .before .before .before .before .before .before .before .before .before .before .before .args in
-    let pre = c .before .before .before .before .before .before .before .before .before .before .before .before .before .before .before .before .before .before .before .before .before .before .before .before .before .before .before .before .before .before .before .before .before .before .before .before .before .before .before .pre in
-    let l = c .before .before .before .before .before .before .before .before .before .before .before .before .before .before .before .before .before .before .before .before .before .before .before .loop in
+loop-again c = let a = c .before .before .before .before .before .before .before .before .before .before .before .before .before .before .before .before .before .before .before .before .before .before .before .before .before .before .before .before .before .before .before .before .before .before .before .before .before .before .before .before .before .before .before .args in
+    let pre = c .before .before .before .before .before .before .before .before .before .before .before .before .before .before .before .before .before .before .before .before .before .before .before .before .before .before .before .before .before .before .before .before .before .before .before .before .before .before .before .before .before .before .before .pre in
+    let l = c .before .before .before .before .before .before .before .before .before .before .before .before .before .before .before .before .before .before .before .before .before .before .before .before .before .before .before .loop in
     let S : Scene = (scene (a .padded .now) (a .nodes .now) (a .perm .now) (a .rows .now) (a .handles .now) (a .materials .now) (a .columns .now) (a .floats .now) (a .words .now) (a .members .now) (a .edges .now)) in
     let r : Ready S (a .q) (a .depth) (state (l .seq) (l .images) (l .s)) (l .fs) (l .ws) =
     law.ready-same S (a .q) (a .depth) (a .depth) (state (a .seq .now) (a .images .now) (a .t)) (state (l .seq) (l .images) (l .s)) (a .fs .now) (l .fs) (a .ws .now) (l .ws) (pre .1) (pre .1 .deep) (l .inv .3) (l .inv .4) (l .inv .5 .sound) in
-    let k : Skipped S (a .q) (a .depth) (l .seq) (l .images) (l .p) (l .s .nodes) (c .before .before .before .before .before .before .before .before .before .before .before .before .before .before .before .before .before .before .next-near .result .plane) (c .before .before .before .before .before .before .before .before .before .before .before .before .before .before .before .before .before .before .next-near .result .nodes) =
-    c .before .before .before .before .before .before .before .before .before .before .before .before .before .before .before .before .before .before .next-near .ensures (a .padded .now) (a .nodes .now) (a .perm .now) (a .rows .now) (a .handles .now) (a .materials .now) (a .columns .now) (a .members .now) (a .edges .now) in
-    let w : Walked S (a .q) (a .depth) (upto (at (firstsOf S (a .q)) (a .q .order - (a .depth + 1)) (take (a .depth) (a .seq .now))) (c .before .before .before .before .before .before .before .before .before .before .before .before .before .before .before .before .before .before .next-near .result .plane)) (state (a .seq .now) (a .images .now) (a .t)) (a .fs .now) (a .ws .now) (state (l .seq) (l .images) (withNodes (l .s) (c .before .before .before .before .before .before .before .before .before .before .before .before .before .before .before .before .before .before .next-near .result .nodes))) (l .fs) (l .ws) =
+    let k : Skipped S (a .q) (a .depth) (l .seq) (l .images) (l .p) (l .s .nodes) (c .before .before .before .before .before .before .before .before .before .before .before .before .before .before .before .before .before .before .before .before .before .before .next-near .result .plane) (c .before .before .before .before .before .before .before .before .before .before .before .before .before .before .before .before .before .before .before .before .before .before .next-near .result .nodes) =
+    c .before .before .before .before .before .before .before .before .before .before .before .before .before .before .before .before .before .before .before .before .before .before .next-near .ensures (a .padded .now) (a .nodes .now) (a .perm .now) (a .rows .now) (a .handles .now) (a .materials .now) (a .columns .now) (a .members .now) (a .edges .now) in
+    let w : Walked S (a .q) (a .depth) (upto (at (firstsOf S (a .q)) (a .q .order - (a .depth + 1)) (take (a .depth) (a .seq .now))) (c .before .before .before .before .before .before .before .before .before .before .before .before .before .before .before .before .before .before .before .before .before .before .next-near .result .plane)) (state (a .seq .now) (a .images .now) (a .t)) (a .fs .now) (a .ws .now) (state (l .seq) (l .images) (withNodes (l .s) (c .before .before .before .before .before .before .before .before .before .before .before .before .before .before .before .before .before .before .before .before .before .before .next-near .result .nodes))) (l .fs) (l .ws) =
     k .skips .walked (state (a .seq .now) (a .images .now) (a .t)) (a .fs .now) (a .ws .now) (l .s) (l .fs) (l .ws) r (pre .0) refl (l .inv .5) in
-    let r₁ : Ready S (a .q) (a .depth) (state (l .seq) (l .images) (withNodes (l .s) (c .before .before .before .before .before .before .before .before .before .before .before .before .before .before .before .before .before .before .next-near .result .nodes))) (l .fs) (l .ws) =
-    law.ready-same S (a .q) (a .depth) (a .depth) (state (l .seq) (l .images) (l .s)) (state (l .seq) (l .images) (withNodes (l .s) (c .before .before .before .before .before .before .before .before .before .before .before .before .before .before .before .before .before .before .next-near .result .nodes))) (l .fs) (l .fs) (l .ws) (l .ws) r (r .deep) refl refl (w .sound) in
-    let h : c .before .before .before .before .before .before .before .before .before .before .before .before .before .before .before .before .before .before .next-near .result .plane < a .q .count = omega (arith, k .within, c .before .before .before .before .before .before .before .before .before .before .before .before .before .before .before .before .if2 .left) in
-    let v : Visitable S (a .q) (a .depth + 1) (state (c .before .before .before .before .before .before .before .before .before .before .before .before .before .push .last .1 .1 .1 .1 .1 .0) (c .before .before .before .before .before .before .before .before .before .before .before .before .before .push .last .1 .1 .1 .1 .1 .1 .0) (withNodes (l .s) (c .before .before .before .before .before .before .before .before .before .before .before .before .before .before .before .before .before .before .next-near .result .nodes))) (l .fs) (l .ws) =
-    law.visitable-push S (a .q) (a .depth) (c .before .before .before .before .before .before .before .before .before .before .before .before .before .before .before .before .before .before .next-near .result .plane) (l .seq) (c .before .before .before .before .before .before .before .before .before .before .before .before .before .push .last .1 .1 .1 .1 .1 .0) (l .images) (c .before .before .before .before .before .before .before .before .before .before .before .before .before .push .last .1 .1 .1 .1 .1 .1 .0) (withNodes (l .s) (c .before .before .before .before .before .before .before .before .before .before .before .before .before .before .before .before .before .before .next-near .result .nodes)) (c .before .before .before .before .before .before .before .before .before .before .before .before .before .push .ensures .0) (c .before .before .before .before .before .before .before .before .before .before .before .before .before .push .ensures .1 (a .members .now) (a .edges .now)) (l .fs) (l .ws) r₁ h (k .next h .0) in (
+    let r₁ : Ready S (a .q) (a .depth) (state (l .seq) (l .images) (withNodes (l .s) (c .before .before .before .before .before .before .before .before .before .before .before .before .before .before .before .before .before .before .before .before .before .before .next-near .result .nodes))) (l .fs) (l .ws) =
+    law.ready-same S (a .q) (a .depth) (a .depth) (state (l .seq) (l .images) (l .s)) (state (l .seq) (l .images) (withNodes (l .s) (c .before .before .before .before .before .before .before .before .before .before .before .before .before .before .before .before .before .before .before .before .before .before .next-near .result .nodes))) (l .fs) (l .fs) (l .ws) (l .ws) r (r .deep) refl refl (w .sound) in
+    let h : c .before .before .before .before .before .before .before .before .before .before .before .before .before .before .before .before .before .before .before .before .before .before .next-near .result .plane < a .q .count = omega (arith, k .within, c .before .before .before .before .before .before .before .before .before .before .before .before .before .before .before .before .before .before .before .before .if2 .left) in
+    let v : Visitable S (a .q) (a .depth + 1) (state (c .before .before .before .before .before .before .before .before .before .before .before .before .before .before .before .before .before .push .last .1 .1 .1 .1 .1 .0) (c .before .before .before .before .before .before .before .before .before .before .before .before .before .before .before .before .before .push .last .1 .1 .1 .1 .1 .1 .0) (withNodes (l .s) (c .before .before .before .before .before .before .before .before .before .before .before .before .before .before .before .before .before .before .before .before .before .before .next-near .result .nodes))) (l .fs) (l .ws) =
+    law.visitable-push S (a .q) (a .depth) (c .before .before .before .before .before .before .before .before .before .before .before .before .before .before .before .before .before .before .before .before .before .before .next-near .result .plane) (l .seq) (c .before .before .before .before .before .before .before .before .before .before .before .before .before .before .before .before .before .push .last .1 .1 .1 .1 .1 .0) (l .images) (c .before .before .before .before .before .before .before .before .before .before .before .before .before .before .before .before .before .push .last .1 .1 .1 .1 .1 .1 .0) (withNodes (l .s) (c .before .before .before .before .before .before .before .before .before .before .before .before .before .before .before .before .before .before .before .before .before .before .next-near .result .nodes)) (c .before .before .before .before .before .before .before .before .before .before .before .before .before .before .before .before .before .push .ensures .0) (c .before .before .before .before .before .before .before .before .before .before .before .before .before .before .before .before .before .push .ensures .1 (a .members .now) (a .edges .now)) (l .fs) (l .ws) r₁ h (k .next h .0) in (
       omega (arith, h),
-      c .before .before .before .before .before .before .before .before .before .before .before .before .before .push .kept .1 .1 .1 .1 .1 .0 ∙ l .inv .1,
-      c .before .before .before .before .before .before .before .before .before .before .before .before .before .push .kept .1 .1 .1 .1 .1 .1 .0 ∙ l .inv .2,
-      c .before .before .before .before .visit .kept .1 .1 .1 .1 .1 .1 .1 .1 .1 .1 .1 .1 .1 .1 .1 .1 .0 ∙ l .inv .3,
-      c .before .before .before .before .visit .kept .1 .1 .1 .1 .1 .1 .1 .1 .1 .1 .1 .1 .1 .1 .1 .1 .1 .0 ∙ l .inv .4,
-      law.walked-more S (a .q) (a .depth) (a .q .order - (a .depth + 1)) (c .before .before .before .before .before .before .before .before .before .before .before .before .before .before .before .before .before .before .next-near .result .plane) w
-          (law.walked-last S (a .q) (a .depth) (a .q .order - (a .depth + 1)) (c .before .before .before .before .before .before .before .before .before .before .before .before .before .before .before .before .before .before .next-near .result .plane) (l .seq) (c .before .before .before .before .before .before .before .before .before .before .before .before .before .push .last .1 .1 .1 .1 .1 .0) (l .images) (c .before .before .before .before .before .before .before .before .before .before .before .before .before .push .last .1 .1 .1 .1 .1 .1 .0) (withNodes (l .s) (c .before .before .before .before .before .before .before .before .before .before .before .before .before .before .before .before .before .before .next-near .result .nodes)) (c .before .before .before .before .visit .result) (l .fs) (c .before .before .before .before .visit .last .1 .1 .1 .1 .1 .1 .1 .1 .1 .1 .1 .1 .1 .1 .1 .1 .0) (l .ws) (c .before .before .before .before .visit .last .1 .1 .1 .1 .1 .1 .1 .1 .1 .1 .1 .1 .1 .1 .1 .1 .1 .0) (k .next h .0) (omega (arith, r .deep, r .within)) (r .sound .seq-room) (k .next h .1) (c .before .before .before .before .before .before .before .before .before .before .before .before .before .push .ensures .0) (c .before .before .before .before .visit .ensures)
-          (law.sound-visit S (a .q) (a .depth + 1) (c .before .before .before .before .before .before .before .before .before .before .before .before .before .push .last .1 .1 .1 .1 .1 .0) (c .before .before .before .before .before .before .before .before .before .before .before .before .before .push .last .1 .1 .1 .1 .1 .1 .0) (withNodes (l .s) (c .before .before .before .before .before .before .before .before .before .before .before .before .before .before .before .before .before .before .next-near .result .nodes)) (c .before .before .before .before .visit .result) (l .fs) (c .before .before .before .before .visit .last .1 .1 .1 .1 .1 .1 .1 .1 .1 .1 .1 .1 .1 .1 .1 .1 .0) (l .ws) (c .before .before .before .before .visit .last .1 .1 .1 .1 .1 .1 .1 .1 .1 .1 .1 .1 .1 .1 .1 .1 .1 .0) (c .before .before .before .before .visit .ensures) (v .sound)) (omega (arith, pre .0))),
+      c .before .before .before .before .before .before .before .before .before .before .before .before .before .before .before .before .before .push .kept .1 .1 .1 .1 .1 .0 ∙ l .inv .1,
+      c .before .before .before .before .before .before .before .before .before .before .before .before .before .before .before .before .before .push .kept .1 .1 .1 .1 .1 .1 .0 ∙ l .inv .2,
+      c .before .before .before .before .judge .kept .1 .1 .1 .1 .1 .1 .1 .1 .1 .1 .1 .1 .1 .1 .1 .1 .0 ∙ l .inv .3,
+      c .before .before .before .before .judge .kept .1 .1 .1 .1 .1 .1 .1 .1 .1 .1 .1 .1 .1 .1 .1 .1 .1 .0 ∙ l .inv .4,
+      law.walked-more S (a .q) (a .depth) (a .q .order - (a .depth + 1)) (c .before .before .before .before .before .before .before .before .before .before .before .before .before .before .before .before .before .before .before .before .before .before .next-near .result .plane) w
+          (law.walked-last S (a .q) (a .depth) (a .q .order - (a .depth + 1)) (c .before .before .before .before .before .before .before .before .before .before .before .before .before .before .before .before .before .before .before .before .before .before .next-near .result .plane) (l .seq) (c .before .before .before .before .before .before .before .before .before .before .before .before .before .before .before .before .before .push .last .1 .1 .1 .1 .1 .0) (l .images) (c .before .before .before .before .before .before .before .before .before .before .before .before .before .before .before .before .before .push .last .1 .1 .1 .1 .1 .1 .0) (withNodes (l .s) (c .before .before .before .before .before .before .before .before .before .before .before .before .before .before .before .before .before .before .before .before .before .before .next-near .result .nodes)) (c .before .before .before .before .judge .result) (l .fs) (c .before .before .before .before .judge .last .1 .1 .1 .1 .1 .1 .1 .1 .1 .1 .1 .1 .1 .1 .1 .1 .0) (l .ws) (c .before .before .before .before .judge .last .1 .1 .1 .1 .1 .1 .1 .1 .1 .1 .1 .1 .1 .1 .1 .1 .1 .0) (k .next h .0) (omega (arith, r .deep, r .within)) (r .sound .seq-room) (k .next h .1) (c .before .before .before .before .before .before .before .before .before .before .before .before .before .before .before .before .before .push .ensures .0) (c .before .before .before .before .judge .ensures)
+          (law.sound-visit S (a .q) (a .depth + 1) (c .before .before .before .before .before .before .before .before .before .before .before .before .before .before .before .before .before .push .last .1 .1 .1 .1 .1 .0) (c .before .before .before .before .before .before .before .before .before .before .before .before .before .before .before .before .before .push .last .1 .1 .1 .1 .1 .1 .0) (withNodes (l .s) (c .before .before .before .before .before .before .before .before .before .before .before .before .before .before .before .before .before .before .before .before .before .before .next-near .result .nodes)) (c .before .before .before .before .judge .result) (l .fs) (c .before .before .before .before .judge .last .1 .1 .1 .1 .1 .1 .1 .1 .1 .1 .1 .1 .1 .1 .1 .1 .0) (l .ws) (c .before .before .before .before .judge .last .1 .1 .1 .1 .1 .1 .1 .1 .1 .1 .1 .1 .1 .1 .1 .1 .1 .0) (c .before .before .before .before .judge .ensures) (v .sound)) (omega (arith, pre .0))),
+    )
+
+add-counted : tie.Need-add-counted Inv-loop μ-loop
+add-counted c = let a = c .before .before .before .before .before .before .before .before .before .before .before .before .before .before .before .before .before .before .before .before .before .before .before .before .before .before .before .before .before .before .before .before .before .before .before .args in
+    let pre = c .before .before .before .before .before .before .before .before .before .before .before .before .before .before .before .before .before .before .before .before .before .before .before .before .before .before .before .before .before .before .before .before .before .before .before .pre in
+    let l = c .before .before .before .before .before .before .before .before .before .before .before .before .before .before .before .before .before .before .before .loop in
+    let S : Scene = (scene (a .padded .now) (a .nodes .now) (a .perm .now) (a .rows .now) (a .handles .now) (a .materials .now) (a .columns .now) (a .floats .now) (a .words .now) (a .members .now) (a .edges .now)) in
+    let k : Skipped S (a .q) (a .depth) (l .seq) (l .images) (l .p) (l .s .nodes) (c .before .before .before .before .before .before .before .before .before .before .before .before .before .before .next-near .result .plane) (c .before .before .before .before .before .before .before .before .before .before .before .before .before .before .next-near .result .nodes) =
+    c .before .before .before .before .before .before .before .before .before .before .before .before .before .before .next-near .ensures (a .padded .now) (a .nodes .now) (a .perm .now) (a .rows .now) (a .handles .now) (a .materials .now) (a .columns .now) (a .members .now) (a .edges .now) in
+    let h : c .before .before .before .before .before .before .before .before .before .before .before .before .before .before .next-near .result .plane < a .q .count = omega (arith, k .within, c .before .before .before .before .before .before .before .before .before .before .before .before .if2 .left) in
+    omega (arith, k .next h .0, pre .1 .bound)
+
+loop-less-2 : tie.Need-loop-less-2 Inv-loop μ-loop
+loop-less-2 c = let a = c .before .before .before .before .before .before .before .before .before .before .before .before .before .before .before .before .before .before .before .before .before .before .before .before .before .before .before .before .before .before .before .before .before .before .before .args in
+    let pre = c .before .before .before .before .before .before .before .before .before .before .before .before .before .before .before .before .before .before .before .before .before .before .before .before .before .before .before .before .before .before .before .before .before .before .before .pre in
+    let l = c .before .before .before .before .before .before .before .before .before .before .before .before .before .before .before .before .before .before .before .loop in
+    let S : Scene = (scene (a .padded .now) (a .nodes .now) (a .perm .now) (a .rows .now) (a .handles .now) (a .materials .now) (a .columns .now) (a .floats .now) (a .words .now) (a .members .now) (a .edges .now)) in
+    let k : Skipped S (a .q) (a .depth) (l .seq) (l .images) (l .p) (l .s .nodes) (c .before .before .before .before .before .before .before .before .before .before .before .before .before .before .next-near .result .plane) (c .before .before .before .before .before .before .before .before .before .before .before .before .before .before .next-near .result .nodes) =
+    c .before .before .before .before .before .before .before .before .before .before .before .before .before .before .next-near .ensures (a .padded .now) (a .nodes .now) (a .perm .now) (a .rows .now) (a .handles .now) (a .materials .now) (a .columns .now) (a .members .now) (a .edges .now) in
+    omega (arith, k .within, c .before .before .before .before .before .before .before .before .before .before .before .before .if2 .left, c .before .before .before .before .before .before .before .before .before .before .before .before .before .before .before .before .before .if1 .taken, k .from)
+
+loop-again-2 : tie.Need-loop-again-2 Inv-loop μ-loop
+loop-again-2 c = let a = c .before .before .before .before .before .before .before .before .before .before .before .before .before .before .before .before .before .before .before .before .before .before .before .before .before .before .before .before .before .before .before .before .before .before .before .args in
+    let pre = c .before .before .before .before .before .before .before .before .before .before .before .before .before .before .before .before .before .before .before .before .before .before .before .before .before .before .before .before .before .before .before .before .before .before .before .pre in
+    let l = c .before .before .before .before .before .before .before .before .before .before .before .before .before .before .before .before .before .before .before .loop in
+    let S : Scene = (scene (a .padded .now) (a .nodes .now) (a .perm .now) (a .rows .now) (a .handles .now) (a .materials .now) (a .columns .now) (a .floats .now) (a .words .now) (a .members .now) (a .edges .now)) in
+    let r : Ready S (a .q) (a .depth) (state (l .seq) (l .images) (l .s)) (l .fs) (l .ws) =
+    law.ready-same S (a .q) (a .depth) (a .depth) (state (a .seq .now) (a .images .now) (a .t)) (state (l .seq) (l .images) (l .s)) (a .fs .now) (l .fs) (a .ws .now) (l .ws) (pre .1) (pre .1 .deep) (l .inv .3) (l .inv .4) (l .inv .5 .sound) in
+    let k : Skipped S (a .q) (a .depth) (l .seq) (l .images) (l .p) (l .s .nodes) (c .before .before .before .before .before .before .before .before .before .before .before .before .before .before .next-near .result .plane) (c .before .before .before .before .before .before .before .before .before .before .before .before .before .before .next-near .result .nodes) =
+    c .before .before .before .before .before .before .before .before .before .before .before .before .before .before .next-near .ensures (a .padded .now) (a .nodes .now) (a .perm .now) (a .rows .now) (a .handles .now) (a .materials .now) (a .columns .now) (a .members .now) (a .edges .now) in
+    let w : Walked S (a .q) (a .depth) (upto (at (firstsOf S (a .q)) (a .q .order - (a .depth + 1)) (take (a .depth) (a .seq .now))) (c .before .before .before .before .before .before .before .before .before .before .before .before .before .before .next-near .result .plane)) (state (a .seq .now) (a .images .now) (a .t)) (a .fs .now) (a .ws .now) (state (l .seq) (l .images) (withNodes (l .s) (c .before .before .before .before .before .before .before .before .before .before .before .before .before .before .next-near .result .nodes))) (l .fs) (l .ws) =
+    k .skips .walked (state (a .seq .now) (a .images .now) (a .t)) (a .fs .now) (a .ws .now) (l .s) (l .fs) (l .ws) r (pre .0) refl (l .inv .5) in
+    let r₁ : Ready S (a .q) (a .depth) (state (l .seq) (l .images) (withNodes (l .s) (c .before .before .before .before .before .before .before .before .before .before .before .before .before .before .next-near .result .nodes))) (l .fs) (l .ws) =
+    law.ready-same S (a .q) (a .depth) (a .depth) (state (l .seq) (l .images) (l .s)) (state (l .seq) (l .images) (withNodes (l .s) (c .before .before .before .before .before .before .before .before .before .before .before .before .before .before .next-near .result .nodes))) (l .fs) (l .fs) (l .ws) (l .ws) r (r .deep) refl refl (w .sound) in
+    let h : c .before .before .before .before .before .before .before .before .before .before .before .before .before .before .next-near .result .plane < a .q .count = omega (arith, k .within, c .before .before .before .before .before .before .before .before .before .before .before .before .if2 .left) in
+    let v : Visitable S (a .q) (a .depth + 1) (state (c .before .before .before .before .before .before .before .before .before .push .last .1 .1 .1 .1 .1 .0) (c .before .before .before .before .before .before .before .before .before .push .last .1 .1 .1 .1 .1 .1 .0) (withNodes (l .s) (c .before .before .before .before .before .before .before .before .before .before .before .before .before .before .next-near .result .nodes))) (l .fs) (l .ws) =
+    law.visitable-push S (a .q) (a .depth) (c .before .before .before .before .before .before .before .before .before .before .before .before .before .before .next-near .result .plane) (l .seq) (c .before .before .before .before .before .before .before .before .before .push .last .1 .1 .1 .1 .1 .0) (l .images) (c .before .before .before .before .before .before .before .before .before .push .last .1 .1 .1 .1 .1 .1 .0) (withNodes (l .s) (c .before .before .before .before .before .before .before .before .before .before .before .before .before .before .next-near .result .nodes)) (c .before .before .before .before .before .before .before .before .before .push .ensures .0) (c .before .before .before .before .before .before .before .before .before .push .ensures .1 (a .members .now) (a .edges .now)) (l .fs) (l .ws) r₁ h (k .next h .0) in
+    let seen : Visited S (a .q) (a .depth + 1) (c .before .before .before .before .before .before .before .before .before .push .last .1 .1 .1 .1 .1 .0) (withNodes (l .s) (c .before .before .before .before .before .before .before .before .before .before .before .before .before .before .next-near .result .nodes)) (l .fs) (l .ws) (withNodes (l .s) (c .before .before .before .before .before .before .before .before .before .before .before .before .before .before .next-near .result .nodes + 1)) (l .fs) (l .ws) =
+    law.visited-lost S (a .q) (a .depth + 1) (c .before .before .before .before .before .before .before .before .before .push .last .1 .1 .1 .1 .1 .0) (c .before .before .before .before .before .before .before .before .before .push .last .1 .1 .1 .1 .1 .1 .0) (withNodes (l .s) (c .before .before .before .before .before .before .before .before .before .before .before .before .before .before .next-near .result .nodes)) (l .fs) (l .ws) (v .within) (v .sound) (c .before .before .made .ensures (c .before .if3 .left)) in (
+      omega (arith, h),
+      c .before .before .before .before .before .before .before .before .before .push .kept .1 .1 .1 .1 .1 .0 ∙ l .inv .1,
+      c .before .before .before .before .before .before .before .before .before .push .kept .1 .1 .1 .1 .1 .1 .0 ∙ l .inv .2,
+      l .inv .3,
+      l .inv .4,
+      law.walked-more S (a .q) (a .depth) (a .q .order - (a .depth + 1)) (c .before .before .before .before .before .before .before .before .before .before .before .before .before .before .next-near .result .plane) w
+          (law.walked-last S (a .q) (a .depth) (a .q .order - (a .depth + 1)) (c .before .before .before .before .before .before .before .before .before .before .before .before .before .before .next-near .result .plane) (l .seq) (c .before .before .before .before .before .before .before .before .before .push .last .1 .1 .1 .1 .1 .0) (l .images) (c .before .before .before .before .before .before .before .before .before .push .last .1 .1 .1 .1 .1 .1 .0) (withNodes (l .s) (c .before .before .before .before .before .before .before .before .before .before .before .before .before .before .next-near .result .nodes)) (withNodes (l .s) (c .before .before .before .before .before .before .before .before .before .before .before .before .before .before .next-near .result .nodes + 1)) (l .fs) (l .fs) (l .ws) (l .ws) (k .next h .0) (omega (arith, r .deep, r .within)) (r .sound .seq-room) (k .next h .1) (c .before .before .before .before .before .before .before .before .before .push .ensures .0) seen
+          (law.sound-visit S (a .q) (a .depth + 1) (c .before .before .before .before .before .before .before .before .before .push .last .1 .1 .1 .1 .1 .0) (c .before .before .before .before .before .before .before .before .before .push .last .1 .1 .1 .1 .1 .1 .0) (withNodes (l .s) (c .before .before .before .before .before .before .before .before .before .before .before .before .before .before .next-near .result .nodes)) (withNodes (l .s) (c .before .before .before .before .before .before .before .before .before .before .before .before .before .before .next-near .result .nodes + 1)) (l .fs) (l .fs) (l .ws) (l .ws) seen (v .sound)) (omega (arith, pre .0))),
     )
 
 same-length-5 : tie.Need-same-length-5 Inv-loop μ-loop
@@ -167,12 +235,17 @@ last-planes-spec =
     same-length-3
     same-length-4
     returns
-    push-requires
-    add-visit
-    visit-requires
     add-p
+    push-requires
+    add-made
+    made-requires
+    add-judge
+    judge-requires
     loop-less
     loop-again
+    add-counted
+    loop-less-2
+    loop-again-2
     same-length-5
     same-length-6
     same-length-7
