@@ -2,18 +2,20 @@
 -- Each law puts two runs together by the laws of the fold; the proof of the recursion cites them.
 use Prim.Native.Nat.{ℕ, _+_, _-_, _*_, _≤_, _<_}
 use mathlib.Core.Path.{_≡_, refl, sym, ap, subst, _∙_}
-use mathlib.Core.Bool.{true, false}
+use mathlib.Core.Bool.{true, false, not}
 use mathlib.Core.List.{List, [], _∷_, _++_, foldl-append}
 use native.Mathlib.Omega.{arith}
 use native.Mathlib.Numerals.{add-one}
-use lib.Ieee.{Float}
+use lib.Dec.{eqb}
+use lib.Ieee.{Float, lt}
 use lib.ListN.{length, getD, take, set, length-set}
 use lib.Seq.{take-suc-set, take-take, take-set-le, getD-set-same, getD-set-other}
 use Rattle.float.proofs.Numbers.{by-order}
+use Rattle.vector.specs.declared.Vec3.{Vec3}
 use Rattle.mirror.specs.Plane.{planeAt}
 use Rattle.mirror.specs.Mirror.{mirrorOf}
 use Rattle.bounces.specs.Areas.{maxOrder, pointFloats, pointIn}
-use Rattle.search.proofs.Points.{points-put, length-put}
+use Rattle.search.proofs.Points.{points-put, length-put, put-same}
 use Rattle.sequences.specs.Allowed.{upto, may, below, at}
 use Rattle.sequences.specs.Run.{step}
 use Rattle.sequences.proofs.Running.{step-under, run-full}
@@ -22,8 +24,11 @@ use Rattle.ranking.specs.Rows.{candidatesIn}
 use Rattle.claim.specs.Query.{Search, search, visitPath}
 use Rattle.search.specs.declared.Task.{Task}
 use Rattle.search.specs.declared.Tally.{Tally}
-use Rattle.search.proofs.Laws.{on-length, planes-length}
-use Rattle.search.specs.Contract.{Scene, State, state, pointPut, planesOf, firstsOf, pathIn, runIn, Sound, Ready, heldIn, Walked, Visited}
+use Rattle.paths.proofs.Laws.{path-far, path-lost}
+use Rattle.claim.specs.Answer.{fails}
+use Rattle.search.specs.Outcome.{outcomeOf}
+use Rattle.search.proofs.Laws.{on-length, planes-length, judged-lost, square-far}
+use Rattle.search.specs.Contract.{Scene, State, state, pointPut, squareOf, Beyond, Lost, planesOf, firstsOf, pathIn, runIn, Sound, Ready, Visitable, heldIn, Walked, Visited, withNodes, Skips}
 
 abbrev count : Search → ℕ
 count w = w .images
@@ -56,6 +61,19 @@ module _ (S : Scene) (q : Task) where
             let g : getD (set seq d p) j 0 ≡ getD seq j 0 = getD-set-other seq d j p 0 (λ z. omega arith) in
             rw g (k .planes j e))
 
+    pub visitable-push :
+        (fs : List Float) (ws : List ℕ) → Ready S q d (state seq images t) fs ws → p < q .count → t .nodes < q .limit →
+        Visitable S q (d + 1) (state seq₁ images₁ t) fs ws
+    visitable-push fs ws r l room = record {
+      some = omega arith;
+      within = omega (arith, r .deep, r .within);
+      under = omega (arith, room, r .bound);
+      far = r .far;
+      lent = r .lent;
+      room = r .room;
+      sound = sound-push (omega (arith, r .deep, r .within)) l (r .sound);
+    }
+
   pub sound-visit :
       (d : ℕ) (seq : List ℕ) (images : List Float) (s r : Tally) (fs fs′ : List Float) (ws ws′ : List ℕ) → Visited S q d seq s fs ws r fs′ ws′ →
       Sound S q d (state seq images s) → Sound S q d (state seq images r)
@@ -66,6 +84,16 @@ module _ (S : Scene) (q : Task) where
     are = k .are;
     few = v .few;
     cost = let a = v .cost in let b = v .counted in let e = k .cost in omega arith;
+  }
+
+  pub sound-count : (d n : ℕ) (seq : List ℕ) (images : List Float) (t : Tally) → t .nodes ≤ n → Sound S q d (state seq images t) → Sound S q d (state seq images (withNodes t n))
+  sound-count d n seq images t h k = record {
+    seq-room = k .seq-room;
+    images-room = k .images-room;
+    planes = k .planes;
+    are = k .are;
+    few = k .few;
+    cost = let e = k .cost in omega arith;
   }
 
   pub sound-less : (d : ℕ) (r : State) → Sound S q (d + 1) r → Sound S q d r
@@ -183,3 +211,97 @@ module _ (S : Scene) (q : Task) where
     walked-last k p seq seq₁ images images₁ s v fs fs₁ ws ws₁ room deep wide ok put seen h z =
         walked-visit k p seq seq₁ images images₁ s v (state seq₁ images₁ v) fs fs₁ fs₁ ws ws₁ ws₁ room deep wide ok put seen
         (rw z (record { ran = λ tri t e. refl; stays = refl; sound = h }))
+
+    -- ---- images that are only counted
+
+    -- one too far
+    pub visited-far :
+        (seq : List ℕ) (images : List Float) (t : Tally) (fs : List Float) (ws : List ℕ) → d ≤ maxOrder → Sound S q d (state seq images t) →
+        Beyond (q .settings .«max_reflection_distance») (q .beyond) → lt (q .beyond) (squareOf (q .listener) (pointIn images d)) ≡ true →
+        Visited S q d seq t fs ws (withNodes t (t .nodes + 1)) fs ws
+    unfolding visitPath outcomeOf
+    visited-far seq images t fs ws h k b far = record {
+      counted = refl;
+      cost = omega arith;
+      few = k .few;
+      seen =
+          λ tri tr e.
+          judged-lost (q .room) (t .found) (t .nodes) (t .rays) fs ws (not (eqb (t .over) 0)) (take d seq) _
+          (sym (ap outcomeOf
+          (path-far (q .settings) (planesOf S q) tri tr (S .materials) (q .source) (q .listener) seq (pointIn images) d (omega (arith, h, k .seq-room)) (k .are)
+          (square-far (q .settings .«max_reflection_distance») (q .beyond) (q .listener) (pointIn images d) b far))));
+    }
+
+    -- one whose bounces are not all made
+    pub visited-lost :
+        (seq : List ℕ) (images : List Float) (t : Tally) (fs : List Float) (ws : List ℕ) → d ≤ maxOrder → Sound S q d (state seq images t) →
+        Lost (S .columns) (q .n) (S .floats) (S .words) (S .members) (S .edges) (q .count) seq images d (q .listener) →
+        Visited S q d seq t fs ws (withNodes t (t .nodes + 1)) fs ws
+    unfolding visitPath outcomeOf
+    visited-lost seq images t fs ws h k lost = record {
+      counted = refl;
+      cost = omega arith;
+      few = k .few;
+      seen =
+          λ tri tr e.
+          judged-lost (q .room) (t .found) (t .nodes) (t .rays) fs ws (not (eqb (t .over) 0)) (take d seq) _
+          (path-lost (q .settings) (planesOf S q) tri tr (S .materials) (q .source) (q .listener) seq (pointIn images) d (omega (arith, h, k .seq-room)) (k .are)
+          outcomeOf (fails 0) refl refl refl (lost tri (q .settings .«reflection_edge_fade») (e .planes)));
+    }
+
+  -- at the last place: nothing is stored, since a run does not read the sequence and the images that the search holds
+  module _ (d : ℕ) (seq : List ℕ) (images : List Float) where
+    abbrev more : ℕ
+    more = q .order - (d + 1)
+
+    walked-far :
+        (p : ℕ) (t : Tally) (fs : List Float) (ws : List ℕ) → Ready S q d (state seq images t) fs ws → d + 1 ≡ q .order → p < q .count →
+        t .nodes < q .limit → may on (take d seq) p ≡ true →
+        lt (q .beyond) (squareOf (q .listener) (mirrorOf (planeAt (planesOf S q) p) (pointIn images d))) ≡ true →
+        Walked S q d (at on more (take d seq) p) (state seq images t) fs ws (state seq images (withNodes t (t .nodes + 1))) fs ws
+    walked-far p t fs ws r last l room ok far =
+        let seq₁ : List ℕ = set seq d p in
+        let images₁ : List Float = pointPut images (pointFloats * (d + 1)) (mirrorOf (planeAt (planesOf S q) p) (pointIn images d)) in
+        let deep : d < 8 = omega (arith, r .deep, r .within) in
+        let k : Sound S q (d + 1) (state seq₁ images₁ t) = sound-push d p seq seq₁ images images₁ t refl refl deep l (r .sound) in
+        let is : pointIn images₁ (d + 1) ≡ mirrorOf (planeAt (planesOf S q) p) (pointIn images d) =
+        put-same images (pointFloats * (d + 1)) (mirrorOf (planeAt (planesOf S q) p) (pointIn images d)) (omega (arith, deep, r .sound .images-room)) in
+        let v : Visited S q (d + 1) seq₁ t fs ws (withNodes t (t .nodes + 1)) fs ws =
+        visited-far (d + 1) seq₁ images₁ t fs ws (omega (arith, deep)) k (r .far) (ap (λ (x : Vec3). lt (q .beyond) (squareOf (q .listener) x)) is ∙ far) in
+        let w : Walked S q d (at on more (take d seq) p) (state seq images t) fs ws (state seq₁ images₁ (withNodes t (t .nodes + 1))) fs ws =
+        walked-last d more p seq seq₁ images images₁ t (withNodes t (t .nodes + 1)) fs fs ws ws room deep (r .sound .seq-room) ok refl v
+        (sound-visit (d + 1) seq₁ images₁ t (withNodes t (t .nodes + 1)) fs fs ws ws v k) (omega (arith, last)) in
+        record { ran = w .ran; stays = refl; sound = sound-count d (t .nodes + 1) seq images t (omega arith) (r .sound) }
+
+    pub skips-none : (p n : ℕ) → Skips S q d seq images p n p n
+    skips-none p n = record {
+      walked =
+          λ s₀ fs₀ ws₀ t fs ws r last e w.
+          subst (λ (m : ℕ). Walked S q d (upto (at on more (take d (s₀ .seq))) p) s₀ fs₀ ws₀ (state seq images (withNodes t m)) fs ws) e w;
+    }
+
+    skips-step :
+        (p n p₁ n₁ n₂ : ℕ) → Skips S q d seq images p n p₁ n₁ →
+        ((t : Tally) (fs : List Float) (ws : List ℕ) → Ready S q d (state seq images (withNodes t n₁)) fs ws → d + 1 ≡ q .order →
+        Walked S q d (at on more (take d seq) p₁) (state seq images (withNodes t n₁)) fs ws (state seq images (withNodes t n₂)) fs ws) →
+        Skips S q d seq images p n (p₁ + 1) n₂
+    skips-step p n p₁ n₁ n₂ k one = record {
+      walked =
+          λ s₀ fs₀ ws₀ t fs ws r last e w.
+          let v : Walked S q d (upto (at on more (take d (s₀ .seq))) p₁) s₀ fs₀ ws₀ (state seq images (withNodes t n₁)) fs ws = k .walked s₀ fs₀ ws₀ t fs ws r last e w in
+          walked-more d more p₁ v
+          (one t fs ws (ready-same d d (state seq images t) (state seq images (withNodes t n₁)) fs fs ws ws r (r .deep) refl refl (v .sound)) last);
+    }
+
+    module _ (p n p₁ n₁ : ℕ) (k : Skips S q d seq images p n p₁ n₁) where
+      pub skips-full : q .limit ≤ n₁ → Skips S q d seq images p n (p₁ + 1) n₁
+      skips-full h = skips-step p n p₁ n₁ n₁ k (λ t fs ws r last. walked-full d (at on more (take d seq) p₁) (state seq images (withNodes t n₁)) fs ws h (r .sound))
+
+      pub skips-not : may on (take d seq) p₁ ≡ false → Skips S q d seq images p n (p₁ + 1) n₁
+      skips-not e = skips-step p n p₁ n₁ n₁ k (λ t fs ws r last. walked-not d more p₁ (state seq images (withNodes t n₁)) fs ws e (r .sound))
+
+      pub skips-far :
+          p₁ < q .count → n₁ < q .limit → may on (take d seq) p₁ ≡ true →
+          lt (q .beyond) (squareOf (q .listener) (mirrorOf (planeAt (planesOf S q) p₁) (pointIn images d))) ≡ true →
+          Skips S q d seq images p n (p₁ + 1) (n₁ + 1)
+      skips-far l room ok far = skips-step p n p₁ n₁ (n₁ + 1) k (λ t fs ws r last. walked-far p₁ (withNodes t n₁) fs ws r last l room ok far)

@@ -1,5 +1,5 @@
 -- What the search's functions ask and promise.
-use Prim.Native.Nat.{ℕ, _+_, _*_, _≤_, _<_}
+use Prim.Native.Nat.{ℕ, _+_, _-_, _*_, _≤_, _<_}
 use mathlib.Core.Path.{_≡_}
 use mathlib.Core.Bool.{Bool, true, false, not, cond}
 use mathlib.Core.List.{List, [], _∷_, _++_}
@@ -13,9 +13,11 @@ use Rattle.vector.specs.declared.Vec3.{Vec3}
 use Rattle.vector.specs.Vector.{sub3Of, dot3Of}
 use Rattle.mirror.specs.Plane.{Plane}
 use Rattle.mirror.specs.Rows.{planesIn}
-use Rattle.bounces.specs.Areas.{maxOrder, pointFloats, pointIn}
+use Rattle.float.specs.Literals.{one32}
+use Rattle.bounces.specs.Areas.{PlanesRead, maxOrder, madeFate, fateOf, pointFloats, pointIn}
+use Rattle.bounces.specs.Bounces.{backOf, planeOn}
 use Rattle.bounces.specs.Image.{imageOf}
-use Rattle.sequences.specs.Allowed.{most, mostPlanes}
+use Rattle.sequences.specs.Allowed.{most, mostPlanes, may, upto, at}
 use Rattle.sequences.specs.Run.{run}
 use Rattle.ranking.specs.Rows.{Rows, candidatesIn}
 use Rattle.paths.specs.declared.PathCandidate.{PathCandidate}
@@ -79,6 +81,12 @@ squareOf a b = dot3Of (sub3Of a b) (sub3Of a b)
 -- what is above b has a root that is not at most `far`
 abbrev pub Beyond : Float → Float → Type 0
 Beyond far b = (x : Float) → lt b x ≡ true → le (sqrtOf x) far ≡ false
+
+-- the bounces of the first `len` planes are not all made, for all that the areas read as
+abbrev pub Lost : List Float → ℕ → List Float → List ℕ → List ℕ → List Float → ℕ → List ℕ → List Float → ℕ → Vec3 → Type 0
+Lost columns n floats words members edges count seq images len listener =
+    (tri : ℕ → Triangle) (fade : Float) → PlanesRead tri columns n floats words members count →
+    fateOf (backOf tri fade (planeOn (planesIn floats words members edges count) seq) (pointIn images) len listener one32 [] []) ≡ madeFate → ⊥
 
 -- what a path takes at most: 162 × 9 rays
 abbrev pub mostRays : ℕ
@@ -144,6 +152,25 @@ pub record Walked (S : Scene) (q : Task) (depth : ℕ) (qs : List (List ℕ)) (s
   pub ran : (tri : ℕ → Triangle) (t : Tree) → Reads S q tri t → heldIn r fs′ ws′ ≡ runIn S q tri t (heldIn s fs ws) qs
   pub stays : take depth (r .seq) ≡ take depth (s .seq)
   pub sound : Sound S q depth r
+
+-- a tally with so many images
+abbrev pub withNodes : Tally → ℕ → Tally
+withNodes t n = record { nodes = n; rays = t .rays; found = t .found; over = t .over }
+
+-- at the last place, whatever was run over before: the planes from p up to p′ come to no more than that n images are n′
+pub record Skips (S : Scene) (q : Task) (depth : ℕ) (seq : List ℕ) (images : List Float) (p n p′ n′ : ℕ) : Type 0 where
+  pub walked :
+      (s₀ : State) (fs₀ : List Float) (ws₀ : List ℕ) (t : Tally) (fs : List Float) (ws : List ℕ) → Ready S q depth (state seq images t) fs ws →
+      depth + 1 ≡ q .order → t .nodes ≡ n →
+      Walked S q depth (upto (at (firstsOf S q) (q .order - (depth + 1)) (take depth (s₀ .seq))) p) s₀ fs₀ ws₀ (state seq images t) fs ws →
+      Walked S q depth (upto (at (firstsOf S q) (q .order - (depth + 1)) (take depth (s₀ .seq))) p′) s₀ fs₀ ws₀ (state seq images (withNodes t n′)) fs ws
+
+-- the same, up to a plane that may stand there and has not been run over, or all planes
+pub record Skipped (S : Scene) (q : Task) (depth : ℕ) (seq : List ℕ) (images : List Float) (p n p′ n′ : ℕ) : Type 0 where
+  pub from : p ≤ p′
+  pub within : p′ ≤ q .count
+  pub next : p′ < q .count → (n′ < q .limit) × (may (firstsOf S q) (take depth seq) p′ ≡ true)
+  pub skips : Skips S q depth seq images p n p′ n′
 
 -- what a tally says with its rows
 abbrev pub tallied : Tally → List Float → List ℕ → Search

@@ -6,6 +6,7 @@ use ranking::Candidate;
 use scene::Settings;
 use vector::Vec3;
 ghost use mathlib.Core.Path.{_≡_};
+ghost use mathlib.Core.Bool.{false};
 ghost use mathlib.Core.List.{List};
 ghost use Prim.Native.Nat.{ℕ, _+_, _-_, _*_, _<_, _≤_};
 ghost use lib.ListN.{length, getD, take, set};
@@ -16,12 +17,12 @@ ghost use Rattle.mirror.specs.Plane.{noPoint, planeAt};
 ghost use Rattle.mirror.specs.Mirror.{mirrorOf};
 ghost use Rattle.mirror.specs.Rows.{planeFloats, planeWords, planesIn};
 ghost use Rattle.sequences.specs.Allowed as spec;
-ghost use Rattle.bounces.specs.Areas.{maxOrder, pointFloats, pointIn};
+ghost use Rattle.bounces.specs.Areas.{PlanesLent, maxOrder, pointFloats, pointIn};
 ghost use Rattle.ranking.specs.Rows.{Rows, candidatesIn};
 ghost use Rattle.paths.specs.Areas.{Lent, ReadAs};
 ghost use Rattle.claim.specs.Query.{search, searched};
 ghost use Rattle.search.specs.Outcome.{onOf, outcomesOf};
-ghost use Rattle.search.specs.Contract.{scene, state, pointPut, firstsOf, squareOf, Beyond, Ready, Visitable, Walked, Kept, Visited};
+ghost use Rattle.search.specs.Contract.{scene, state, pointPut, firstsOf, squareOf, Beyond, Lost, Ready, Visitable, Walked, Kept, Visited, Skipped};
 
 // Floats of a point in an area.
 const POINT_FLOATS: usize = 3;
@@ -46,6 +47,12 @@ struct Tally {
     rays: u32,
     found: usize,
     over: usize,
+}
+
+// The next plane whose image is not too far, or the count of planes, and the images counted before it.
+struct Near {
+    plane: usize,
+    nodes: u32,
 }
 
 // The end of a search: images visited, rays traced, candidates held, and whether one found no room.
@@ -231,16 +238,61 @@ fn judge(
     keep(q.room, len, number, c, s, fs, ws)
 }
 
-// Whether the square of the distance from the listener to the image of the first `len` planes is above `beyond`.
+// Whether the square of the distance from the listener to an image is above `beyond`: no root is taken.
+fn far(listener: Vec3, image: Vec3, beyond: f32) -> bool
+    ensures { λ r. ⌜ r ≡ lt beyond (squareOf listener image) ⌝ }
+{
+    let way = vector::sub3(listener, image);
+    vector::dot3(way, way) > beyond
+}
+
+// The same for the image of the first `len` planes.
 fn too_far(images: &[f32], len: usize, listener: Vec3, beyond: f32) -> bool
     requires { ⌜ pointFloats * (len + 1) ≤ length (now images) ⌝ }
     ensures { λ r. ⌜ r ≡ lt beyond (squareOf listener (pointIn (now (images .entry)) len)) ⌝ }
 {
-    let way = vector::sub3(listener, mirror::vec_in(images, POINT_FLOATS * len));
-    vector::dot3(way, way) > beyond
+    far(listener, mirror::vec_in(images, POINT_FLOATS * len), beyond)
 }
 
-// Visits the first `len` planes. Nearly every image is too far, or a bounce of its path fails: it is then only counted, and no root is taken.
+// Whether all bounces of the path of the first `len` planes are made. Of nearly every path one fails.
+fn made(
+    columns: &[f32],
+    n: usize,
+    floats: &[f32],
+    words: &[u32],
+    members: &[u32],
+    edges: &[f32],
+    count: usize,
+    seq: &[u32],
+    images: &[f32],
+    len: usize,
+    listener: Vec3,
+) -> bool
+    requires { ⌜ PlanesLent (now columns) n (now floats) (now words) (now members) (now edges) count ⌝ }
+    requires { ⌜ (len ≤ length (now seq)) × (pointFloats * len + pointFloats ≤ length (now images)) ⌝ }
+    requires { ⌜ ((j : ℕ) → j < len → getD (now seq) j 0 < count) ⌝ }
+    ensures { λ r. ⌜ (r ≡ false → Lost (now (columns .entry)) n (now (floats .entry)) (now (words .entry)) (now (members .entry)) (now (edges .entry)) count (now (seq .entry)) (now (images .entry)) len listener) ⌝ }
+{
+    let fate = bounces::fate_back(
+        columns,
+        n,
+        floats,
+        words,
+        members,
+        edges,
+        count,
+        seq,
+        images,
+        len,
+        listener,
+    );
+    if fate != bounces::MADE {
+        return false;
+    }
+    true
+}
+
+// Visits the first `len` planes: where a bounce fails, the image is only counted.
 fn visit(
     padded: &[f32],
     nodes: &[u32],
@@ -264,12 +316,7 @@ fn visit(
     requires { ⌜ Visitable (scene (now padded) (now nodes) (now perm) (now rows) (now handles) (now materials) (now columns) (now floats) (now words) (now members) (now edges)) q len (state (now seq) (now images) t) (now fs) (now ws) ⌝ }
     ensures { λ r. ⌜ Visited (scene (now (padded .entry)) (now (nodes .entry)) (now (perm .entry)) (now (rows .entry)) (now (handles .entry)) (now (materials .entry)) (now (columns .entry)) (now (floats .entry)) (now (words .entry)) (now (members .entry)) (now (edges .entry))) q len (now (seq .entry)) t (now (fs .entry)) (now (ws .entry)) r (now (fs .exit)) (now (ws .exit)) ⌝ }
 {
-    if too_far(images, len, q.listener, q.beyond) {
-        let mut far = t;
-        far.nodes = far.nodes + 1;
-        return far;
-    }
-    let fate = bounces::fate_back(
+    if made(
         columns,
         q.n,
         floats,
@@ -281,38 +328,173 @@ fn visit(
         images,
         len,
         q.listener,
-    );
-    if fate != bounces::MADE {
-        let mut s = t;
-        s.nodes = s.nodes + 1;
-        return s;
+    ) {
+        return judge(
+            padded,
+            nodes,
+            perm,
+            rows,
+            handles,
+            materials,
+            columns,
+            floats,
+            words,
+            members,
+            edges,
+            q,
+            len,
+            t,
+            seq,
+            images,
+            fs,
+            ws,
+        );
     }
-    judge(
-        padded,
-        nodes,
-        perm,
-        rows,
-        handles,
-        materials,
-        columns,
-        floats,
-        words,
-        members,
-        edges,
-        q,
-        len,
-        t,
-        seq,
-        images,
-        fs,
-        ws,
-    )
+    let mut s = t;
+    s.nodes = s.nodes + 1;
+    s
+}
+
+// ---- the last place
+
+// From plane `from` on to the first whose image at the last place is not too far; the images too far are counted. Nearly all images of a search may
+// be such: so nothing is stored, and no function is handed more than it reads.
+fn next_near(
+    floats: &[f32],
+    words: &[u32],
+    q: Task,
+    seq: &[u32],
+    images: &[f32],
+    depth: usize,
+    from: usize,
+    nodes: u32,
+) -> Near
+    requires { ⌜ (depth < length (now seq)) × (pointFloats * (depth + 1) ≤ length (now images)) × (from ≤ q .count) × (q .limit ≤ spec.most) ⌝ }
+    requires { ⌜ (planeFloats * q .count ≤ length (now floats)) × (planeWords * q .count ≤ length (now words)) ⌝ }
+    ensures { λ r. ⌜ ((padded : List Float) (nodes₁ : List ℕ) (perm : List ℕ) (rows : List Float) (handles : List ℕ) (materials : List Float) (columns : List Float) (members : List ℕ) (edges : List Float) → Skipped (scene padded nodes₁ perm rows handles materials columns (now (floats .entry)) (now (words .entry)) members edges) q depth (now (seq .entry)) (now (images .entry)) from nodes (r .plane) (r .nodes)) ⌝ }
+{
+    let image = mirror::vec_in(images, POINT_FLOATS * depth);
+    let mut n = nodes;
+    let mut p = from;
+    while p < q.count {
+        let at = p;
+        p += 1;
+        if q.limit <= n {
+            continue;
+        }
+        if may(floats, words, q, seq, depth, at) {
+            let next = bounces::next_image(floats, words, at, image);
+            if far(q.listener, next, q.beyond) {
+                n += 1;
+                continue;
+            }
+            return Near {
+                plane: at,
+                nodes: n,
+            };
+        }
+    }
+    Near { plane: p, nodes: n }
+}
+
+// Each plane in turn at the last place, where nothing goes on.
+fn last_planes(
+    padded: &[f32],
+    nodes: &[u32],
+    perm: &[u32],
+    rows: &[f32],
+    handles: &[u32],
+    materials: &[f32],
+    columns: &[f32],
+    floats: &[f32],
+    words: &[u32],
+    members: &[u32],
+    edges: &[f32],
+    q: Task,
+    depth: usize,
+    t: Tally,
+    seq: &mut [u32],
+    images: &mut [f32],
+    fs: &mut [f32],
+    ws: &mut [u32],
+) -> Tally
+    requires { ⌜ depth + 1 ≡ q .order ⌝ }
+    requires { ⌜ Ready (scene (now padded) (now nodes) (now perm) (now rows) (now handles) (now materials) (now columns) (now floats) (now words) (now members) (now edges)) q depth (state (now seq) (now images) t) (now fs) (now ws) ⌝ }
+    ensures { λ r. ⌜ Walked (scene (now (padded .entry)) (now (nodes .entry)) (now (perm .entry)) (now (rows .entry)) (now (handles .entry)) (now (materials .entry)) (now (columns .entry)) (now (floats .entry)) (now (words .entry)) (now (members .entry)) (now (edges .entry))) q depth (spec.below (firstsOf (scene (now (padded .entry)) (now (nodes .entry)) (now (perm .entry)) (now (rows .entry)) (now (handles .entry)) (now (materials .entry)) (now (columns .entry)) (now (floats .entry)) (now (words .entry)) (now (members .entry)) (now (edges .entry))) q) (q .order - depth) (take depth (now (seq .entry)))) (state (now (seq .entry)) (now (images .entry)) t) (now (fs .entry)) (now (ws .entry)) (state (now (seq .exit)) (now (images .exit)) r) (now (fs .exit)) (now (ws .exit)) ⌝ }
+{
+    let mut s = t;
+    let mut p = 0;
+    while p < q.count {
+        let next = next_near(floats, words, q, seq, images, depth, p, s.nodes);
+        let at = next.plane;
+        // tallies field by field, so that the compiler keeps them in registers
+        let u = Tally {
+            nodes: next.nodes,
+            rays: s.rays,
+            found: s.found,
+            over: s.over,
+        };
+        if at == q.count {
+            return u;
+        }
+        p = at + 1;
+        push(floats, words, q.count, depth, at, seq, images);
+        if made(
+            columns,
+            q.n,
+            floats,
+            words,
+            members,
+            edges,
+            q.count,
+            seq,
+            images,
+            depth + 1,
+            q.listener,
+        ) {
+            let v = judge(
+                padded,
+                nodes,
+                perm,
+                rows,
+                handles,
+                materials,
+                columns,
+                floats,
+                words,
+                members,
+                edges,
+                q,
+                depth + 1,
+                u,
+                seq,
+                images,
+                fs,
+                ws,
+            );
+            s = Tally {
+                nodes: v.nodes,
+                rays: v.rays,
+                found: v.found,
+                over: v.over,
+            };
+            continue;
+        }
+        let counted = next.nodes + 1;
+        s = Tally {
+            nodes: counted,
+            rays: u.rays,
+            found: u.found,
+            over: u.over,
+        };
+    }
+    s
 }
 
 // ---- the search
 
 // Each plane in turn at place `depth`, with all that goes on from it. The sequence and the image of each of its beginnings stand in `seq` and
-// `images`.
+// `images`. An image too far is tested and counted here: a function that visits is handed all areas and the task, which the compiler copies first.
 fn expand_images(
     padded: &[f32],
     nodes: &[u32],
@@ -339,92 +521,64 @@ fn expand_images(
     let mut s = t;
     let mut p = 0;
     while p < q.count {
-        s = node(
-            padded,
-            nodes,
-            perm,
-            rows,
-            handles,
-            materials,
-            columns,
-            floats,
-            words,
-            members,
-            edges,
-            q,
-            depth,
-            p,
-            s,
-            seq,
-            images,
-            fs,
-            ws,
-        );
+        let at = p;
         p += 1;
-    }
-    s
-}
-
-// Plane `p` at place `depth`: nothing where the limit is reached or the plane may not stand there, else a visit, and all that goes on from it.
-fn node(
-    padded: &[f32],
-    nodes: &[u32],
-    perm: &[u32],
-    rows: &[f32],
-    handles: &[u32],
-    materials: &[f32],
-    columns: &[f32],
-    floats: &[f32],
-    words: &[u32],
-    members: &[u32],
-    edges: &[f32],
-    q: Task,
-    depth: usize,
-    p: usize,
-    t: Tally,
-    seq: &mut [u32],
-    images: &mut [f32],
-    fs: &mut [f32],
-    ws: &mut [u32],
-) -> Tally
-    requires { ⌜ p < q .count ⌝ }
-    requires { ⌜ Ready (scene (now padded) (now nodes) (now perm) (now rows) (now handles) (now materials) (now columns) (now floats) (now words) (now members) (now edges)) q depth (state (now seq) (now images) t) (now fs) (now ws) ⌝ }
-    ensures { λ r. ⌜ Walked (scene (now (padded .entry)) (now (nodes .entry)) (now (perm .entry)) (now (rows .entry)) (now (handles .entry)) (now (materials .entry)) (now (columns .entry)) (now (floats .entry)) (now (words .entry)) (now (members .entry)) (now (edges .entry))) q depth (spec.at (firstsOf (scene (now (padded .entry)) (now (nodes .entry)) (now (perm .entry)) (now (rows .entry)) (now (handles .entry)) (now (materials .entry)) (now (columns .entry)) (now (floats .entry)) (now (words .entry)) (now (members .entry)) (now (edges .entry))) q) (q .order - (depth + 1)) (take depth (now (seq .entry))) p) (state (now (seq .entry)) (now (images .entry)) t) (now (fs .entry)) (now (ws .entry)) (state (now (seq .exit)) (now (images .exit)) r) (now (fs .exit)) (now (ws .exit)) ⌝ }
-{
-    if q.limit <= t.nodes {
-        return t;
-    }
-    if may(floats, words, q, seq, depth, p) {
-        push(floats, words, q.count, depth, p, seq, images);
-        let u = visit(
-            padded,
-            nodes,
-            perm,
-            rows,
-            handles,
-            materials,
-            columns,
-            floats,
-            words,
-            members,
-            edges,
-            q,
-            depth + 1,
-            t,
-            seq,
-            images,
-            fs,
-            ws,
-        );
-        if depth + 1 < q.order {
-            // field by field, so that the compiler keeps the tally of a last image out of memory
-            let v = Tally {
-                nodes: u.nodes,
-                rays: u.rays,
-                found: u.found,
-                over: u.over,
-            };
-            let r = expand_images(
+        if q.limit <= s.nodes {
+            continue;
+        }
+        if may(floats, words, q, seq, depth, at) {
+            push(floats, words, q.count, depth, at, seq, images);
+            if too_far(images, depth + 1, q.listener, q.beyond) {
+                s.nodes = s.nodes + 1;
+            } else {
+                s = visit(
+                    padded,
+                    nodes,
+                    perm,
+                    rows,
+                    handles,
+                    materials,
+                    columns,
+                    floats,
+                    words,
+                    members,
+                    edges,
+                    q,
+                    depth + 1,
+                    s,
+                    seq,
+                    images,
+                    fs,
+                    ws,
+                );
+            }
+            if depth + 1 == q.order {
+                continue;
+            }
+            if depth + 2 == q.order {
+                s = last_planes(
+                    padded,
+                    nodes,
+                    perm,
+                    rows,
+                    handles,
+                    materials,
+                    columns,
+                    floats,
+                    words,
+                    members,
+                    edges,
+                    q,
+                    depth + 1,
+                    s,
+                    seq,
+                    images,
+                    fs,
+                    ws,
+                );
+                continue;
+            }
+            s = expand_images(
                 padded,
                 nodes,
                 perm,
@@ -438,22 +592,15 @@ fn node(
                 edges,
                 q,
                 depth + 1,
-                v,
+                s,
                 seq,
                 images,
                 fs,
                 ws,
             );
-            return Tally {
-                nodes: r.nodes,
-                rays: r.rays,
-                found: r.found,
-                over: r.over,
-            };
         }
-        return u;
     }
-    t
+    s
 }
 
 // The images before the search: the source stands first.

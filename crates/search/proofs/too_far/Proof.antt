@@ -1,9 +1,8 @@
-use borrow.Author.Needs.{needs}
 use native.Mathlib.Omega.{arith}
 use Rattle.search.proofs.too_far.Statement.{statement}
 use Rattle.search.proofs.too_far.Tie as tie
 
--- `search::too_far` meets its contract: the square of the way from the image to the listener.
+-- `search::too_far` meets its contract: `far` of the image that stands there.
 
 mul-vec-in : tie.Need-mul-vec-in
 mul-vec-in c = omega (arith, c .before .pre)
@@ -12,7 +11,7 @@ vec-in-requires : tie.Need-vec-in-requires
 vec-in-requires c κs = omega (arith, c .before .pre)
 
 returns : tie.Need-returns
-returns c = rw (c .dot3 .ensures, c .before .sub3 .ensures, c .before .before .vec-in .ensures)
+returns c = rw (c .far .ensures, c .before .vec-in .ensures)
 
 pub too-far-spec : {M : Type 1} → statement M
 too-far-spec =
@@ -20,6 +19,5 @@ too-far-spec =
     (tie.spec
     mul-vec-in
     vec-in-requires
-    (λ c κs. tt)
     (λ c κs. tt)
     returns)

@@ -1,66 +1,17 @@
-use mathlib.Core.Path.{_≡_, refl, sym, ap, _∙_}
-use mathlib.Core.Bool.{not}
-use Prim.Native.Nat.{ℕ, _+_, _*_, _≤_}
 use native.Mathlib.Omega.{arith}
-use lib.Dec.{eqb}
-use lib.ListN.{length, take}
-use Rattle.mirror.specs.Rows.{planesIn}
-use Rattle.bounces.specs.Areas.{pointIn}
-use Rattle.paths.proofs.Laws.{path-far, path-lost}
-use Rattle.claim.specs.Answer.{fails}
-use Rattle.claim.specs.Query.{visitPath}
-use Rattle.search.specs.Outcome.{outcomeOf}
-use Rattle.search.proofs.Laws.{judged-lost, square-far}
+use Rattle.search.specs.Contract.{scene}
+use Rattle.search.proofs.Walks as law
 use Rattle.search.proofs.visit.Statement.{statement}
 use Rattle.search.proofs.visit.Tie as tie
 
--- `search::visit` meets its contract: a path whose image is too far, or whose bounces are not all made, fails with no ray traced.
+-- `search::visit` meets its contract: a path whose bounces are not all made fails with no ray traced.
 
-too-far-requires : tie.Need-too-far-requires
-too-far-requires c κs = let pre = c .before .before .before .before .before .before .before .before .before .before .before .before .before .before .before .pre in omega (arith, pre .within, pre .sound .images-room)
-
-add-far : tie.Need-add-far
-add-far c = omega (arith, c .before .before .before .before .before .before .before .before .before .before .before .before .before .before .before .before .before .before .pre .under)
-
-returns : tie.Need-returns
-unfolding visitPath outcomeOf
-returns c = let a = c .before .before .before .before .before .before .before .before .before .before .before .before .before .before .before .before .before .before .args in
-    let pre = c .before .before .before .before .before .before .before .before .before .before .before .before .before .before .before .before .before .before .pre in
-    record {
-      counted = refl;
-      cost = omega arith;
-      few = pre .sound .few;
-      seen =
-          λ tri t h.
-          judged-lost (a .q .room) (a .t .found) (a .t .nodes) (a .t .rays) (a .fs .now) (a .ws .now) (not (eqb (a .t .over) 0)) (take (a .len) (a .seq .now)) _
-          (sym (ap outcomeOf
-          (path-far (a .q .settings) (planesIn (a .floats .now) (a .words .now) (a .members .now) (a .edges .now) (a .q .count)) tri t (a .materials .now) (a .q .source) (a .q .listener) (a .seq .now) (pointIn (a .images .now)) (a .len) (omega (arith, pre .within, pre .sound .seq-room)) (pre .sound .are)
-          (square-far (a .q .settings .«max_reflection_distance») (a .q .beyond) (a .q .listener) (pointIn (a .images .now) (a .len)) (pre .far) (sym (c .before .before .too-far .ensures) ∙ c .before .if1 .taken)))));
-    }
-
-fate-back-requires : tie.Need-fate-back-requires
-fate-back-requires c κs = let pre = c .before .before .before .before .before .before .before .before .before .before .before .before .before .before .before .before .before .pre in (pre .lent .planes, ((omega (arith, pre .within, pre .sound .seq-room), omega (arith, pre .within, pre .sound .images-room)), pre .sound .planes))
-
-add-s : tie.Need-add-s
-add-s c = omega (arith, c .before .before .before .before .before .before .before .before .before .before .before .before .before .before .before .before .before .before .before .before .pre .under)
-
-returns-2 : tie.Need-returns-2
-unfolding visitPath outcomeOf
-returns-2 c = let a = c .before .before .before .before .before .before .before .before .before .before .before .before .before .before .before .before .before .before .before .before .args in
-    let pre = c .before .before .before .before .before .before .before .before .before .before .before .before .before .before .before .before .before .before .before .before .pre in
-    record {
-      counted = refl;
-      cost = omega arith;
-      few = pre .sound .few;
-      seen =
-          λ tri t h.
-          judged-lost (a .q .room) (a .t .found) (a .t .nodes) (a .t .rays) (a .fs .now) (a .ws .now) (not (eqb (a .t .over) 0)) (take (a .len) (a .seq .now)) _
-          (path-lost (a .q .settings) (planesIn (a .floats .now) (a .words .now) (a .members .now) (a .edges .now) (a .q .count)) tri t (a .materials .now) (a .q .source) (a .q .listener) (a .seq .now) (pointIn (a .images .now)) (a .len) (omega (arith, pre .within, pre .sound .seq-room)) (pre .sound .are)
-          outcomeOf (fails 0) refl refl refl (λ z. c .before .if2 .taken (c .before .before .fate-back .ensures tri (a .q .settings .«reflection_edge_fade») (h .planes) ∙ z)));
-    }
+made-requires : tie.Need-made-requires
+made-requires c κs = let pre = c .before .before .before .before .before .before .before .before .before .before .before .before .before .before .before .pre in
+    (pre .lent .planes, ((omega (arith, pre .within, pre .sound .seq-room), omega (arith, pre .within, pre .sound .images-room)), pre .sound .planes))
 
 judge-requires : tie.Need-judge-requires
-judge-requires c κs = c .before .before .before .before .before .before .before .before .before .before .before .before .before .before .before .before .before .before .before .before .before .pre
+judge-requires c κs = c .before .before .before .before .before .before .before .before .before .before .before .before .before .before .before .before .before .before .before .pre
 
 same-length : tie.Need-same-length
 same-length c = c .before .before .before .before .judge .kept .1 .1 .1 .1 .1 .1 .1 .1 .1 .1 .1 .1 .1 .1 .1 .1 .0
@@ -68,20 +19,25 @@ same-length c = c .before .before .before .before .judge .kept .1 .1 .1 .1 .1 .1
 same-length-2 : tie.Need-same-length-2
 same-length-2 c = c .before .before .before .before .judge .kept .1 .1 .1 .1 .1 .1 .1 .1 .1 .1 .1 .1 .1 .1 .1 .1 .1 .0
 
-returns-3 : tie.Need-returns-3
-returns-3 c = c .before .before .before .before .judge .ensures
+returns : tie.Need-returns
+returns c = c .before .before .before .before .judge .ensures
+
+add-s : tie.Need-add-s
+add-s c = omega (arith, c .before .before .before .before .before .before .before .before .before .before .before .before .before .before .before .before .before .before .pre .under)
+
+returns-2 : tie.Need-returns-2
+returns-2 c = let a = c .before .before .before .before .before .before .before .before .before .before .before .before .before .before .before .before .before .before .args in
+    let pre = c .before .before .before .before .before .before .before .before .before .before .before .before .before .before .before .before .before .before .pre in
+    law.visited-lost (scene (a .padded .now) (a .nodes .now) (a .perm .now) (a .rows .now) (a .handles .now) (a .materials .now) (a .columns .now) (a .floats .now) (a .words .now) (a .members .now) (a .edges .now)) (a .q) (a .len) (a .seq .now) (a .images .now) (a .t) (a .fs .now) (a .ws .now) (pre .within) (pre .sound) (c .before .before .made .ensures (c .before .if1 .left))
 
 pub visit-spec : {M : Type 1} → statement M
 visit-spec =
     tie.close
     (tie.spec
-    too-far-requires
-    add-far
-    returns
-    fate-back-requires
-    add-s
-    returns-2
+    made-requires
     judge-requires
     same-length
     same-length-2
-    returns-3)
+    returns
+    add-s
+    returns-2)
