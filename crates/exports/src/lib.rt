@@ -1,5 +1,6 @@
 // What C and Rust call: each function stands for one of the port, with numbers and slices alone. A `&[T]` passes as a pointer and then
-// a length. include/bivelondry.h declares them; reference/crates/port wraps them for Rust and tests what a `requires` asks.
+// a length. include/bivelondry.h declares those that a station calls, include/bivelondry_stages.h the others; bindings/rust and
+// reference/crates/port wrap them for Rust.
 use answer::Answered;
 use bands::Band8;
 use packet::Reading;
@@ -24,9 +25,11 @@ ghost use Rattle.order.specs.Radix.{upper};
 ghost use Rattle.packet.specs.Reader.{readAnswer, readArea, readRefusal, readCounts};
 ghost use Rattle.packet.specs.Writer.{writeAnswer, writeOut, writeRefusal, writeLength};
 ghost use Rattle.scene.specs.Scene.{scene};
+ghost use Rattle.scene.specs.Limits.{mostTriples};
 ghost use Rattle.placing.specs.Loading.{firstRefusal};
 ghost use Rattle.exports.specs.Model.{curveOf, modelOf};
 ghost use Rattle.exports.specs.Settings.{settingsFrom};
+ghost use Rattle.exports.specs.Lengths.{leastLengths, LengthsSet};
 ghost use Rattle.exports.specs.Loads.{Loads};
 ghost use Rattle.exports.specs.Hits.{rayFrom, flatOf, Hits};
 ghost use Rattle.geometry.specs.declared.Triangle.{Triangle};
@@ -257,6 +260,114 @@ fn lengths_from(lens: &[usize]) -> [usize; scene::AREAS]
         k += 1;
     }
     all
+}
+
+// The least length of each area, as refusal 5 tests it (docs/AREAS.md): so much a triple,
+const AREA_TRIPLES: [usize; scene::AREAS] = [
+    columns::COLUMNS, // columns
+    1, // handles
+    22, // tree
+    8, // nodes
+    1, // perm
+    3, // hi
+    3, // lo
+    24, // words
+    24, // scratch
+    3, // index
+    3, // id
+    1, // first
+    1, // next
+    1, // of
+    24, // linked
+    3, // queue
+    3, // starts
+    12, // gfloats
+    1, // members
+    12, // rows
+    5, // kept
+    18, // edges
+    0, // output
+];
+
+// so much a candidate,
+const AREA_CANDIDATES: [usize; scene::AREAS] = [
+    0, // columns
+    0, // handles
+    0, // tree
+    0, // nodes
+    0, // perm
+    1, // hi
+    0, // lo
+    1, // words
+    1, // scratch
+    0, // index
+    2, // id
+    0, // first
+    0, // next
+    0, // of
+    0, // linked
+    1, // queue
+    0, // starts
+    13, // gfloats
+    0, // members
+    0, // rows
+    0, // kept
+    0, // edges
+    0, // output
+];
+
+// and so much more.
+const AREA_MORE: [usize; scene::AREAS] = [
+    0, // columns
+    0, // handles
+    0, // tree
+    0, // nodes
+    0, // perm
+    0, // hi
+    0, // lo
+    0, // words
+    0, // scratch
+    0, // index
+    0, // id
+    0, // first
+    64, // next
+    0, // of
+    4096, // linked
+    0, // queue
+    1, // starts
+    0, // gfloats
+    1, // members
+    0, // rows
+    0, // kept
+    0, // edges
+    3465, // output
+];
+
+const MOST_TRIPLES: usize = 4096;
+
+fn put_lengths(t: usize, room: usize, lens: &mut [usize])
+    requires { ⌜ (t ≤ mostTriples) × (room < 4294967296) × (length (now lens) ≡ 23) ⌝ }
+    ensures { λ _. ⌜ now (lens .exit) ≡ leastLengths t room ⌝ }
+{
+    let mut i = 0;
+    while i < scene::AREAS {
+        lens[i] = AREA_TRIPLES[i] * t + AREA_CANDIDATES[i] * room + AREA_MORE[i];
+        i += 1;
+    }
+}
+
+// The least lengths of all areas for so many triples and candidates, in the order of docs/AREAS.md. False, and nothing is written, for more
+// triples than a scene may have.
+#[no_mangle]
+pub extern "C" fn biv_area_lengths(triples: usize, c: u32, lens: &mut [usize]) -> bool
+    requires { ⌜ length (now lens) ≡ 23 ⌝ }
+    ensures { λ r. ⌜ LengthsSet triples c (now (lens .entry)) r (now (lens .exit)) ⌝ }
+{
+    if triples > MOST_TRIPLES {
+        return false;
+    }
+    put_lengths(triples, c as usize, lens);
+    true
 }
 
 // Answers the first refusal of 1 to 6 that applies; or 0, and how many triangles, placings and whole triples there are. `lens` are the lengths
