@@ -167,7 +167,9 @@ struct biv_tap {
 
 typedef char biv_tap_is_14_words[sizeof(struct biv_tap) == 14 * sizeof(uint32_t) ? 1 : -1];
 
-/* ---- the functions of the archive. A slice is a pointer, never NULL, and then a length; no two overlap. */
+/* ---- the functions of the archive, which is for x86-64. A slice is a pointer, never NULL, and then a length; no two overlap. */
+
+typedef char biv_size_is_64_bits[sizeof(size_t) == 8 ? 1 : -1];
 
 #define BIV_AREAS_LENT 23 /* 22 work areas and the output */
 
