@@ -1,38 +1,180 @@
-/* The port as C sees it: the functions of crates/exports, in target/staticlib/libexports.a (made by `rt staticlib exports`).
- * Each is proved equal to the definition named beside it; nothing checks these declarations against the Rattle source. */
+/* Bivelondry for C and C++: the echo taps of a booth of flat panels.
+ *
+ * A caller has settings, a scene, one block of memory for the work and one output buffer:
+ *
+ *     struct biv_settings settings = biv_default_settings();
+ *     size_t size = biv_block_size(biv_triples(&scene), c);
+ *     void *block = calloc(1, size);
+ *     uint8_t out[BIV_OUTPUT_BYTES];
+ *     struct biv_answer answer;
+ *     uint32_t refusal = biv_trace(&settings, c, &scene, source, listener, false, block, size, out, sizeof out, &answer);
+ *     if (refusal != BIV_NO_REFUSAL)
+ *         fprintf(stderr, "%s\n", biv_refusal_text(refusal));
+ *     else
+ *         refusal = biv_read(out, answer.bytes, taps, &answer);
+ *
+ * bindings/c/case_a.c is the whole of it. The block may be used again and again, for every scene that it is long enough for; two calls at the same
+ * time need a block each. What it holds does not matter, but it is read, so it must have been set once, as calloc does (docs/HARDENING.md). Nothing
+ * else is kept between calls, and nothing is allocated.
+ *
+ * Link target/staticlib/libexports.a (made by `rt staticlib exports`). What is proved is what stands there; this header hands on to it, and nothing
+ * checks its declarations against the Rattle source but the tests of bindings/. The stages alone are in bivelondry_stages.h. */
 #ifndef BIVELONDRY_H
 #define BIVELONDRY_H
 
 #include <stdbool.h>
 #include <stddef.h>
 #include <stdint.h>
+#include <string.h>
 
 #ifdef __cplusplus
 extern "C" {
 #endif
 
-/* ---- numbers: any float, NaN and infinities too */
+/* ---- refusals: of several that apply, the lowest is answered, and all counts are 0 */
 
-float biv_sqrt(float x);                           /* float/specs/Sqrt.antt, sqrtOf */
-int64_t biv_round(float x);                        /* float/specs/Round.antt, roundOf: halves away from zero */
-float biv_min(float a, float b);                   /* float/specs/Compare.antt, minOf */
-float biv_max(float a, float b);                   /* maxOf */
-float biv_clamp(float x, float low, float high);   /* clampOf */
-float biv_abs(float x);                            /* absOf */
+enum biv_refusal {
+    BIV_NO_REFUSAL = 0,
+    /* of a query */
+    BIV_SETTINGS = 1,
+    BIV_LENGTHS = 2,
+    BIV_MATERIAL = 3,
+    BIV_TRIANGLES = 4,
+    BIV_AREAS = 5,
+    BIV_FAR = 6,
+    BIV_CANDIDATES = 7,
+    /* of a packet */
+    BIV_BYTES = 8,
+    BIV_COUNTS = 9,
+    BIV_NUMBERS = 10,
+    BIV_TAP_ORDER = 11
+};
 
-/* bands/specs/Distance.antt, gainOf. The curve is 0 for Inverse, else Linear. */
-float biv_distance_gain(uint32_t curve, float reference_distance, float rolloff_factor, float min_distance, float max_distance, float distance);
+static inline const char *biv_refusal_text(uint32_t refusal)
+{
+    switch (refusal) {
+    case BIV_NO_REFUSAL: return "no refusal";
+    case BIV_SETTINGS: return "a setting or the candidate room lies outside its limits";
+    case BIV_LENGTHS: return "a part of the scene has not the length that its counts say";
+    case BIV_MATERIAL: return "a mesh has a material handle without a row";
+    case BIV_TRIANGLES: return "the meshes hold more than 4,096 whole index triples";
+    case BIV_AREAS: return "the output or tap area, or the block of memory, is too short";
+    case BIV_FAR: return "a placed corner is not finite or beyond 10,000";
+    case BIV_CANDIDATES: return "more paths pass than there is candidate room";
+    case BIV_BYTES: return "the packet's bytes end early or go on after the last tap";
+    case BIV_COUNTS: return "the packet's count, images, an order or an image number is out of range";
+    case BIV_NUMBERS: return "a float of the packet is not finite, a delay or a gain not above 0";
+    case BIV_TAP_ORDER: return "an image number comes twice, or the taps do not fall in squared-gain sum";
+    default: return "no refusal of this library";
+    }
+}
 
-/* ---- the sort: a slice is a pointer and then a length */
+/* ---- what a query takes */
 
-/* order/specs/Sort.antt. Sorts words by their upper 32 bits, stably; scratch is as long as a. */
-void biv_sort_words(uint64_t *a, size_t a_len, uint64_t *scratch, size_t scratch_len);
+#define BIV_MOST_TRIPLES 4096
+#define BIV_MOST_CANDIDATES 250000
+#define BIV_MOST_TAPS 64
+#define BIV_BANDS 8
+#define BIV_OUTPUT_BYTES 3465 /* the longest packet: 9 bytes, and 54 for each of 64 taps */
 
-/* Sorts positions of keys by their keys, stably: each position is below keys_len; words and scratch are as long as index or longer. */
-void biv_sort_by_key(const uint64_t *keys, size_t keys_len, uint32_t *index, size_t index_len, uint64_t *words, size_t words_len,
-                     uint64_t *scratch, size_t scratch_len);
+enum biv_curve { BIV_INVERSE = 0, BIV_LINEAR = 1 };
 
-/* ---- the packet */
+struct biv_distance_model {
+    uint32_t curve; /* enum biv_curve; another number is refused with BIV_SETTINGS */
+    float reference_distance, rolloff_factor, min_distance, max_distance; /* each 0 to 1,000,000 */
+};
+
+/* By the Rust's names; the limits are those of refusal 1. */
+struct biv_settings {
+    uint32_t max_reflection_order;    /* any; used as at most 8 */
+    uint32_t max_reflections;         /* any; used as at most 64 */
+    uint32_t max_reflection_planes;   /* 0 to 256 */
+    float reflection_edge_fade;       /* finite */
+    float max_reflection_distance;    /* above 0, at most 1,000 */
+    float speed_of_sound;             /* 100 to 2,000 */
+    float sample_rate;                /* 8,000 to 192,000 */
+    float plane_merge_cos;            /* -1 to 1: the cosine of the Rust's plane_merge_angle_deg */
+    bool plane_merge;                 /* whether that angle is above 0 */
+    float plane_merge_offset;         /* finite */
+    float plane_buried_distance;      /* finite */
+    struct biv_distance_model distance_model;
+};
+
+/* The Rust's defaults. */
+static inline struct biv_settings biv_default_settings(void)
+{
+    struct biv_settings s;
+    s.max_reflection_order = 3;
+    s.max_reflections = 16;
+    s.max_reflection_planes = 32;
+    s.reflection_edge_fade = 0.1f;
+    s.max_reflection_distance = 50.0f;
+    s.speed_of_sound = 343.0f;
+    s.sample_rate = 48000.0f;
+    s.plane_merge_cos = 0.99619472f; /* of 5 degrees, bits 3f7f069e */
+    s.plane_merge = true;
+    s.plane_merge_offset = 0.25f;
+    s.plane_buried_distance = 0.05f;
+    s.distance_model.curve = BIV_INVERSE;
+    s.distance_model.reference_distance = 1.0f;
+    s.distance_model.rolloff_factor = 1.0f;
+    s.distance_model.min_distance = 1.0f;
+    s.distance_model.max_distance = 10000.0f;
+    return s;
+}
+
+/* The parts of a scene, each a pointer and how many elements it has; a part of none may be NULL. */
+struct biv_scene {
+    const uint32_t *meshes; /* 3 a mesh: vertices, indices, material handle */
+    size_t meshes_len;
+    const float *transforms; /* 16 a mesh, column by column */
+    size_t transforms_len;
+    const float *positions; /* 3 a vertex, mesh after mesh */
+    size_t positions_len;
+    const uint32_t *indices; /* mesh after mesh, each into the mesh's own vertices */
+    size_t indices_len;
+    const float *materials; /* 16 a row: absorption, then transmission, of eight bands */
+    size_t materials_len;
+    uint32_t rows;
+};
+
+/* The whole index triples of a scene, which its block is sized by. */
+static inline size_t biv_triples(const struct biv_scene *scene)
+{
+    size_t triples = 0;
+    for (size_t m = 0; m + 3 <= scene->meshes_len; m += 3)
+        triples += scene->meshes[m + 1] / 3;
+    return triples;
+}
+
+/* ---- what it answers */
+
+struct biv_answer {
+    size_t count;    /* taps */
+    uint32_t images; /* sequences of planes tried */
+    uint32_t rays;   /* traced for them */
+    size_t bytes;    /* of the packet */
+};
+
+/* A tap as the packet has it: 14 words of 32 bits. */
+struct biv_tap {
+    uint32_t order;
+    uint32_t number;
+    float direction[3];
+    float delay_samples;
+    float gains[BIV_BANDS];
+};
+
+typedef char biv_tap_is_14_words[sizeof(struct biv_tap) == 14 * sizeof(uint32_t) ? 1 : -1];
+
+/* ---- the functions of the archive, which is for x86-64. A slice is a pointer, never NULL, and then a length; no two overlap. */
+
+typedef char biv_size_is_64_bits[sizeof(size_t) == 8 ? 1 : -1];
+
+#define BIV_AREAS_LENT 23 /* 22 work areas and the output */
+
+/* exports/specs/Lengths.antt. The least lengths of all areas, in elements, for so many triples and candidates; false for more than 4,096 triples. */
+bool biv_area_lengths(size_t triples, uint32_t c, size_t *lens, size_t lens_len);
 
 /* packet/specs/Reader.antt. Answers the refusal (5, 8 to 11) or 0; found[0..3] are count, images and rays, 0 after a refusal. */
 uint32_t biv_packet_read(const uint8_t *bytes, size_t bytes_len, uint32_t *taps, size_t taps_len, size_t *found, size_t found_len);
@@ -41,131 +183,15 @@ uint32_t biv_packet_read(const uint8_t *bytes, size_t bytes_len, uint32_t *taps,
 uint32_t biv_packet_write(size_t count, uint32_t images, uint32_t rays, const uint32_t *taps, size_t taps_len, uint8_t *out, size_t out_len,
                           size_t *found, size_t found_len);
 
-/* ---- the scene */
-
-/* placing/specs/Loading.antt. Answers the first refusal of 1 to 6 that applies; or 0, with found[0..3] the triangles kept, the placings
- * made and the whole triples. counts has 5 words: max_reflection_order, max_reflections, max_reflection_planes, plane_merge (0 or not),
- * curve (0 is Inverse). floats has 11: reflection_edge_fade, max_reflection_distance, speed_of_sound, sample_rate, plane_merge_cos,
- * plane_merge_offset, plane_buried_distance, reference_distance, rolloff_factor, min_distance, max_distance. lens has 23: the lengths of
- * all areas that a query is lent, in the order of docs/AREAS.md, the first two columns_len and handles_len. found has 3 or more. The
- * lengths of counts, floats, lens and found, and those two, are the caller's to keep; every other length is tested. */
-uint32_t biv_load_scene(const uint32_t *counts, size_t counts_len, const float *floats, size_t floats_len, uint32_t c,
-                        const uint32_t *meshes, size_t meshes_len, const float *transforms, size_t transforms_len,
-                        const float *positions, size_t positions_len, const uint32_t *indices, size_t indices_len,
-                        const float *materials, size_t materials_len, uint32_t rows,
-                        const size_t *lens, size_t lens_len,
-                        float *columns, size_t columns_len, uint32_t *handles, size_t handles_len, size_t *found, size_t found_len);
-
-/* ---- the tree */
-
-/* bvh/specs/Bvh.antt. The tree over the first perm_len triangles of columns of n floats (what biv_load_scene left); 0 < perm_len <= n and
- * perm_len < 65,536. Answers the count of its nodes, 0 where a centroid is not finite. In triangles m = perm_len the least lengths are:
- * extents 9 m, keys 3 m, words, scratch and areas m, boxes 12 m, nodes 8 m, tree 22 m. A node is six floats of boxes (least and greatest
- * corner) and four words of nodes (left, right, start, len; len is 0 unless it is a leaf, whose triangles stand in perm from start on).
- * tree has in its first 12 m floats the padded boxes, in the next 10 m the rows: what the functions below take as padded and rows.
- * The caller keeps the lengths. */
-size_t biv_build_flat_bvh(const float *columns, size_t columns_len, const uint32_t *handles, size_t handles_len, size_t n,
-                          float *extents, size_t extents_len, uint64_t *keys, size_t keys_len, uint32_t *perm, size_t perm_len,
-                          uint64_t *words, size_t words_len, uint64_t *scratch, size_t scratch_len, float *areas, size_t areas_len,
-                          float *boxes, size_t boxes_len, uint32_t *nodes, size_t nodes_len, float *tree, size_t tree_len);
-
-/* trace/specs/Trace.antt, intersectOf. The nearest hit in a tree of count nodes, count above 0, that biv_build_flat_bvh left in padded,
- * nodes, perm and rows. ray has 8 floats: origin, direction, least and greatest distance. Answers whether there is a hit; hit (4 floats or
- * more) then has its distance and point, place its triangle; else they are as they were. */
-bool biv_intersect(const float *padded, size_t padded_len, const uint32_t *nodes, size_t nodes_len, const uint32_t *perm, size_t perm_len,
-                   const float *rows, size_t rows_len, const uint32_t *handles, size_t handles_len, size_t count,
-                   const float *ray, size_t ray_len, float *hit, size_t hit_len, size_t *place, size_t place_len);
-
-/* ---- planes */
-
-/* planes/specs/Build.antt, planesOf. The mirror planes of the first m triangles of columns of n floats (what biv_load_scene left, with its
- * handles; m <= n <= 4,096), over their tree of nodes_count above 0 nodes in padded, nodes, perm and leaves (rows of biv_build_flat_bvh), by
- * the settings counts and setting_floats (as for biv_load_scene). Answers how many planes there are; they stand in rows (12 floats each),
- * kept (5 words each), members and edges, as biv_path takes them. Lengths: hi, lo and index 3 n exactly; at least words and scratch 24 n, id
- * and queue 3 n, first and of n, next and members n + 1, starts 3 n + 1, linked 24 n and 4,096, kept 5 n, rows and gfloats 12 n, edges 18 n.
- * The caller keeps them. */
-size_t biv_build_planes(const float *columns, size_t columns_len, const uint32_t *handles, size_t handles_len, size_t n, size_t m,
-                        const uint32_t *counts, size_t counts_len, const float *setting_floats, size_t setting_floats_len,
-                        const float *padded, size_t padded_len, const uint32_t *nodes, size_t nodes_len, const uint32_t *perm, size_t perm_len,
-                        const float *leaves, size_t leaves_len, size_t nodes_count,
-                        uint64_t *hi, size_t hi_len, uint64_t *lo, size_t lo_len, uint64_t *words, size_t words_len,
-                        uint64_t *scratch, size_t scratch_len, uint32_t *index, size_t index_len, uint32_t *id, size_t id_len,
-                        uint32_t *first, size_t first_len, uint32_t *next, size_t next_len, uint32_t *of, size_t of_len,
-                        uint32_t *linked, size_t linked_len, uint32_t *queue, size_t queue_len, uint32_t *starts, size_t starts_len,
-                        float *gfloats, size_t gfloats_len, uint32_t *members, size_t members_len, float *rows, size_t rows_len,
-                        uint32_t *kept, size_t kept_len, float *edges, size_t edges_len);
-
-/* ---- paths */
-
-/* paths/specs/Path.antt, pathOf. The path from source by way of the planes seq (1 to 8 of them, source side first, each below count) to
- * listener. Answers its fate: 0 for a candidate, else the first test that failed: 1 image too far, 2 plane not crossed, 3 off the surface,
- * 4 too long, 5 faded at an edge, 6 blocked, 7 too faint. rays[0] gets the rays traced; found (13 floats or more) gets a candidate's energy,
- * delay, direction (3) and gains (8), and is as it was for the other fates. padded, nodes, perm, rows and handles are those of
- * biv_intersect, with nodes_count above 0 nodes; a row of materials is 16 floats (absorptions, transmissions), and each handle has one, as has
- * handle 0; columns have n floats each. A plane is 12 floats of floats (normal, offset, box from, box to, spread, area) and 5 words of words
- * (first and count of its triangles in members, first and count of its border edges in edges, fitted); an edge is 6 floats, a triangle is
- * below n. counts and setting_floats are the settings as for biv_load_scene, source and listener 3 floats each. The caller keeps all this. */
-uint32_t biv_path(const float *padded, size_t padded_len, const uint32_t *nodes, size_t nodes_len, const uint32_t *perm, size_t perm_len,
-                  const float *rows, size_t rows_len, const uint32_t *handles, size_t handles_len, size_t nodes_count,
-                  const float *materials, size_t materials_len, const float *columns, size_t columns_len, size_t n,
-                  const float *floats, size_t floats_len, const uint32_t *words, size_t words_len,
-                  const uint32_t *members, size_t members_len, const float *edges, size_t edges_len, size_t count,
-                  const uint32_t *counts, size_t counts_len, const float *setting_floats, size_t setting_floats_len,
-                  const uint32_t *seq, size_t seq_len, const float *source, size_t source_len, const float *listener, size_t listener_len,
-                  float *found, size_t found_len, uint32_t *rays, size_t rays_len);
-
-/* bounces/specs/Bounces.antt, bouncesOf. The bounces on the planes seq (as for biv_path), found from the listener back to the source. Answers 0
- * where all are made, else 2 (a plane is not crossed) or 3 (a point is off the surface), whatever the image's distance. points (24 floats or
- * more) gets the points where all are made, three floats each, the one next to the source first; else it holds nothing of use. fade is the
- * width of the edge window. */
-uint32_t biv_bounces(const float *columns, size_t columns_len, size_t n, const float *floats, size_t floats_len,
-                     const uint32_t *words, size_t words_len, const uint32_t *members, size_t members_len,
-                     const float *edges, size_t edges_len, size_t count, float fade, const uint32_t *seq, size_t seq_len,
-                     const float *source, size_t source_len, const float *listener, size_t listener_len, float *points, size_t points_len);
-
-/* ---- ranking */
-
-/* ranking/specs/Rows.antt, Ranked. Puts the positions of the candidates kept, best first, into out; answers how many. A candidate is 13
- * floats of fs (energy, delay, direction, gains; energy and delay are numbers) and 2 words of ws (order, number); there are n. keys, index,
- * words and scratch have n, out has limit; the caller keeps the lengths. */
-size_t biv_rank_reflections(const float *fs, size_t fs_len, const uint32_t *ws, size_t ws_len, size_t n, float speed, float rate, size_t limit,
-                            uint64_t *keys, size_t keys_len, uint32_t *index, size_t index_len, uint64_t *words, size_t words_len,
-                            uint64_t *scratch, size_t scratch_len, uint32_t *out, size_t out_len);
-
-/* search/specs/Outcome.antt, exports/specs/Searches.antt. All sequences of up to order planes (order at most 8, count at most 256) with their
- * paths; areas and settings as biv_path has them. found (3 or more) gets images, rays and candidates; the candidates stand in fs and ws,
- * which have room for `room` rows (13 floats and 2 words each), as biv_rank_reflections takes them. Answers whether one found no room. */
-bool biv_search_images(const float *padded, size_t padded_len, const uint32_t *nodes, size_t nodes_len, const uint32_t *perm, size_t perm_len,
-                       const float *rows, size_t rows_len, const uint32_t *handles, size_t handles_len, size_t nodes_count,
-                       const float *materials, size_t materials_len, const float *columns, size_t columns_len, size_t n,
-                       const float *floats, size_t floats_len, const uint32_t *words, size_t words_len,
-                       const uint32_t *members, size_t members_len, const float *edges, size_t edges_len, size_t count,
-                       const uint32_t *counts, size_t counts_len, const float *setting_floats, size_t setting_floats_len,
-                       const float *source, size_t source_len, const float *listener, size_t listener_len, size_t order, size_t room,
-                       float *fs, size_t fs_len, uint32_t *ws, size_t ws_len, size_t *found, size_t found_len);
-
-/* ---- the whole call */
-
-/* Refusals of biv_trace_early_reflections and biv_load_scene; of several that apply, the lowest. */
-enum {
-    BIV_NO_REFUSAL = 0,
-    BIV_SETTINGS = 1,     /* a setting or c is out of its range */
-    BIV_LENGTHS = 2,      /* the lengths of the scene's parts do not fit together */
-    BIV_MATERIAL = 3,     /* a material handle has no row */
-    BIV_TRIANGLES = 4,    /* more than 4,096 triples */
-    BIV_AREAS = 5,        /* a work area or the output area is short */
-    BIV_FAR = 6,          /* a placed corner is beyond 10,000 or no number */
-    BIV_CANDIDATES = 7    /* more than c candidates pass */
-};
-
 /* query/specs/Trace.antt, Traced. From settings, scene parts and positions to the packet of taps in out. Answers the refusal, or 0. found (4 words
  * or more) gets count, images, rays and the packet's length, zeros after a refusal. The 22 work areas come first, in the order of docs/AREAS.md,
- * which has their least lengths in whole triples T and c; short ones are refused. Nothing is read from them. After the refusals 1 to 5 they are as
- * they were, after 6, 7 and a result all zero. out (3,465 bytes or more) gets the packet, and is as it was past it and after a refusal. counts and
- * setting_floats are the settings as for biv_load_scene (5 and 11), source and listener 3 floats each; c is the candidate room. meshes has 3 words a
- * mesh (vertices, indices, material handle), transforms 16 floats a mesh, positions 3 floats a vertex, materials 16 floats a row. separated says
- * that source and listener are apart, so that nothing is heard. No two areas overlap. The caller keeps the lengths of counts, setting_floats,
- * source, listener and found; all others are tested. */
+ * which has their least lengths in whole triples T and c; short ones are refused. What they hold does not matter. After the refusals 1 to 5 they are
+ * as they were, after 6, 7 and a result all zero. out (3,465 bytes or more) gets the packet, and is as it was past it and after a refusal. counts has 5
+ * words: max_reflection_order, max_reflections, max_reflection_planes, plane_merge (0 or not), curve (0 is Inverse). setting_floats has 11:
+ * reflection_edge_fade, max_reflection_distance, speed_of_sound, sample_rate, plane_merge_cos, plane_merge_offset, plane_buried_distance,
+ * reference_distance, rolloff_factor, min_distance, max_distance. source and listener have 3 floats each; c is the candidate room. separated says
+ * that source and listener are apart, so that nothing is heard. The caller keeps the lengths of counts, setting_floats, source, listener and found;
+ * all others are tested. */
 uint32_t biv_trace_early_reflections(float *columns, size_t columns_len, uint32_t *handles, size_t handles_len, float *tree, size_t tree_len,
                                      uint32_t *nodes, size_t nodes_len, uint32_t *perm, size_t perm_len, uint64_t *hi, size_t hi_len,
                                      uint64_t *lo, size_t lo_len, uint64_t *words, size_t words_len, uint64_t *scratch, size_t scratch_len,
@@ -179,6 +205,134 @@ uint32_t biv_trace_early_reflections(float *columns, size_t columns_len, uint32_
                                      const float *positions, size_t positions_len, const uint32_t *indices, size_t indices_len,
                                      const float *materials, size_t materials_len, uint32_t rows_count, const float *source, size_t source_len,
                                      const float *listener, size_t listener_len, bool separated);
+
+/* ---- the block: all work areas, one behind the other */
+
+/* The work areas in the order of docs/AREAS.md, with their elements. */
+#define BIV_WORK(AREA) \
+    AREA(0, columns, float) AREA(1, handles, uint32_t) AREA(2, tree, float) AREA(3, nodes, uint32_t) AREA(4, perm, uint32_t) \
+    AREA(5, hi, uint64_t) AREA(6, lo, uint64_t) AREA(7, words, uint64_t) AREA(8, scratch, uint64_t) AREA(9, index, uint32_t) \
+    AREA(10, id, uint32_t) AREA(11, first, uint32_t) AREA(12, next, uint32_t) AREA(13, of, uint32_t) AREA(14, linked, uint32_t) \
+    AREA(15, queue, uint32_t) AREA(16, starts, uint32_t) AREA(17, gfloats, float) AREA(18, members, uint32_t) AREA(19, rows, float) \
+    AREA(20, kept, uint32_t) AREA(21, edges, float)
+
+#define BIV_FIELD(i, name, type) type *name;
+struct biv_work {
+    BIV_WORK(BIV_FIELD)
+    size_t lens[BIV_AREAS_LENT]; /* of the areas, then of the output */
+};
+#undef BIV_FIELD
+
+/* Every area begins at a multiple of this, which suits the elements of all of them. */
+#define BIV_ALIGNMENT 8
+
+static inline size_t biv_area_bytes(size_t len, size_t element)
+{
+    return (len * element + BIV_ALIGNMENT - 1) / BIV_ALIGNMENT * BIV_ALIGNMENT;
+}
+
+/* The bytes of a block for so many triples and candidates, wherever it begins; 0 where no scene has so many triples. */
+static inline size_t biv_block_size(size_t triples, uint32_t c)
+{
+    size_t lens[BIV_AREAS_LENT];
+    size_t size = BIV_ALIGNMENT - 1; /* the block may begin anywhere */
+    if (!biv_area_lengths(triples, c, lens, BIV_AREAS_LENT))
+        return 0;
+#define BIV_SIZE(i, name, type) size += biv_area_bytes(lens[i], sizeof(type));
+    BIV_WORK(BIV_SIZE)
+#undef BIV_SIZE
+    return size;
+}
+
+/* Carves the areas from a block. False where it is too short: all areas then have the length 0, which a query refuses. */
+static inline bool biv_carve(void *block, size_t size, size_t triples, uint32_t c, struct biv_work *work)
+{
+    static uint64_t nowhere; /* what a slice of no elements points to */
+    size_t need = biv_block_size(triples, c);
+    bool fits = block != NULL && need != 0 && need <= size;
+    uintptr_t at = fits ? ((uintptr_t)block + BIV_ALIGNMENT - 1) / BIV_ALIGNMENT * BIV_ALIGNMENT : (uintptr_t)&nowhere;
+    memset(work->lens, 0, sizeof work->lens);
+    if (fits)
+        (void)biv_area_lengths(triples, c, work->lens, BIV_AREAS_LENT);
+#define BIV_CUT(i, name, type) \
+    work->name = (type *)at; \
+    at += biv_area_bytes(work->lens[i], sizeof(type));
+    BIV_WORK(BIV_CUT)
+#undef BIV_CUT
+    return fits;
+}
+
+/* ---- the calls of a station */
+
+static inline const void *biv_part(const void *part)
+{
+    static const uint64_t nothing = 0;
+    return part != NULL ? part : (const void *)&nothing;
+}
+
+/* A query: the packet of taps stands in the first answer->bytes of out. Answers the refusal or 0. c is the candidate room, 0 to 250,000; block has
+ * biv_block_size(biv_triples(scene), c) bytes or more, out BIV_OUTPUT_BYTES or more: less is refused with BIV_AREAS. separated says that a wall
+ * stands between source and listener, so that nothing is heard. The block's areas are zero after a result and the refusals 6 and 7, and as they were
+ * after 1 to 5. */
+static inline uint32_t biv_trace(const struct biv_settings *settings, uint32_t c, const struct biv_scene *scene, const float source[3],
+                                 const float listener[3], bool separated, void *block, size_t size, uint8_t *out, size_t out_len,
+                                 struct biv_answer *answer)
+{
+    const struct biv_distance_model *m = &settings->distance_model;
+    const uint32_t counts[5] = {settings->max_reflection_order, settings->max_reflections, settings->max_reflection_planes,
+                                settings->plane_merge ? 1u : 0u, m->curve};
+    const float floats[11] = {settings->reflection_edge_fade, settings->max_reflection_distance, settings->speed_of_sound, settings->sample_rate,
+                              settings->plane_merge_cos, settings->plane_merge_offset, settings->plane_buried_distance, m->reference_distance,
+                              m->rolloff_factor, m->min_distance, m->max_distance};
+    struct biv_work w;
+    size_t found[4] = {0, 0, 0, 0};
+    uint32_t refusal = BIV_SETTINGS;
+    (void)biv_carve(block, size, biv_triples(scene), c, &w); /* what is too short is refused */
+    if (m->curve <= BIV_LINEAR)
+        refusal = biv_trace_early_reflections(
+            w.columns, w.lens[0], w.handles, w.lens[1], w.tree, w.lens[2], w.nodes, w.lens[3], w.perm, w.lens[4], w.hi, w.lens[5], w.lo, w.lens[6],
+            w.words, w.lens[7], w.scratch, w.lens[8], w.index, w.lens[9], w.id, w.lens[10], w.first, w.lens[11], w.next, w.lens[12],
+            w.of, w.lens[13], w.linked, w.lens[14], w.queue, w.lens[15], w.starts, w.lens[16], w.gfloats, w.lens[17], w.members, w.lens[18],
+            w.rows, w.lens[19], w.kept, w.lens[20], w.edges, w.lens[21], out, out_len, found, 4, counts, 5, floats, 11, c,
+            (const uint32_t *)biv_part(scene->meshes), scene->meshes_len, (const float *)biv_part(scene->transforms), scene->transforms_len,
+            (const float *)biv_part(scene->positions), scene->positions_len, (const uint32_t *)biv_part(scene->indices), scene->indices_len,
+            (const float *)biv_part(scene->materials), scene->materials_len, scene->rows, source, 3, listener, 3, separated);
+    answer->count = found[0];
+    answer->images = (uint32_t)found[1];
+    answer->rays = (uint32_t)found[2];
+    answer->bytes = found[3];
+    return refusal;
+}
+
+/* Reads a packet: its taps, best first, and its counts. Answers the refusal (8 to 11) or 0. Past the last tap read, and after a refusal, taps is as
+ * it was; after a refusal the counts are 0. */
+static inline uint32_t biv_read(const uint8_t *bytes, size_t bytes_len, struct biv_tap taps[BIV_MOST_TAPS], struct biv_answer *answer)
+{
+    uint32_t words[14 * BIV_MOST_TAPS];
+    size_t found[3] = {0, 0, 0};
+    uint32_t refusal = biv_packet_read((const uint8_t *)biv_part(bytes), bytes_len, words, 14 * BIV_MOST_TAPS, found, 3);
+    if (refusal == BIV_NO_REFUSAL)
+        memcpy(taps, words, found[0] * sizeof(struct biv_tap));
+    answer->count = found[0];
+    answer->images = (uint32_t)found[1];
+    answer->rays = (uint32_t)found[2];
+    answer->bytes = refusal == BIV_NO_REFUSAL ? bytes_len : 0;
+    return refusal;
+}
+
+/* Writes the packet of answer->count taps with answer's images and rays. Answers the refusal (5, 9 to 11) or 0; answer->bytes gets the packet's
+ * length, 0 after a refusal, which writes nothing. out has BIV_OUTPUT_BYTES or more. */
+static inline uint32_t biv_write(const struct biv_tap *taps, struct biv_answer *answer, uint8_t *out, size_t out_len)
+{
+    uint32_t words[14 * BIV_MOST_TAPS] = {0};
+    size_t found[1] = {0};
+    uint32_t refusal;
+    if (answer->count <= BIV_MOST_TAPS) /* more is refused */
+        memcpy(words, biv_part(taps), answer->count * sizeof(struct biv_tap));
+    refusal = biv_packet_write(answer->count, answer->images, answer->rays, words, 14 * BIV_MOST_TAPS, out, out_len, found, 1);
+    answer->bytes = found[0];
+    return refusal;
+}
 
 #ifdef __cplusplus
 }

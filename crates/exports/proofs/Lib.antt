@@ -1,2 +1,3 @@
 -- The laws that the proofs of `exports` cite.
+mod Lengths
 mod Answers

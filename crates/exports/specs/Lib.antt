@@ -1,2 +1,3 @@
--- The definition that the contract of the query cites: how the numbers that it gives stand for its answer.
+-- The definitions that the contracts of `exports` cite: how the numbers that a call gives stand for its answer, and the least lengths of the areas.
+pub mod Lengths
 pub mod Answers

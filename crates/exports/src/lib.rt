@@ -1,19 +1,21 @@
-// What a station calls from C or Rust: the query and the packet, with numbers and slices alone. A `&[T]` passes as a pointer and then a length.
-// include/bivelondry.h declares them.
+// What a station calls from C or Rust: the query, the packet and the lengths of the areas, with numbers and slices alone. A `&[T]` passes as a
+// pointer and then a length. include/bivelondry.h declares them, bindings/rust wraps them.
 use answer::Answered;
 use packet::Reading;
 use packet::Written;
 ghost use mathlib.Core.Path.{_≡_};
 ghost use mathlib.Core.List.{[], _∷_};
-ghost use Prim.Native.Nat.{_≤_};
+ghost use Prim.Native.Nat.{_≤_, _<_};
 ghost use lib.ListN.{length, drop};
 ghost use lib.Seq.{sets};
 ghost use Rattle.packet.specs.Reader.{readAnswer, readArea, readRefusal, readCounts};
 ghost use Rattle.packet.specs.Writer.{writeAnswer, writeOut, writeRefusal, writeLength};
 ghost use Rattle.scene.specs.Scene.{scene};
+ghost use Rattle.scene.specs.Limits.{mostTriples};
 ghost use Rattle.arguments.specs.Settings.{settingsFrom};
 ghost use Rattle.query.specs.Areas.{work, lengthsOf};
 ghost use Rattle.query.specs.Trace.{Traced as Called};
+ghost use Rattle.exports.specs.Lengths.{leastLengths, LengthsSet};
 ghost use Rattle.exports.specs.Answers.{answeredFrom};
 ghost use Rattle.arguments.specs.Point.{pointFrom};
 
@@ -70,6 +72,34 @@ pub extern "C" fn biv_packet_write(
             k
         }
     }
+}
+
+// ---- the areas
+
+// The least length of each area, by the table that refusal 5 tests (docs/AREAS.md).
+fn put_lengths(t: usize, room: usize, lens: &mut [usize])
+    requires { ⌜ (t ≤ mostTriples) × (room < 4294967296) × (length (now lens) ≡ 23) ⌝ }
+    ensures { λ _. ⌜ now (lens .exit) ≡ leastLengths t room ⌝ }
+{
+    let mut i = 0;
+    while i < scene::AREAS {
+        lens[i] = scene::TRIPLES[i] * t + scene::CANDIDATES[i] * room + scene::MORE[i];
+        i += 1;
+    }
+}
+
+// The least lengths of all areas for so many triples and candidates, in the order of docs/AREAS.md. False, and nothing is written, for more
+// triples than a scene may have.
+#[no_mangle]
+pub extern "C" fn biv_area_lengths(triples: usize, c: u32, lens: &mut [usize]) -> bool
+    requires { ⌜ length (now lens) ≡ 23 ⌝ }
+    ensures { λ r. ⌜ LengthsSet triples c (now (lens .entry)) r (now (lens .exit)) ⌝ }
+{
+    if triples > scene::MOST_TRIPLES {
+        return false;
+    }
+    put_lengths(triples, c as usize, lens);
+    true
 }
 
 // ---- the whole call

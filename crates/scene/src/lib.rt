@@ -35,7 +35,7 @@ const MOST_PLANES: u32 = 256;
 
 const MOST_CANDIDATES: u32 = 250_000;
 
-const MOST_TRIPLES: usize = 4096;
+pub const MOST_TRIPLES: usize = 4096;
 
 const TOO_MANY_TRIPLES: usize = MOST_TRIPLES + 1;
 
@@ -43,7 +43,7 @@ const TOO_MANY_TRIPLES: usize = MOST_TRIPLES + 1;
 pub const AREAS: usize = 23;
 
 // The least length of each area: so much a triple,
-const TRIPLES: [usize; AREAS] = [
+pub const TRIPLES: [usize; AREAS] = [
     columns::COLUMNS, // columns
     1, // handles
     22, // tree
@@ -70,7 +70,7 @@ const TRIPLES: [usize; AREAS] = [
 ];
 
 // so much a candidate,
-const CANDIDATES: [usize; AREAS] = [
+pub const CANDIDATES: [usize; AREAS] = [
     0, // columns
     0, // handles
     0, // tree
@@ -97,7 +97,7 @@ const CANDIDATES: [usize; AREAS] = [
 ];
 
 // and so much more.
-const MORE: [usize; AREAS] = [
+pub const MORE: [usize; AREAS] = [
     0, // columns
     0, // handles
     0, // tree

@@ -145,6 +145,10 @@ fn call(c: &Case, lent: &Lent, d: Damage, e: &Expected, planted: Option<usize>, 
     let t = c.meshes.iter().map(|m| m.indices.len() / 3).sum::<usize>();
     // in a third of the cases areas that are longer than they have to be
     let more = (d == Damage::None && number(c) % 3 == 0) as usize;
+    let least: [usize; port::AREAS] = std::array::from_fn(|i| port::least(i, t, room));
+    if port::area_lengths(t, room as u32) != (t <= 4096).then_some(least) {
+        return Some(Err(format!("{t} triples, room {room}: other least lengths than docs/AREAS.md has")));
+    }
     let mut found = Work::new(t + more, room + 5 * more);
     if let Damage::Area(i) = d {
         if i + 1 < port::AREAS && !found.cut(i) {

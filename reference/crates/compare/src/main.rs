@@ -1,11 +1,12 @@
 //! The port against the Rust. Stops at the first difference with what shows it and exit status 1.
-use compare::{cases, numbers, ranking, record};
+use compare::{cases, differences, numbers, ranking, record};
 
 const USAGE: &str = "\
   compare numbers [SEED]         floats: sqrt, abs, round on all 2^32 patterns, the others on many millions of values
   compare scenes [COUNT [SEED]]  generated scenes, 2,000 unless said: refusals, triangles, areas, tree, hits, planes, single paths, searches, whole calls
   compare ranking [COUNT [SEED]] generated lists of candidates, 2,000 unless said: which are kept, and their order
   compare file FILE ..           the cases of files (FORMAT.md)
+  compare differences            the smallest input of each intended difference, against the table of docs/DIFFERENCES.md
   compare slips [COUNT [SEED]]   plants slips into the port's answers to generated scenes, and counts those found
   compare record FOLDER COUNT FILE ..
                                  what the Rust answers to the cases of files and to COUNT generated ones of each kind, for the program in FOLDER";
@@ -18,6 +19,8 @@ fn main() {
         ["scenes", ref rest @ ..] => cases::generated(number(rest.first(), 2000), number(rest.get(1), 1)),
         ["ranking", ref rest @ ..] => ranking::run(number(rest.first(), 2000), number(rest.get(1), 1)),
         ["file", ref names @ ..] if !names.is_empty() => cases::files(names),
+        ["differences"] => differences::run(),
+        ["differences", direction] => differences::trace_none(direction), // a part of the above, which does not end
         ["slips", ref rest @ ..] => cases::slips(number(rest.first(), 500), number(rest.get(1), 1)),
         ["record", folder, count, ref names @ ..] => record::run(folder, number(Some(&count), 0) as usize, names),
         _ => usage("say what to compare"),

@@ -1,5 +1,6 @@
 //! The port as Rust sees it: the functions of crates/exports, each behind a safe one that tests what its `requires` asks.
-//! Nothing checks these declarations against the Rattle source: compare them with include/bivelondry.h when either changes.
+//! Nothing checks these declarations against the Rattle source: compare them with include/bivelondry.h and
+//! include/bivelondry_stages.h when either changes.
 
 mod ffi {
     extern "C" {
@@ -102,6 +103,7 @@ mod ffi {
             indices: *const u32, indices_len: usize, materials: *const f32, materials_len: usize, rows_count: u32,
             source: *const f32, source_len: usize, listener: *const f32, listener_len: usize, separated: bool,
         ) -> u32;
+        pub fn biv_area_lengths(triples: usize, c: u32, lens: *mut usize, lens_len: usize) -> bool;
         pub fn biv_distance_gain(curve: u32, reference: f32, rolloff: f32, least: f32, greatest: f32, distance: f32) -> f32;
     }
 }
@@ -253,6 +255,13 @@ pub const LEAST: [[usize; 3]; AREAS] = [
 /// The least length of area i for t triples and c candidates.
 pub fn least(i: usize, t: usize, c: usize) -> usize {
     LEAST[i][0] * t + LEAST[i][1] * c + LEAST[i][2]
+}
+
+/// The least lengths as the port gives them; none for more than 4,096 triples.
+pub fn area_lengths(t: usize, c: u32) -> Option<[usize; AREAS]> {
+    let mut lens = [0; AREAS];
+    // SAFETY: lens has its length.
+    unsafe { ffi::biv_area_lengths(t, c, lens.as_mut_ptr(), lens.len()) }.then_some(lens)
 }
 
 /// Columns of a triangle, floats and words of a candidate, and the least output (docs/AREAS.md).

@@ -1,0 +1,241 @@
+/* The calls of bivelondry.h: case A, every refusal, the block, the packet. Ends with `N checks, 0 failed`. */
+#include "case_a.h"
+#include <math.h>
+#include <stdio.h>
+#include <stdlib.h>
+
+static unsigned checks, failed;
+
+#define CHECK(held) \
+    do { \
+        checks++; \
+        if (!(held)) { \
+            failed++; \
+            fprintf(stderr, "test.c:%d: not so: %s\n", __LINE__, #held); \
+        } \
+    } while (0)
+
+/* What one query is given, so that a test changes one thing. */
+struct query {
+    struct biv_settings settings;
+    struct biv_scene scene;
+    uint32_t c;
+    float source[3], listener[3];
+    bool separated;
+    size_t size, out_len;
+};
+
+static struct query case_a(void)
+{
+    struct query q;
+    q.settings = case_a_settings();
+    q.scene = case_a_scene();
+    q.c = case_a_c;
+    memcpy(q.source, case_a_source, sizeof q.source);
+    memcpy(q.listener, case_a_listener, sizeof q.listener);
+    q.separated = false;
+    q.size = biv_block_size(biv_triples(&q.scene), q.c);
+    q.out_len = BIV_OUTPUT_BYTES;
+    return q;
+}
+
+static uint8_t out[BIV_OUTPUT_BYTES];
+static struct biv_answer answer;
+
+/* The query in a block of just its size, so that a byte past it is an error that a sanitizer sees. */
+static uint32_t trace(const struct query *q)
+{
+    void *block = calloc(1, q->size > 0 ? q->size : 1);
+    uint8_t *bytes = (uint8_t *)malloc(q->out_len > 0 ? q->out_len : 1);
+    uint32_t refusal;
+    if (block == NULL || bytes == NULL) {
+        fprintf(stderr, "test: no memory\n");
+        exit(1);
+    }
+    refusal = biv_trace(&q->settings, q->c, &q->scene, q->source, q->listener, q->separated, block, q->size, bytes, q->out_len, &answer);
+    if (refusal == BIV_NO_REFUSAL)
+        memcpy(out, bytes, answer.bytes);
+    free(block);
+    free(bytes);
+    return refusal;
+}
+
+static bool nothing(void)
+{
+    return answer.count == 0 && answer.images == 0 && answer.rays == 0 && answer.bytes == 0;
+}
+
+static void test_case_a(void)
+{
+    struct query q = case_a();
+    struct biv_tap taps[BIV_MOST_TAPS];
+    CHECK(trace(&q) == BIV_NO_REFUSAL);
+    CHECK(answer.count == 1 && answer.images == 1 && answer.rays == 36 && answer.bytes == 9 + 54);
+    CHECK(biv_read(out, answer.bytes, taps, &answer) == BIV_NO_REFUSAL);
+    CHECK(answer.count == 1 && taps[0].order == 1 && taps[0].number == 1 && taps[0].delay_samples == 750.0f);
+    CHECK(fabsf(taps[0].direction[0] + 0.6f) < 1e-6f && fabsf(taps[0].direction[1] + 0.8f) < 1e-6f && taps[0].direction[2] == 0.0f);
+    CHECK(fabsf(taps[0].gains[0] - 0.1f) < 1e-6f && taps[0].gains[7] == taps[0].gains[0]);
+    q.source[1] = 0.00005f;
+    CHECK(trace(&q) == BIV_NO_REFUSAL && answer.images == 0);
+    q.source[1] = 0.0001f;
+    CHECK(trace(&q) == BIV_NO_REFUSAL && answer.images == 1);
+    q = case_a();
+    q.separated = true;
+    CHECK(trace(&q) == BIV_NO_REFUSAL && answer.images == 0 && answer.bytes == 9);
+    q = case_a();
+    q.listener[2] = NAN;
+    CHECK(trace(&q) == BIV_NO_REFUSAL && answer.images == 0);
+}
+
+static void test_query_refusals(void)
+{
+    static const float nan_corner[12] = {-4, 0, NAN, 4, 0, -4, 4, 0, 4, -4, 0, 4};
+    static const uint32_t handle[3] = {4, 6, 1}, short_mesh[3] = {3, 6, 0};
+    struct query q = case_a();
+    q.settings.speed_of_sound = 99.0f;
+    CHECK(trace(&q) == BIV_SETTINGS && nothing());
+    q = case_a();
+    q.settings.distance_model.curve = 2;
+    CHECK(trace(&q) == BIV_SETTINGS && nothing());
+    q = case_a();
+    q.c = BIV_MOST_CANDIDATES + 1; /* too large for its block too: the lower refusal is answered */
+    CHECK(trace(&q) == BIV_SETTINGS && nothing());
+    q = case_a();
+    q.scene.meshes = short_mesh;
+    CHECK(trace(&q) == BIV_LENGTHS && nothing());
+    q = case_a();
+    q.scene.materials_len = 15;
+    CHECK(trace(&q) == BIV_LENGTHS && nothing());
+    q = case_a();
+    q.scene.meshes = handle;
+    CHECK(trace(&q) == BIV_MATERIAL && nothing());
+    q = case_a();
+    q.size--;
+    CHECK(trace(&q) == BIV_AREAS && nothing());
+    q = case_a();
+    q.size = 0;
+    CHECK(trace(&q) == BIV_AREAS && nothing());
+    q = case_a();
+    q.out_len--;
+    CHECK(trace(&q) == BIV_AREAS && nothing());
+    q = case_a();
+    q.scene.positions = nan_corner;
+    CHECK(trace(&q) == BIV_FAR && nothing());
+    q = case_a();
+    q.c = 0;
+    CHECK(trace(&q) == BIV_CANDIDATES && nothing());
+}
+
+/* One triple more than a scene may have, of vertices that are not there. */
+static void test_triples(void)
+{
+    enum { INDICES = 3 * (BIV_MOST_TRIPLES + 1) };
+    static uint32_t indices[INDICES];
+    uint32_t meshes[3] = {0, INDICES, 0};
+    struct query q = case_a();
+    q.scene.meshes = meshes;
+    q.scene.positions = NULL;
+    q.scene.positions_len = 0;
+    q.scene.indices = indices;
+    q.scene.indices_len = INDICES;
+    CHECK(biv_block_size(biv_triples(&q.scene), q.c) == 0);
+    CHECK(trace(&q) == BIV_TRIANGLES && nothing());
+    meshes[1] = q.scene.indices_len = INDICES - 3;
+    q.size = biv_block_size(biv_triples(&q.scene), q.c);
+    CHECK(q.size > 0 && trace(&q) == BIV_NO_REFUSAL && answer.count == 0 && answer.bytes == 9);
+}
+
+/* No meshes at all. */
+static void test_nothing(void)
+{
+    struct biv_scene none = {NULL, 0, NULL, 0, NULL, 0, NULL, 0, NULL, 0, 0};
+    struct query q = case_a();
+    q.scene = none;
+    q.size = biv_block_size(0, q.c);
+    CHECK(trace(&q) == BIV_NO_REFUSAL && answer.count == 0 && answer.images == 0 && answer.bytes == 9);
+}
+
+/* The areas lie within the block, aligned, one behind the other, with the least lengths; whatever the block's own alignment. */
+static void test_block(size_t triples, uint32_t c, size_t offset)
+{
+    size_t size = biv_block_size(triples, c), lens[BIV_AREAS_LENT];
+    uint8_t *block = (uint8_t *)malloc(size + offset);
+    struct biv_work w;
+    uintptr_t at = (uintptr_t)block + offset, end = at + size;
+    if (block == NULL) {
+        fprintf(stderr, "test: no memory\n");
+        exit(1);
+    }
+    CHECK(biv_area_lengths(triples, c, lens, BIV_AREAS_LENT));
+    CHECK(lens[0] == 23 * triples && lens[17] == 12 * triples + 13 * (size_t)c && lens[22] == BIV_OUTPUT_BYTES);
+    CHECK(biv_carve(block + offset, size, triples, c, &w));
+#define ONE(i, name, type) \
+    CHECK(w.lens[i] == lens[i]); \
+    CHECK((uintptr_t)w.name % sizeof(type) == 0); \
+    CHECK((uintptr_t)w.name >= at); \
+    at = (uintptr_t)w.name + w.lens[i] * sizeof(type); \
+    CHECK(at <= end); \
+    memset(w.name, 0x5a, w.lens[i] * sizeof(type)); /* a sanitizer sees what is not the block's */
+    BIV_WORK(ONE)
+#undef ONE
+    CHECK(!biv_carve(block + offset, size - 1, triples, c, &w) && w.lens[0] == 0 && w.lens[21] == 0);
+    CHECK(!biv_carve(NULL, size, triples, c, &w) && w.lens[0] == 0);
+    free(block);
+}
+
+static void test_packet(void)
+{
+    struct query q = case_a();
+    struct biv_tap taps[BIV_MOST_TAPS], again[BIV_MOST_TAPS];
+    struct biv_answer read, written;
+    uint8_t copy[BIV_OUTPUT_BYTES];
+    memset(taps, 0x7e, sizeof taps);
+    memset(again, 0x7e, sizeof again);
+    CHECK(trace(&q) == BIV_NO_REFUSAL && biv_read(out, answer.bytes, taps, &read) == BIV_NO_REFUSAL);
+    written = read;
+    CHECK(biv_write(taps, &written, copy, sizeof copy) == BIV_NO_REFUSAL);
+    CHECK(written.bytes == answer.bytes && memcmp(copy, out, answer.bytes) == 0);
+    CHECK(memcmp(taps + 1, again + 1, sizeof taps - sizeof taps[0]) == 0); /* past the last tap read nothing is written */
+    CHECK(biv_read(out, answer.bytes - 1, again, &read) == BIV_BYTES && read.count == 0);
+    CHECK(biv_read(NULL, 0, again, &read) == BIV_BYTES);
+    CHECK(memcmp(taps + 1, again, sizeof taps[0]) == 0); /* nor after a refusal */
+    out[10] = 9; /* the order of the first tap */
+    CHECK(biv_read(out, answer.bytes, again, &read) == BIV_COUNTS);
+    written.count = BIV_MOST_TAPS + 1;
+    CHECK(biv_write(taps, &written, copy, sizeof copy) == BIV_COUNTS && written.bytes == 0);
+    written.count = 1;
+    CHECK(biv_write(taps, &written, copy, sizeof copy - 1) == BIV_AREAS);
+    taps[0].delay_samples = 0.0f;
+    CHECK(biv_write(taps, &written, copy, sizeof copy) == BIV_NUMBERS);
+    taps[0].delay_samples = 750.0f;
+    taps[1] = taps[0];
+    written.count = written.images = 2;
+    CHECK(biv_write(taps, &written, copy, sizeof copy) == BIV_TAP_ORDER);
+    taps[1].number = 2;
+    CHECK(biv_write(taps, &written, copy, sizeof copy) == BIV_NO_REFUSAL);
+}
+
+static void test_texts(void)
+{
+    for (uint32_t k = 0; k <= BIV_TAP_ORDER; k++)
+        for (uint32_t j = 0; j < k; j++)
+            CHECK(strcmp(biv_refusal_text(k), biv_refusal_text(j)) != 0);
+}
+
+int main(void)
+{
+    test_case_a();
+    test_query_refusals();
+    test_triples();
+    test_nothing();
+    for (size_t offset = 0; offset < 9; offset++) {
+        test_block(0, 0, offset);
+        test_block(1, 1, offset);
+        test_block(3, 7, offset);
+    }
+    test_block(BIV_MOST_TRIPLES, BIV_MOST_CANDIDATES, 1);
+    test_packet();
+    test_texts();
+    printf("%u checks, %u failed\n", checks, failed);
+    return failed > 0;
+}

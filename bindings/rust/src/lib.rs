@@ -1,0 +1,394 @@
+//! The echo taps of a booth of flat panels, by the proved port of Quasar's `trace_early_reflections`.
+//!
+//! ```
+//! use bivelondry::{trace_early_reflections, Material, Mesh, Scene, Settings, Workspace};
+//!
+//! let mut scene = Scene::default();
+//! let floor = scene.add_material(&Material { absorption: [0.75; 8], transmission: [0.0; 8] });
+//! scene.add_mesh(&Mesh {
+//!     positions: &[[-4.0, 0.0, -4.0], [4.0, 0.0, -4.0], [4.0, 0.0, 4.0], [-4.0, 0.0, 4.0]],
+//!     indices: &[0, 1, 2, 0, 2, 3],
+//!     material: floor,
+//!     ..Mesh::default()
+//! });
+//! let settings = Settings { speed_of_sound: 320.0, ..Settings::default() };
+//! let mut workspace = Workspace::new(1);
+//! let packet = trace_early_reflections(&settings, &scene, [0.0, 2.0, 0.0], [3.0, 2.0, 0.0], false, &mut workspace)?;
+//! assert_eq!((packet.images, packet.rays, packet.taps.len()), (1, 36, 1));
+//! assert_eq!(packet.taps[0].delay_samples, 750.0);
+//! # Ok::<(), bivelondry::Refusal>(())
+//! ```
+//!
+//! What is proved is what the archive holds (`target/staticlib/libexports.a`, by `rt staticlib exports`); this crate hands on to it. Its `unsafe`
+//! calls pass slices of their own lengths, and of the few lengths that the archive does not test they keep those that its contracts ask.
+
+mod ffi;
+
+use std::fmt;
+
+/// Bands of a gain, an absorption, a transmission.
+pub const BANDS: usize = 8;
+/// Whole index triples of a scene, at most.
+pub const MOST_TRIPLES: usize = 4096;
+/// Candidate room, at most.
+pub const MOST_CANDIDATES: u32 = 250_000;
+/// Taps of a packet, at most.
+pub const MOST_TAPS: usize = 64;
+/// Bytes of a packet, at most: 9, and 54 for each of 64 taps.
+pub const OUTPUT_BYTES: usize = 3465;
+
+/// Why a query or a packet is refused; of several reasons the first in this order.
+#[derive(Clone, Copy, Debug, PartialEq, Eq, PartialOrd, Ord, Hash)]
+pub enum Refusal {
+    /// 1: a setting or the candidate room lies outside its limits.
+    Settings = 1,
+    /// 2: a part of the scene has not the length that its counts say.
+    Lengths,
+    /// 3: a mesh has a material handle without a row.
+    Material,
+    /// 4: the meshes hold more than 4,096 whole index triples.
+    Triangles,
+    /// 5: an area is too short. A [`Workspace`] has the lengths, so that no call of this crate is refused with it.
+    Areas,
+    /// 6: a placed corner is not finite or beyond 10,000.
+    Far,
+    /// 7: more paths pass than there is candidate room.
+    Candidates,
+    /// 8: the packet's bytes end early or go on after the last tap.
+    Bytes,
+    /// 9: the packet's count, images, an order or an image number is out of range.
+    Counts,
+    /// 10: a float of the packet is not finite, or a delay or a gain not above 0.
+    Numbers,
+    /// 11: an image number comes twice, or the taps do not fall in squared-gain sum.
+    Order,
+}
+
+impl Refusal {
+    pub const ALL: [Refusal; 11] = {
+        use Refusal::*;
+        [Settings, Lengths, Material, Triangles, Areas, Far, Candidates, Bytes, Counts, Numbers, Order]
+    };
+
+    /// The number of the refusal, 1 to 11.
+    pub fn number(self) -> u32 {
+        self as u32
+    }
+
+    /// What the archive answers: 0 is no refusal.
+    fn check(number: u32) -> Result<(), Refusal> {
+        match number {
+            0 => Ok(()),
+            k => Err(*Refusal::ALL.get(k as usize - 1).unwrap_or_else(|| panic!("the archive answers {k}, which is no refusal: does it belong to this crate?"))),
+        }
+    }
+}
+
+impl fmt::Display for Refusal {
+    fn fmt(&self, f: &mut fmt::Formatter) -> fmt::Result {
+        f.write_str(match self {
+            Refusal::Settings => "a setting or the candidate room lies outside its limits",
+            Refusal::Lengths => "a part of the scene has not the length that its counts say",
+            Refusal::Material => "a mesh has a material handle without a row",
+            Refusal::Triangles => "the meshes hold more than 4,096 whole index triples",
+            Refusal::Areas => "an area is too short",
+            Refusal::Far => "a placed corner is not finite or beyond 10,000",
+            Refusal::Candidates => "more paths pass than there is candidate room",
+            Refusal::Bytes => "the packet's bytes end early or go on after the last tap",
+            Refusal::Counts => "the packet's count, images, an order or an image number is out of range",
+            Refusal::Numbers => "a float of the packet is not finite, or a delay or a gain not above 0",
+            Refusal::Order => "an image number comes twice, or the taps do not fall in squared-gain sum",
+        })
+    }
+}
+
+impl std::error::Error for Refusal {}
+
+/// Shape of the distance law.
+#[derive(Clone, Copy, Debug, PartialEq, Eq)]
+pub enum Curve {
+    Inverse,
+    Linear,
+}
+
+/// The distance law; each number 0 to 1,000,000.
+#[derive(Clone, Copy, Debug, PartialEq)]
+pub struct DistanceModel {
+    pub curve: Curve,
+    pub reference_distance: f32,
+    pub rolloff_factor: f32,
+    pub min_distance: f32,
+    pub max_distance: f32,
+}
+
+/// The settings of a query, by the Rust's names. The default is the Rust's.
+#[derive(Clone, Copy, Debug, PartialEq)]
+pub struct Settings {
+    /// Any; used as at most 8.
+    pub max_reflection_order: u32,
+    /// Any; used as at most 64.
+    pub max_reflections: u32,
+    /// 0 to 256.
+    pub max_reflection_planes: u32,
+    /// Finite.
+    pub reflection_edge_fade: f32,
+    /// Above 0, at most 1,000.
+    pub max_reflection_distance: f32,
+    /// 100 to 2,000.
+    pub speed_of_sound: f32,
+    /// 8,000 to 192,000.
+    pub sample_rate: f32,
+    /// The cosine of the Rust's `plane_merge_angle_deg`, -1 to 1.
+    pub plane_merge_cos: f32,
+    /// Whether that angle is above 0.
+    pub plane_merge: bool,
+    /// Finite.
+    pub plane_merge_offset: f32,
+    /// Finite.
+    pub plane_buried_distance: f32,
+    pub distance_model: DistanceModel,
+}
+
+impl Default for Settings {
+    fn default() -> Settings {
+        Settings {
+            max_reflection_order: 3,
+            max_reflections: 16,
+            max_reflection_planes: 32,
+            reflection_edge_fade: 0.1,
+            max_reflection_distance: 50.0,
+            speed_of_sound: 343.0,
+            sample_rate: 48_000.0,
+            plane_merge_cos: f32::from_bits(0x3f7f_069e), // of 5 degrees
+            plane_merge: true,
+            plane_merge_offset: 0.25,
+            plane_buried_distance: 0.05,
+            distance_model: DistanceModel { curve: Curve::Inverse, reference_distance: 1.0, rolloff_factor: 1.0, min_distance: 1.0, max_distance: 10_000.0 },
+        }
+    }
+}
+
+impl Settings {
+    fn counts(&self) -> [u32; 5] {
+        [self.max_reflection_order, self.max_reflections, self.max_reflection_planes, self.plane_merge as u32, (self.distance_model.curve == Curve::Linear) as u32]
+    }
+
+    fn floats(&self) -> [f32; 11] {
+        let m = &self.distance_model;
+        [
+            self.reflection_edge_fade, self.max_reflection_distance, self.speed_of_sound, self.sample_rate, self.plane_merge_cos, self.plane_merge_offset,
+            self.plane_buried_distance, m.reference_distance, m.rolloff_factor, m.min_distance, m.max_distance,
+        ]
+    }
+}
+
+/// A row of the material table; any floats.
+#[derive(Clone, Copy, Debug, PartialEq)]
+pub struct Material {
+    pub absorption: [f32; BANDS],
+    pub transmission: [f32; BANDS],
+}
+
+/// A mesh to add to a scene. The default has no vertices and the identity for its transform.
+#[derive(Clone, Copy, Debug)]
+pub struct Mesh<'a> {
+    pub positions: &'a [[f32; 3]],
+    /// Three a triangle; one that is out of range leaves its triangle out.
+    pub indices: &'a [u32],
+    /// What `Scene::add_material` answered.
+    pub material: u32,
+    /// Column by column.
+    pub transform: [f32; 16],
+}
+
+impl Default for Mesh<'_> {
+    fn default() -> Self {
+        let transform = std::array::from_fn(|k| if k % 5 == 0 { 1.0 } else { 0.0 });
+        Mesh { positions: &[], indices: &[], material: 0, transform }
+    }
+}
+
+/// A scene as the archive takes it: the meshes' words and, mesh after mesh, their parts. `add_material` and `add_mesh` keep the lengths that belong
+/// together; parts that do not are refused with [`Refusal::Lengths`].
+#[derive(Clone, Debug, Default, PartialEq)]
+pub struct Scene {
+    /// Three a mesh: vertices, indices, material.
+    pub meshes: Vec<u32>,
+    /// Sixteen a mesh.
+    pub transforms: Vec<f32>,
+    /// Three a vertex.
+    pub positions: Vec<f32>,
+    pub indices: Vec<u32>,
+    /// Sixteen a row: absorption, then transmission.
+    pub materials: Vec<f32>,
+    /// Rows of the material table.
+    pub rows: u32,
+}
+
+/// A length of a scene's part; no part is longer, since the archive refuses more triples long before.
+fn count(n: usize) -> u32 {
+    u32::try_from(n).expect("a scene of 2^32 elements")
+}
+
+impl Scene {
+    /// Adds a row to the material table; the handle of its meshes.
+    pub fn add_material(&mut self, m: &Material) -> u32 {
+        self.materials.extend(m.absorption.iter().chain(&m.transmission));
+        self.rows += 1;
+        self.rows - 1
+    }
+
+    pub fn add_mesh(&mut self, m: &Mesh) {
+        self.meshes.extend([count(m.positions.len()), count(m.indices.len()), m.material]);
+        self.transforms.extend(m.transform);
+        self.positions.extend(m.positions.iter().flatten());
+        self.indices.extend(m.indices);
+    }
+
+    /// The whole index triples, which the work areas are sized by.
+    pub fn triples(&self) -> usize {
+        self.meshes.chunks_exact(3).map(|m| m[1] as usize / 3).sum()
+    }
+}
+
+/// The memory that queries work in. It grows with the scenes it is lent for, and is used again without allocating.
+#[derive(Clone, Debug)]
+pub struct Workspace {
+    c: u32,
+    block: Vec<u64>,
+    output: Vec<u8>,
+}
+
+/// The bytes of an element of each work area, in the order of docs/AREAS.md.
+const ELEMENTS: [usize; ffi::WORK] = [4, 4, 4, 4, 4, 8, 8, 8, 8, 4, 4, 4, 4, 4, 4, 4, 4, 4, 4, 4, 4, 4];
+
+impl Workspace {
+    /// Room for so many candidates, which is more than the taps sent: a query with more is refused with [`Refusal::Candidates`].
+    pub fn new(candidates: u32) -> Workspace {
+        Workspace { c: candidates, block: Vec::new(), output: vec![0; OUTPUT_BYTES] }
+    }
+
+    /// The same, with the memory for scenes of up to so many triples (4,096 at most) taken at once.
+    pub fn with_triples(candidates: u32, triples: usize) -> Workspace {
+        let mut all = Workspace::new(candidates);
+        all.areas(triples.min(MOST_TRIPLES));
+        all
+    }
+
+    /// Bytes taken for the work areas.
+    pub fn bytes(&self) -> usize {
+        8 * self.block.len()
+    }
+
+    /// The areas for a scene: where each begins in the block, in words of 64 bits, and how long it is. None where no query is made.
+    fn areas(&mut self, triples: usize) -> [(usize, usize); ffi::WORK] {
+        let mut lens = [0usize; ffi::AREAS];
+        let mut areas = [(0, 0); ffi::WORK];
+        // more candidates are refused before an area is looked at
+        // SAFETY: lens has 23 elements.
+        if self.c > MOST_CANDIDATES || !unsafe { ffi::biv_area_lengths(triples, self.c, lens.as_mut_ptr(), lens.len()) } {
+            return areas;
+        }
+        let mut end = 0;
+        for ((area, &len), element) in areas.iter_mut().zip(&lens).zip(ELEMENTS) {
+            *area = (end, len);
+            end += (len * element).div_ceil(8);
+        }
+        if self.block.len() < end {
+            self.block.resize(end, 0);
+        }
+        areas
+    }
+}
+
+/// A tap: one echo, as the packet has it.
+#[derive(Clone, Copy, Debug, PartialEq)]
+pub struct Tap {
+    /// Bounces.
+    pub order: u32,
+    /// Number of the image, from 1.
+    pub number: u32,
+    /// From the listener towards the last bounce.
+    pub direction: [f32; 3],
+    pub delay_samples: f32,
+    pub gains: [f32; BANDS],
+}
+
+impl Tap {
+    fn from_words(w: &[u32]) -> Tap {
+        let f = |k: usize| f32::from_bits(w[k]);
+        Tap { order: w[0], number: w[1], direction: [f(2), f(3), f(4)], delay_samples: f(5), gains: std::array::from_fn(|b| f(6 + b)) }
+    }
+
+    fn words(&self) -> impl Iterator<Item = u32> + '_ {
+        let floats = self.direction.iter().chain([&self.delay_samples]).chain(&self.gains);
+        [self.order, self.number].into_iter().chain(floats.map(|x| x.to_bits()))
+    }
+}
+
+/// A packet: the taps of a query, best first, and its counts.
+#[derive(Clone, Debug, Default, PartialEq)]
+pub struct Packet {
+    /// Images visited.
+    pub images: u32,
+    /// Rays traced for them.
+    pub rays: u32,
+    pub taps: Vec<Tap>,
+}
+
+impl Packet {
+    /// Reads a packet: refusals 8 to 11.
+    pub fn read(bytes: &[u8]) -> Result<Packet, Refusal> {
+        let (mut words, mut found) = ([0u32; ffi::TAP_WORDS * MOST_TAPS], [0usize; 3]);
+        // SAFETY: each pointer goes with its own length, the `&mut` areas are distinct, and found has three.
+        Refusal::check(unsafe { ffi::biv_packet_read(bytes.as_ptr(), bytes.len(), words.as_mut_ptr(), words.len(), found.as_mut_ptr(), found.len()) })?;
+        let taps = words.chunks_exact(ffi::TAP_WORDS).take(found[0]).map(Tap::from_words).collect();
+        Ok(Packet { images: found[1] as u32, rays: found[2] as u32, taps })
+    }
+
+    /// The packet's bytes: refusals 9 to 11.
+    ///
+    /// ```
+    /// use bivelondry::{Packet, Refusal, Tap};
+    /// let tap = Tap { order: 1, number: 1, direction: [0.0, -1.0, 0.0], delay_samples: 750.0, gains: [0.5, 0.0, 0.0, 0.0, 0.0, 0.0, 0.0, 0.25] };
+    /// let packet = Packet { images: 1, rays: 36, taps: vec![tap] };
+    /// let bytes = packet.write()?;
+    /// assert_eq!(bytes.len(), 9 + 22 + 2 * 4);
+    /// assert_eq!(Packet::read(&bytes)?, packet);
+    /// assert_eq!(Packet::read(&bytes[..20]), Err(Refusal::Bytes));
+    /// # Ok::<(), Refusal>(())
+    /// ```
+    pub fn write(&self) -> Result<Vec<u8>, Refusal> {
+        let mut words: Vec<u32> = self.taps.iter().take(MOST_TAPS).flat_map(Tap::words).collect();
+        words.resize(ffi::TAP_WORDS * MOST_TAPS, 0);
+        let (mut out, mut found) = (vec![0u8; OUTPUT_BYTES], [0usize; 1]);
+        // SAFETY: as for `read`; more than 64 taps are refused.
+        Refusal::check(unsafe {
+            ffi::biv_packet_write(self.taps.len(), self.images, self.rays, words.as_ptr(), words.len(), out.as_mut_ptr(), out.len(), found.as_mut_ptr(), found.len())
+        })?;
+        out.truncate(found[0]);
+        Ok(out)
+    }
+}
+
+/// The packet of a query as bytes, which stand in the workspace until its next use: refusals 1 to 4, 6 and 7. `separated` says that a wall stands
+/// between source and listener, so that nothing is heard.
+pub fn trace_packet<'w>(settings: &Settings, scene: &Scene, source: [f32; 3], listener: [f32; 3], separated: bool, workspace: &'w mut Workspace) -> Result<&'w [u8], Refusal> {
+    let areas = workspace.areas(scene.triples());
+    let (counts, floats, mut found) = (settings.counts(), settings.floats(), [0usize; 4]);
+    let block = workspace.block.as_mut_ptr();
+    let (out, out_len) = (workspace.output.as_mut_ptr(), workspace.output.len());
+    // SAFETY: `areas` lays the areas one behind the other into the block, at multiples of 8 bytes, and they have their own lengths; scene parts go
+    // with their own lengths; counts, floats, positions and found have those that the contract asks.
+    let refusal = unsafe {
+        let at = |i: usize| (block.add(areas[i].0), areas[i].1);
+        ffi::trace(at, out, out_len, &mut found, &counts, &floats, workspace.c, scene, &source, &listener, separated)
+    };
+    Refusal::check(refusal)?;
+    Ok(&workspace.output[..found[3]])
+}
+
+/// The taps of a query, best first, with its counts; refusals as for [`trace_packet`].
+pub fn trace_early_reflections(settings: &Settings, scene: &Scene, source: [f32; 3], listener: [f32; 3], separated: bool, workspace: &mut Workspace) -> Result<Packet, Refusal> {
+    Packet::read(trace_packet(settings, scene, source, listener, separated, workspace)?)
+}

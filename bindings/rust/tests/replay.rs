@@ -1,0 +1,72 @@
+//! The recorded queries of crates/replay (its src/main.rt says what stands in a line), one workspace for each candidate room: refusal, counts and every byte of the
+//! packet are those that the Rust answered.
+use bivelondry::{trace_packet, Curve, DistanceModel, Packet, Scene, Settings, Workspace};
+
+const RECORDED: &str = include_str!("../../../crates/replay/stdin");
+const HEADER: usize = 35;
+
+/// A query, and what was answered: refusal, taps, images, rays and the packet.
+struct Recorded {
+    settings: Settings,
+    scene: Scene,
+    source: [f32; 3],
+    listener: [f32; 3],
+    separated: bool,
+    room: u32,
+    answer: [u32; 5],
+    packet: Vec<u8>,
+}
+
+fn recorded(line: &str) -> (&str, Recorded) {
+    let (name, rest) = line.split_once(' ').expect("a name");
+    let digits: String = rest.split(' ').collect();
+    let words: Vec<u32> = (0..digits.len() / 8).map(|k| u32::from_str_radix(&digits[8 * k..][..8], 16).expect("hexadecimal")).collect();
+    let f = |k: usize| f32::from_bits(words[k]);
+    let mut rest = &words[HEADER..];
+    let mut part = |k: usize| {
+        let (now, then) = rest.split_at(words[k] as usize);
+        rest = then;
+        now.to_vec()
+    };
+    let floats = |v: Vec<u32>| v.into_iter().map(f32::from_bits).collect::<Vec<f32>>();
+    let scene = Scene { meshes: part(0), transforms: floats(part(1)), positions: floats(part(2)), indices: part(3), materials: floats(part(4)), rows: words[22] };
+    let curve = if words[9] == 0 { Curve::Inverse } else { Curve::Linear };
+    let settings = Settings {
+        max_reflection_order: words[5],
+        max_reflections: words[6],
+        max_reflection_planes: words[7],
+        plane_merge: words[8] != 0,
+        reflection_edge_fade: f(10),
+        max_reflection_distance: f(11),
+        speed_of_sound: f(12),
+        sample_rate: f(13),
+        plane_merge_cos: f(14),
+        plane_merge_offset: f(15),
+        plane_buried_distance: f(16),
+        distance_model: DistanceModel { curve, reference_distance: f(17), rolloff_factor: f(18), min_distance: f(19), max_distance: f(20) },
+    };
+    let packet = rest.iter().flat_map(|w| w.to_le_bytes()).take(words[34] as usize).collect();
+    let answer = words[30..HEADER].try_into().expect("five");
+    (name, Recorded { settings, scene, source: [f(24), f(25), f(26)], listener: [f(27), f(28), f(29)], separated: words[23] != 0, room: words[21], answer, packet })
+}
+
+#[test]
+fn recorded_queries() {
+    let mut workspaces = std::collections::HashMap::new();
+    let mut cases = 0;
+    for line in RECORDED.lines().filter(|l| !l.starts_with('#')) {
+        let (name, r) = recorded(line);
+        let w = workspaces.entry(r.room).or_insert_with(|| Workspace::new(r.room));
+        match trace_packet(&r.settings, &r.scene, r.source, r.listener, r.separated, w) {
+            Ok(bytes) => {
+                assert_eq!(bytes, r.packet, "{name}");
+                let p = Packet::read(bytes).expect(name);
+                assert_eq!([0, p.taps.len() as u32, p.images, p.rays, bytes.len() as u32], r.answer, "{name}");
+                assert_eq!(p.write().expect(name), bytes, "{name}");
+            }
+            Err(refusal) => assert_eq!([refusal.number(), 0, 0, 0, 0], r.answer, "{name}"),
+        }
+        cases += 1;
+    }
+    assert_eq!(cases, 135);
+}
