@@ -1,6 +1,6 @@
 /* The stages of the port, each as a function of its own: numbers, sort, scene, tree, planes, paths, search, ranking. The comparison with the Rust
- * uses them (reference/crates/port); a station needs bivelondry.h alone. They stand in the same archive, target/staticlib/libexports.a. Each is
- * proved equal to the definition named beside it; nothing checks these declarations against the Rattle source. */
+ * uses them (reference/crates/port); a station needs bivelondry.h alone. They are the crate `stages`, target/staticlib/libstages.a (made by
+ * `rt staticlib stages`). Each is proved equal to the definition named beside it; nothing checks these declarations against the Rattle source. */
 #ifndef BIVELONDRY_STAGES_H
 #define BIVELONDRY_STAGES_H
 
@@ -124,7 +124,7 @@ size_t biv_rank_reflections(const float *fs, size_t fs_len, const uint32_t *ws, 
                             uint64_t *keys, size_t keys_len, uint32_t *index, size_t index_len, uint64_t *words, size_t words_len,
                             uint64_t *scratch, size_t scratch_len, uint32_t *out, size_t out_len);
 
-/* search/specs/Outcome.antt, exports/specs/Searches.antt. All sequences of up to order planes (order at most 8, count at most 256) with their
+/* search/specs/Outcome.antt, stages/specs/Searches.antt. All sequences of up to order planes (order at most 8, count at most 256) with their
  * paths; areas and settings as biv_path has them. found (3 or more) gets images, rays and candidates; the candidates stand in fs and ws,
  * which have room for `room` rows (13 floats and 2 words each), as biv_rank_reflections takes them. Answers whether one found no room. */
 bool biv_search_images(const float *padded, size_t padded_len, const uint32_t *nodes, size_t nodes_len, const uint32_t *perm, size_t perm_len,
