@@ -1,3 +1,4 @@
--- The laws of the query.
+-- The laws of the query over a scene.
 pub mod Planes
 pub mod Answering
+pub mod Silence

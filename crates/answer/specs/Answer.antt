@@ -1,5 +1,5 @@
 -- The answer over a scene's triangles: refusal 7, or the counts and the packet.
-use Prim.Native.Nat.{ℕ, _+_, _≤_}
+use Prim.Native.Nat.{ℕ, zero, suc, _≤_}
 use mathlib.Core.Path.{_≡_}
 use mathlib.Core.List.{List, _++_}
 use lib.Dec.{T}
@@ -14,7 +14,6 @@ use Rattle.paths.specs.Numbers.{ModelFits}
 use Rattle.claim.specs.Query.{Query, refused, given, queryOf}
 use Rattle.search.specs.Outcome.{onOf}
 use Rattle.taps.specs.Tap.{packetOf}
-use Rattle.scene_bvh.specs.SceneTree.{TrianglesRead, TreeStands}
 use Rattle.answer.specs.declared.Answered.{Answered}
 use Rattle.answer.specs.Query.{planesFor, pathFor}
 
@@ -33,32 +32,21 @@ abbrev pub outputOf : Query → List ℕ → List ℕ
 outputOf (refused k) out = out
 outputOf (given a) out = packetOf (a .images) (a .rays) (a .taps) ++ drop (length (packetOf (a .images) (a .rays) (a .taps))) out
 
+-- "The lowest that applies is returned"
+abbrev pub byRefusal : ℕ → Query → Query
+byRefusal zero q = q
+byRefusal (suc k) q = refused (suc k)
+
 -- the answer and the output area are those of a query
 pub record Answers (q : Query) (r : Answered) (out out′ : List ℕ) : Type 0 where
   pub answer : r ≡ answeredOf q
   pub output : out′ ≡ outputOf q out
-
--- those of the query over the triangles that the areas read as
-pub record AnswersTriangles
-    (st : Settings) (source listener : Vec3) (order room limit n m : ℕ) (columns : List Float) (handles : List ℕ) (materials padded : List Float) (nodes perm : List ℕ)
-    (leaves : List Float) (nodes-count : ℕ) (r : Answered) (out out′ : List ℕ)
-    : Type 0 where
-  pub over : (ts : List Triangle) → TrianglesRead ts columns handles n m materials → TreeStands ts padded nodes perm leaves handles nodes-count →
-      Answers (queryFor st ts materials source listener order room limit) r out out′
 
 -- settings within the limits that the numbers of a tap rest on
 pub record Sane (st : Settings) : Type 0 where
   pub rates : T (ratesOf (st .«max_reflection_distance») (st .«speed_of_sound») (st .«sample_rate»))
   pub model : T (modelNumbersOf (st .«distance_model»))
   pub fit : ModelFits (st .«distance_model»)
-
--- the areas read as the tree and the triangles of some scene
-pub record StandingScene
-    (columns : List Float) (handles : List ℕ) (n m : ℕ) (materials padded : List Float) (nodes perm : List ℕ) (leaves : List Float) (nodes-count : ℕ)
-    : Type 0 where
-  pub ts : List Triangle
-  pub read : TrianglesRead ts columns handles n m materials
-  pub tree : TreeStands ts padded nodes perm leaves handles nodes-count
 
 -- the areas of ranking and the packet, beside those of the planes
 pub record SendRoom (room limit : ℕ) (hi queue words scratch next out : List ℕ) : Type 0 where

@@ -1,10 +1,12 @@
-// The answer over a scene whose tree stands: planes, search, list and packet, in areas that serve one after the other (docs/AREAS.md).
+// The answer over a scene as it was loaded: its tree, planes, search, list and packet, in areas that serve one after the other (docs/AREAS.md) and are
+// zero afterwards. Work areas come first among the parameters: the checker's cost of a lent area grows with its place (docs/PROVING.md).
 use scene::Settings;
 use search::Found;
 use vector::Vec3;
 ghost use mathlib.Core.Path.{_≡_};
+ghost use mathlib.Core.Bool.{false};
 ghost use mathlib.Core.List.{List};
-ghost use Prim.Native.Nat.{_<_, _≤_};
+ghost use Prim.Native.Nat.{_≤_};
 ghost use Rattle.geometry.specs.declared.Triangle.{Triangle};
 ghost use Rattle.segments.specs.Areas.{Traceable};
 ghost use Rattle.bounces.specs.Areas.{maxOrder};
@@ -15,9 +17,12 @@ ghost use Rattle.ranking.specs.Rows.{Rows, candidatesIn};
 ghost use Rattle.claim.specs.Query.{search};
 ghost use Rattle.claim.specs.Query as query;
 ghost use Rattle.taps.specs.Areas.{Sends};
+ghost use Rattle.front.specs.Asked.{silentOf, limitOf};
+ghost use Rattle.clearing.specs.Zero.{PlanesZero, SceneZero};
 ghost use Rattle.scene_bvh.specs.SceneTree.{TrianglesRead, TreeStands};
 ghost use Rattle.answer.specs.Query.{searchFor};
-ghost use Rattle.answer.specs.Answer.{answeredOf, Answers, AnswersTriangles, Sane, StandingScene, SendRoom};
+ghost use Rattle.answer.specs.Answer.{answeredOf, byRefusal, Answers};
+ghost use Rattle.answer.specs.Loaded.{Heard, Finds, Ready, AnswersLoaded};
 
 // The refusal, or 0 and the counts: taps, images, rays, and bytes of the packet.
 pub struct Answered {
@@ -31,21 +36,6 @@ pub struct Answered {
 // The planes of a scene whose tree stands, and the search for paths by way of them. The candidates stand in rows of gfloats and id, the
 // planes in rows, kept, members and edges.
 fn search_scene(
-    columns: &[f32],
-    handles: &[u32],
-    n: usize,
-    m: usize,
-    settings: Settings,
-    padded: &[f32],
-    nodes: &[u32],
-    perm: &[u32],
-    leaves: &[f32],
-    nodes_count: usize,
-    materials: &[f32],
-    source: Vec3,
-    listener: Vec3,
-    order: usize,
-    room: usize,
     hi: &mut [u64],
     lo: &mut [u64],
     words: &mut [u64],
@@ -63,6 +53,21 @@ fn search_scene(
     rows: &mut [f32],
     kept: &mut [u32],
     edges: &mut [f32],
+    columns: &[f32],
+    handles: &[u32],
+    n: usize,
+    m: usize,
+    settings: Settings,
+    padded: &[f32],
+    nodes: &[u32],
+    perm: &[u32],
+    leaves: &[f32],
+    nodes_count: usize,
+    materials: &[f32],
+    source: Vec3,
+    listener: Vec3,
+    order: usize,
+    room: usize,
 ) -> Found
     requires { ⌜ TrianglesLent (now columns) (now handles) n m ⌝ }
     requires { ⌜ Traceable (now padded) (now nodes) (now perm) (now leaves) (now handles) «nodes_count» (now materials) ⌝ }
@@ -126,7 +131,106 @@ fn search_scene(
     )
 }
 
-// ---- the answer
+// The search over a loaded scene, its handles made ready: nothing where no sequence is allowed, else its tree, its planes and the paths by way of them.
+// Areas of the planes serve the tree before: hi holds the keys of the three axes, rows the triangles' boxes, edges their surface areas, gfloats the boxes
+// of the nodes.
+fn find(
+    tree: &mut [f32],
+    nodes: &mut [u32],
+    perm: &mut [u32],
+    hi: &mut [u64],
+    lo: &mut [u64],
+    words: &mut [u64],
+    scratch: &mut [u64],
+    index: &mut [u32],
+    id: &mut [u32],
+    first: &mut [u32],
+    next: &mut [u32],
+    of: &mut [u32],
+    linked: &mut [u32],
+    queue: &mut [u32],
+    starts: &mut [u32],
+    gfloats: &mut [f32],
+    members: &mut [u32],
+    rows: &mut [f32],
+    kept: &mut [u32],
+    edges: &mut [f32],
+    columns: &[f32],
+    handles: &[u32],
+    n: usize,
+    m: usize,
+    settings: Settings,
+    materials: &[f32],
+    source: Vec3,
+    listener: Vec3,
+    separated: bool,
+    room: usize,
+) -> Found
+    requires { ⌜ (silentOf separated source listener m ≡ false → Heard settings n m room (now columns) (now handles) (now materials) (now tree) (now nodes) (now perm) (now hi) (now lo) (now words) (now scratch) (now index) (now id) (now first) (now next) (now of) (now linked) (now queue) (now starts) (now members) (now kept) (now rows) (now gfloats) (now edges)) ⌝ }
+    ensures { λ r. ⌜ Finds settings source listener separated room n m (now (columns .entry)) (now (handles .entry)) (now (materials .entry)) r (now (gfloats .exit)) (now (id .exit)) ⌝ }
+    ensures { λ r. ⌜ r .found ≤ room ⌝ }
+{
+    if front::silent(separated, source, listener, m) {
+        return Found {
+            images: 0,
+            rays: 0,
+            found: 0,
+            over: false,
+        };
+    }
+    let order = front::search_order(settings);
+    let nodes_count = scene_bvh::scene_bvh(
+        columns,
+        handles,
+        n,
+        m,
+        rows,
+        hi,
+        perm,
+        words,
+        scratch,
+        edges,
+        gfloats,
+        nodes,
+        tree,
+    );
+    let from = 12 * m;
+    let to = 22 * m;
+    search_scene(
+        hi,
+        lo,
+        words,
+        scratch,
+        index,
+        id,
+        first,
+        next,
+        of,
+        linked,
+        queue,
+        starts,
+        gfloats,
+        members,
+        rows,
+        kept,
+        edges,
+        columns,
+        handles,
+        n,
+        m,
+        settings,
+        &tree[0..from],
+        nodes,
+        &perm[..m],
+        &tree[from..to],
+        nodes_count,
+        materials,
+        source,
+        listener,
+        order,
+        room,
+    )
+}
 
 pub fn refused(k: u32) -> Answered
     ensures { λ r. ⌜ r ≡ answeredOf (query.refused k) ⌝ }
@@ -140,14 +244,9 @@ pub fn refused(k: u32) -> Answered
     }
 }
 
-// What the search found as an answer: refusal 7, or the packet of the best taps, `limit` of them, at the front of out. hi holds the keys, queue the
+// What the search found as an answer: the refusal handed in, refusal 7, or the packet of the best taps at the front of out. hi holds the keys, queue the
 // order, next the positions kept, linked the taps.
-pub fn send(
-    found: Found,
-    settings: Settings,
-    limit: usize,
-    fs: &[f32],
-    ws: &[u32],
+fn send(
     hi: &mut [u64],
     queue: &mut [u32],
     words: &mut [u64],
@@ -155,13 +254,22 @@ pub fn send(
     next: &mut [u32],
     linked: &mut [u32],
     out: &mut [u8],
+    fs: &[f32],
+    ws: &[u32],
+    refusal: u32,
+    found: Found,
+    settings: Settings,
 ) -> Answered
-    requires { ⌜ Sends (found .found) limit (found .images) (now fs) (now ws) (now hi) (now queue) (now words) (now scratch) (now next) (now linked) (now out) ⌝ }
-    ensures { λ r. ⌜ Answers (query.ended (settings .«speed_of_sound») (settings .«sample_rate») limit (search (found .images) (found .rays) (candidatesIn (found .found) (now (fs .entry)) (now (ws .entry))) (found .over))) r (now (out .entry)) (now (out .exit)) ⌝ }
+    requires { ⌜ (refusal ≡ 0 → Sends (found .found) (limitOf settings) (found .images) (now fs) (now ws) (now hi) (now queue) (now words) (now scratch) (now next) (now linked) (now out)) ⌝ }
+    ensures { λ r. ⌜ Answers (byRefusal refusal (query.ended (settings .«speed_of_sound») (settings .«sample_rate») (limitOf settings) (search (found .images) (found .rays) (candidatesIn (found .found) (now (fs .entry)) (now (ws .entry))) (found .over)))) r (now (out .entry)) (now (out .exit)) ⌝ }
 {
+    if refusal != 0 {
+        return refused(refusal);
+    }
     if found.over {
         return refused(7);
     }
+    let limit = front::list_limit(settings);
     let p = taps::write_taps(
         fs,
         ws,
@@ -188,23 +296,13 @@ pub fn send(
     }
 }
 
-// The answer over a scene whose tree stands.
-pub fn answer_planes(
-    columns: &[f32],
-    handles: &[u32],
-    n: usize,
-    m: usize,
-    settings: Settings,
-    padded: &[f32],
-    nodes: &[u32],
-    perm: &[u32],
-    leaves: &[f32],
-    nodes_count: usize,
-    materials: &[f32],
-    source: Vec3,
-    listener: Vec3,
-    order: usize,
-    room: usize,
+// The answer to a scene as it was loaded, or to the refusal 6 that loading gave. All work areas are zero afterwards.
+pub fn answer_loaded(
+    columns: &mut [f32],
+    handles: &mut [u32],
+    tree: &mut [f32],
+    nodes: &mut [u32],
+    perm: &mut [u32],
     hi: &mut [u64],
     lo: &mut [u64],
     words: &mut [u64],
@@ -222,34 +320,28 @@ pub fn answer_planes(
     rows: &mut [f32],
     kept: &mut [u32],
     edges: &mut [f32],
-    limit: usize,
     out: &mut [u8],
+    refusal: u32,
+    n: usize,
+    m: usize,
+    settings: Settings,
+    materials: &[f32],
+    source: Vec3,
+    listener: Vec3,
+    separated: bool,
+    room: usize,
 ) -> Answered
-    requires { ⌜ TrianglesLent (now columns) (now handles) n m ⌝ }
-    requires { ⌜ StandingScene (now columns) (now handles) n m (now materials) (now padded) (now nodes) (now perm) (now leaves) «nodes_count» ⌝ }
-    requires { ⌜ PlanesRoom n (now hi) (now lo) (now words) (now scratch) (now index) (now id) (now first) (now next) (now of) (now linked) (now queue) (now starts) (now members) (now kept) (now rows) (now gfloats) (now edges) ⌝ }
-    requires { ⌜ (order ≤ maxOrder) × (settings .«max_reflection_planes» ≤ mostPlanes) ⌝ }
-    requires { ⌜ Rows room (now gfloats) (now id) ⌝ }
-    requires { ⌜ Sane settings ⌝ }
-    requires { ⌜ SendRoom room limit (now hi) (now queue) (now words) (now scratch) (now next) (now out) ⌝ }
-    ensures { λ r. ⌜ AnswersTriangles settings source listener order room limit n m (now (columns .entry)) (now (handles .entry)) (now (materials .entry)) (now (padded .entry)) (now (nodes .entry)) (now (perm .entry)) (now (leaves .entry)) «nodes_count» r (now (out .entry)) (now (out .exit)) ⌝ }
+    requires { ⌜ (refusal ≡ 0 → Ready settings n m room (now columns) (now handles) (now materials) (now tree) (now nodes) (now perm) (now hi) (now lo) (now words) (now scratch) (now index) (now id) (now first) (now next) (now of) (now linked) (now queue) (now starts) (now members) (now kept) (now rows) (now gfloats) (now edges) (now out)) ⌝ }
+    requires { ⌜ ((refusal ≡ 0 → ⊥) → m ≡ 0) ⌝ }
+    ensures { λ r. ⌜ AnswersLoaded refusal settings source listener separated room n m (now (columns .entry)) (now (handles .entry)) (now (materials .entry)) r (now (out .entry)) (now (out .exit)) ⌝ }
+    ensures { λ _. ⌜ PlanesZero (now (hi .exit)) (now (lo .exit)) (now (words .exit)) (now (scratch .exit)) (now (index .exit)) (now (id .exit)) (now (first .exit)) (now (next .exit)) (now (of .exit)) (now (linked .exit)) (now (queue .exit)) (now (starts .exit)) (now (members .exit)) (now (kept .exit)) (now (rows .exit)) (now (gfloats .exit)) (now (edges .exit)) ⌝ }
+    ensures { λ _. ⌜ SceneZero (now (columns .exit)) (now (handles .exit)) (now (tree .exit)) (now (nodes .exit)) (now (perm .exit)) ⌝ }
 {
-    let f = search_scene(
-        columns,
-        handles,
-        n,
-        m,
-        settings,
-        padded,
+    scene_bvh::clear_from(handles, m);
+    let found = find(
+        tree,
         nodes,
         perm,
-        leaves,
-        nodes_count,
-        materials,
-        source,
-        listener,
-        order,
-        room,
         hi,
         lo,
         words,
@@ -267,13 +359,18 @@ pub fn answer_planes(
         rows,
         kept,
         edges,
-    );
-    send(
-        f,
+        columns,
+        handles,
+        n,
+        m,
         settings,
-        limit,
-        gfloats,
-        id,
+        materials,
+        source,
+        listener,
+        separated,
+        room,
+    );
+    let r = send(
         hi,
         queue,
         words,
@@ -281,5 +378,16 @@ pub fn answer_planes(
         next,
         linked,
         out,
-    )
+        gfloats,
+        id,
+        refusal,
+        found,
+        settings,
+    );
+    clearing::clear_keys(hi, lo, words, scratch);
+    clearing::clear_lists(index, id, first, next, of);
+    clearing::clear_lists(linked, queue, starts, members, kept);
+    clearing::clear_floats(rows, gfloats, edges);
+    clearing::clear_scene(columns, handles, tree, nodes, perm);
+    r
 }

@@ -5,7 +5,7 @@ use mathlib.Core.Bool.{Bool, true, false, cond, not, _&&_}
 use mathlib.Core.List.{List, [], _∷_}
 use native.Mathlib.Omega.{arith}
 use native.Mathlib.Nat.{add-le-add}
-use borrow.Author.Tests.{ne-eqb, lt-ltb, ltb-false}
+use borrow.Author.Tests.{ne-eqb, ltb-false}
 use lib.Dec.{T, eqb, ltb}
 use lib.ListN.{length}
 use lib.Ieee.{Float}
@@ -21,7 +21,7 @@ use Rattle.scene.specs.Refusals.{refusal1, refusal2, refusal3, refusal4, refusa
 use Rattle.placing.specs.Corners.{triangles, placings, refusal6}
 use Rattle.placing.specs.Loading.{firstRefusal, answerOf, left, Loading}
 use Rattle.placing.specs.declared.Loaded.{Loaded}
-use Rattle.placing.specs.declared.Loaded.the-variants.{Refused, Triangles}
+use Rattle.placing.specs.declared.Loaded.the-variants.{Triangles}
 use Rattle.bounces.specs.Areas.{maxOrder}
 use Rattle.packet.specs.Limits.{mostTaps}
 use Rattle.sequences.specs.Allowed.{mostPlanes, visited}
@@ -39,9 +39,11 @@ use Rattle.scene_bvh.specs.SceneTree.{treeOf}
 use Rattle.answer.specs.Query.{planesFor, pathFor}
 use Rattle.answer.specs.Answer.{queryFor, Answers, answeredOf, outputOf}
 use Rattle.answer.specs.declared.Answered.{Answered}
-use Rattle.query.specs.declared.Front.{Front}
+use Rattle.answer.proofs.Silence.{used-most}
+use Rattle.front.specs.declared.Front.{Front}
+use Rattle.front.specs.Asked.{frontOf, earlyOf, searchOrder}
 use Rattle.query.specs.Areas.{Work, zeroed}
-use Rattle.query.specs.Trace.{frontOf, silentOf, usedOrder, orderOf, limitOf, queryIn, byRefusal, traceOf, workAfter, mostRays, Traced}
+use Rattle.query.specs.Trace.{silentOf, usedOrder, orderOf, limitOf, queryIn, byRefusal, traceOf, workAfter, mostRays, Traced}
 
 -- ---- what loading answers
 
@@ -65,42 +67,21 @@ fronted zero s l f e g z =
     record { kept = many; loaded = rw (many, whole) e }
 fronted (suc k) s l f e g z = absurd (omega arith)
 
-first-most : (b1 b2 b3 b4 b5 b6 : Bool) → first 1 (b1 ∷ b2 ∷ b3 ∷ b4 ∷ b5 ∷ b6 ∷ []) ≤ 6
-first-most true b2 b3 b4 b5 b6 = omega arith
-first-most false true b3 b4 b5 b6 = omega arith
-first-most false false true b4 b5 b6 = omega arith
-first-most false false false true b5 b6 = omega arith
-first-most false false false false true b6 = omega arith
-first-most false false false false false true = omega arith
-first-most false false false false false false = omega arith
-
-pub refusal-most : (st : Settings) (c : ℕ) (s : Scene) (lens : List ℕ) → firstRefusal st c s lens ≤ 6
-unfolding firstRefusal
-refusal-most st c s lens = first-most (refusal1 st c) (refusal2 s) (refusal3 s) (refusal4 s) (refusal5 s c lens) (refusal6 s)
+-- with a refusal there are none
+pub none-kept : (k : ℕ) (s : Scene) (l : Loaded) (f : Front) → l ≡ answerOf k s → f ≡ frontOf l → (f .refusal ≡ 0 → ⊥) → f .kept ≡ 0
+none-kept zero s l f e g some = absurd (some (front-refusal 0 s l f e g))
+none-kept (suc k) s l f e g some = ap (λ (x : Front). x .kept) (g ∙ ap frontOf e)
 
 -- after the refusals 1 to 5 an area is as found
 pub left-found : {A : Type 0} (k : ℕ) (z : A) (l filled : List A) → (k ≡ 0 → ⊥) → (k ≡ 6 → ⊥) → left k z l filled ≡ l
 left-found k z l filled n0 n6 = rw (ne-eqb k 0 n0, ne-eqb k 6 n6)
 
-pub work-found : (k : ℕ) (w : Work) → (k ≡ 0 → ⊥) → (k ≡ 6 → ⊥) → k ≤ 6 → w ≡ workAfter k w
-work-found k w n0 n6 most =
-    let some : 0 < k = by k n0 in
-    let less : k < 6 = omega (arith, below k n6 most) in
-    rw (lt-ltb 0 k some, lt-ltb k 6 less)
-  where
-    by : (k : ℕ) → (k ≡ 0 → ⊥) → 0 < k
-    by zero n0 = absurd (n0 refl)
-    by (suc k) n0 = omega arith
+-- these are the early ones
+pub early-some : (k : ℕ) → earlyOf k ≡ true → k ≡ 0 → ⊥
+early-some k e z = absurd (subst T (sym e ∙ ap (λ (j : ℕ). earlyOf j) z) tt)
 
-    below : (k : ℕ) → (k ≡ 6 → ⊥) → k ≤ 6 → k < 6
-    below zero n6 most = omega arith
-    below (suc zero) n6 most = omega arith
-    below (suc (suc zero)) n6 most = omega arith
-    below (suc (suc (suc zero))) n6 most = omega arith
-    below (suc (suc (suc (suc zero)))) n6 most = omega arith
-    below (suc (suc (suc (suc (suc zero))))) n6 most = omega arith
-    below (suc (suc (suc (suc (suc (suc zero)))))) n6 most = absurd (n6 refl)
-    below (suc (suc (suc (suc (suc (suc (suc k))))))) n6 most = absurd (omega arith)
+pub early-less : (k : ℕ) → earlyOf k ≡ true → k ≡ 6 → ⊥
+early-less k e z = absurd (subst T (sym e ∙ ap (λ (j : ℕ). earlyOf j) z) tt)
 
 -- the areas with other columns and handles
 abbrev withScene : Work → List Float → List ℕ → Work
@@ -109,16 +90,14 @@ withScene w columns′ handles′ =
 
 -- columns and handles as they were
 pub scene-found :
-    (k : ℕ) (w : Work) (columns′ : List Float) (handles′ : List ℕ) → columns′ ≡ w .columns → handles′ ≡ w .handles → (k ≡ 0 → ⊥) → (k ≡ 6 → ⊥) → k ≤ 6 →
+    (k : ℕ) (w : Work) (columns′ : List Float) (handles′ : List ℕ) → columns′ ≡ w .columns → handles′ ≡ w .handles → earlyOf k ≡ true →
     _≡_ {A = Work} (withScene w columns′ handles′) (workAfter k w)
-scene-found k w columns′ handles′ e f n0 n6 most =
-    ap (λ (cs : List Float). withScene w cs handles′) e ∙ ap (λ (hs : List ℕ). withScene w (w .columns) hs) f ∙ work-found k w n0 n6 most
+scene-found k w columns′ handles′ e f early =
+    ap (λ (cs : List Float). withScene w cs handles′) e ∙ ap (λ (hs : List ℕ). withScene w (w .columns) hs) f ∙ sym (ap (λ (b : Bool). cond b w (zeroed w)) early)
 
-pub work-cleared : (k : ℕ) (w w′ : Work) → w′ ≡ zeroed w → k ≡ 0 → w′ ≡ workAfter k w
-work-cleared k w w′ e z = e ∙ rw z
-
-pub work-far : (k : ℕ) (w w′ : Work) → w′ ≡ zeroed w → k ≡ 6 → w′ ≡ workAfter k w
-work-far k w w′ e z = e ∙ rw z
+-- and after any other end they are zero
+pub work-cleared : (k : ℕ) (w w′ : Work) → w′ ≡ zeroed w → earlyOf k ≡ false → w′ ≡ workAfter k w
+work-cleared k w w′ e late = e ∙ sym (ap (λ (b : Bool). cond b w (zeroed w)) late)
 
 -- ---- the settings
 
@@ -166,19 +145,24 @@ pub refused-answers :
 refused-answers zero q r out out′ n0 a o = absurd (n0 refl)
 refused-answers (suc k) q r out out′ n0 a o = record { answer = a; output = o }
 
--- and where none does
+-- and the query's where none does; f is the refusal that loading told, m the triangles
 pub loaded-answers :
-    (st : Settings) (c : ℕ) (s : Scene) (lens : List ℕ) (source listener : Vec3) (separated : Bool) (m order limit : ℕ) (r : Answered) (out out′ : List ℕ) →
-    firstRefusal st c s lens ≡ 0 → m ≡ length (triangles s) → order ≡ min (st .«max_reflection_order») maxOrder → limit ≡ limitOf st →
-    Answers (queryFor st (triangles s) (s .materials) source listener (usedOrder (silentOf separated source listener m) order) c limit) r out out′ →
+    (st : Settings) (c : ℕ) (s : Scene) (lens : List ℕ) (source listener : Vec3) (separated : Bool) (f m : ℕ) (r : Answered) (out out′ : List ℕ) →
+    f ≡ firstRefusal st c s lens → (f ≡ 0 → m ≡ length (triangles s)) →
+    Answers (byRefusal f (queryFor st (triangles s) (s .materials) source listener (usedOrder (silentOf separated source listener m) (searchOrder st)) c (limitOf st))) r out out′ →
     Answers (traceOf st c s lens source listener separated) r out out′
-loaded-answers st c s lens source listener separated m order limit r out out′ none many o l h =
-    subst (λ (k : ℕ). Answers (byRefusal k (queryIn st c s source listener separated)) r out out′) (sym none)
-    (subst
-    (λ (j : ℕ). Answers (queryFor st (triangles s) (s .materials) source listener (usedOrder (silentOf separated source listener j) (min (st .«max_reflection_order») maxOrder)) c (limitOf st)) r out out′)
-    many
-    (subst (λ (d : ℕ). Answers (queryFor st (triangles s) (s .materials) source listener (usedOrder (silentOf separated source listener m) d) c (limitOf st)) r out out′) o
-    (subst (λ (d : ℕ). Answers (queryFor st (triangles s) (s .materials) source listener (usedOrder (silentOf separated source listener m) order) c d) r out out′) l h)))
+loaded-answers st c s lens source listener separated f m r out out′ is many h =
+    subst (λ (k : ℕ). Answers (byRefusal k (queryIn st c s source listener separated)) r out out′) is (go f many h)
+  where
+    go :
+        (k : ℕ) → (k ≡ 0 → m ≡ length (triangles s)) →
+        Answers (byRefusal k (queryFor st (triangles s) (s .materials) source listener (usedOrder (silentOf separated source listener m) (searchOrder st)) c (limitOf st))) r out out′ →
+        Answers (byRefusal k (queryIn st c s source listener separated)) r out out′
+    go zero many h =
+        subst
+        (λ (j : ℕ). Answers (queryFor st (triangles s) (s .materials) source listener (usedOrder (silentOf separated source listener j) (searchOrder st)) c (limitOf st)) r out out′)
+        (many refl) h
+    go (suc k) many h = h
 
 -- ---- what is claimed of it
 
@@ -203,10 +187,6 @@ pub settings-within : (st : Settings) (c : ℕ) (s : Scene) (lens : List ℕ) �
 unfolding firstRefusal refusal1
 settings-within st c s lens e =
     within st c (un-not (settingsOf st c) (settings-pass (refusal1 st c) (refusal2 s) (refusal3 s) (refusal4 s) (refusal5 s c lens) (refusal6 s) e))
-
-used-most : (b : Bool) (o : ℕ) → o ≤ maxOrder → usedOrder b o ≤ maxOrder
-used-most true o h = omega arith
-used-most false o h = h
 
 fate-rays : (o : Fate) (q : ℕ) → raysOf (byFate o q) ≡ q
 unfolding raysOf

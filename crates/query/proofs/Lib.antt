@@ -1,4 +1,3 @@
 -- The laws of the query.
 pub mod Zero
-pub mod Nothing
 pub mod Call

@@ -5,7 +5,7 @@ use mathlib.Core.List.{List}
 use lib.Ieee.{Float}
 use lib.ListN.{length, replicate}
 use Rattle.float.specs.Literals.{zero32}
-use Rattle.loaded.specs.Areas.{PlanesZero, SceneZero}
+use Rattle.clearing.specs.Zero.{PlanesZero, SceneZero}
 use Rattle.query.specs.Areas.{Work, zeroed}
 
 -- an area of zeros that is as long as it was

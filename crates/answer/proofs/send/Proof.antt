@@ -1,36 +1,57 @@
 use mathlib.Core.Path.{_≡_, refl, sym, ap, _∙_}
-use mathlib.Core.List.{List, _++_}
 use borrow.Author.Needs.{needs}
-use lib.ListN.{drop}
+use Prim.Native.Nat.{ℕ}
 use Rattle.ranking.specs.Rows.{candidatesIn}
 use Rattle.ranking.specs.Candidate.{ranked}
 use Rattle.claim.specs.Query.{Query, ended}
 use Rattle.claim.specs.Query as claim
-use Rattle.taps.specs.Tap.{packetOf}
+use Rattle.front.specs.Asked.{limitOf}
 use Rattle.answer.specs.Answer.{answeredOf, outputOf}
-use Rattle.answer.proofs.Answering.{over-answer, given-answer, sent-answer}
+use Rattle.answer.proofs.Answering.{over-answer, given-answer, sent-answer, by-some, by-none, sends-limit}
 use Rattle.answer.proofs.send.Statement.{statement}
 use Rattle.answer.proofs.send.Tie as tie
 
--- `answer::send` meets its contract: refusal 7, or the ranked candidates as a packet.
+-- `answer::send` meets its contract: the refusal handed in, refusal 7, or the ranked candidates as a packet.
 
 returns : tie.Need-returns
-returns c = let e = over-answer (c .before .before .before .before .before .before .before .before .before .before .before .args .settings .«speed_of_sound») (c .before .before .before .before .before .before .before .before .before .before .before .args .settings .«sample_rate») (c .before .before .before .before .before .before .before .before .before .before .before .args .limit) (c .before .before .before .before .before .before .before .before .before .before .before .args .found .images) (c .before .before .before .before .before .before .before .before .before .before .before .args .found .rays) (candidatesIn (c .before .before .before .before .before .before .before .before .before .before .before .args .found .found) (c .before .before .before .before .before .before .before .before .before .before .before .args .fs .now) (c .before .before .before .before .before .before .before .before .before .before .before .args .ws .now)) (c .before .before .before .before .before .before .before .before .before .before .before .args .found .over) (ended (c .before .before .before .before .before .before .before .before .before .before .before .args .settings .«speed_of_sound») (c .before .before .before .before .before .before .before .before .before .before .before .args .settings .«sample_rate») (c .before .before .before .before .before .before .before .before .before .before .before .args .limit) (claim.search (c .before .before .before .before .before .before .before .before .before .before .before .args .found .images) (c .before .before .before .before .before .before .before .before .before .before .before .args .found .rays) (candidatesIn (c .before .before .before .before .before .before .before .before .before .before .before .args .found .found) (c .before .before .before .before .before .before .before .before .before .before .before .args .fs .now) (c .before .before .before .before .before .before .before .before .before .before .before .args .ws .now)) (c .before .before .before .before .before .before .before .before .before .before .before .args .found .over))) (c .before .if1 .taken) refl in record { answer = c .refused .ensures ∙ ap answeredOf e; output = ap (λ (q : Query). outputOf q (c .before .before .before .before .before .before .before .before .before .before .before .args .out .now)) e }
-
-write-taps-requires : tie.Need-write-taps-requires
-write-taps-requires c κs = c .before .before .before .before .before .before .before .before .before .before .before .before .before .before .before .before .before .pre
+returns c = let a = c .before .before .before .before .before .before .before .before .before .before .before .args in let f = a .found in let st = a .settings in
+    let w = claim.search (f .images) (f .rays) (candidatesIn (f .found) (a .fs .now) (a .ws .now)) (f .over) in
+    let e = by-some (a .refusal) (ended (st .«speed_of_sound») (st .«sample_rate») (limitOf st) w) (c .before .if1 .taken) in
+    record { answer = c .refused .ensures ∙ ap answeredOf e; output = ap (λ (q : Query). outputOf q (a .out .now)) e }
 
 returns-2 : tie.Need-returns-2
-returns-2 c = let e = given-answer (c .before .before .before .before .before .before .before .before .before .before .before .before .before .before .before .before .before .before .before .before .before .before .before .before .before .before .before .before .before .before .before .before .args .settings .«speed_of_sound») (c .before .before .before .before .before .before .before .before .before .before .before .before .before .before .before .before .before .before .before .before .before .before .before .before .before .before .before .before .before .before .before .before .args .settings .«sample_rate») (c .before .before .before .before .before .before .before .before .before .before .before .before .before .before .before .before .before .before .before .before .before .before .before .before .before .before .before .before .before .before .before .before .args .limit) (c .before .before .before .before .before .before .before .before .before .before .before .before .before .before .before .before .before .before .before .before .before .before .before .before .before .before .before .before .before .before .before .before .args .found .images) (c .before .before .before .before .before .before .before .before .before .before .before .before .before .before .before .before .before .before .before .before .before .before .before .before .before .before .before .before .before .before .before .before .args .found .rays) (candidatesIn (c .before .before .before .before .before .before .before .before .before .before .before .before .before .before .before .before .before .before .before .before .before .before .before .before .before .before .before .before .before .before .before .before .args .found .found) (c .before .before .before .before .before .before .before .before .before .before .before .before .before .before .before .before .before .before .before .before .before .before .before .before .before .before .before .before .before .before .before .before .args .fs .now) (c .before .before .before .before .before .before .before .before .before .before .before .before .before .before .before .before .before .before .before .before .before .before .before .before .before .before .before .before .before .before .before .before .args .ws .now)) (c .before .before .before .before .before .before .before .before .before .before .before .before .before .before .before .before .before .before .before .before .before .before .before .before .before .before .before .before .before .before .before .before .args .found .over) (ended (c .before .before .before .before .before .before .before .before .before .before .before .before .before .before .before .before .before .before .before .before .before .before .before .before .before .before .before .before .before .before .before .before .args .settings .«speed_of_sound») (c .before .before .before .before .before .before .before .before .before .before .before .before .before .before .before .before .before .before .before .before .before .before .before .before .before .before .before .before .before .before .before .before .args .settings .«sample_rate») (c .before .before .before .before .before .before .before .before .before .before .before .before .before .before .before .before .before .before .before .before .before .before .before .before .before .before .before .before .before .before .before .before .args .limit) (claim.search (c .before .before .before .before .before .before .before .before .before .before .before .before .before .before .before .before .before .before .before .before .before .before .before .before .before .before .before .before .before .before .before .before .args .found .images) (c .before .before .before .before .before .before .before .before .before .before .before .before .before .before .before .before .before .before .before .before .before .before .before .before .before .before .before .before .before .before .before .before .args .found .rays) (candidatesIn (c .before .before .before .before .before .before .before .before .before .before .before .before .before .before .before .before .before .before .before .before .before .before .before .before .before .before .before .before .before .before .before .before .args .found .found) (c .before .before .before .before .before .before .before .before .before .before .before .before .before .before .before .before .before .before .before .before .before .before .before .before .before .before .before .before .before .before .before .before .args .fs .now) (c .before .before .before .before .before .before .before .before .before .before .before .before .before .before .before .before .before .before .before .before .before .before .before .before .before .before .before .before .before .before .before .before .args .ws .now)) (c .before .before .before .before .before .before .before .before .before .before .before .before .before .before .before .before .before .before .before .before .before .before .before .before .before .before .before .before .before .before .before .before .args .found .over))) (c .before .before .before .before .before .before .before .before .before .before .before .before .before .before .before .before .before .before .before .before .before .before .if1 .left) refl in
-    let s = sent-answer (c .before .before .before .before .before .before .before .before .before .before .before .before .before .before .before .before .before .before .before .before .before .before .before .before .before .before .before .before .before .before .before .before .args .found .images) (c .before .before .before .before .before .before .before .before .before .before .before .before .before .before .before .before .before .before .before .before .before .before .before .before .before .before .before .before .before .before .before .before .args .found .rays) (ranked (c .before .before .before .before .before .before .before .before .before .before .before .before .before .before .before .before .before .before .before .before .before .before .before .before .before .before .before .before .before .before .before .before .args .settings .«speed_of_sound») (c .before .before .before .before .before .before .before .before .before .before .before .before .before .before .before .before .before .before .before .before .before .before .before .before .before .before .before .before .before .before .before .before .args .settings .«sample_rate») (c .before .before .before .before .before .before .before .before .before .before .before .before .before .before .before .before .before .before .before .before .before .before .before .before .before .before .before .before .before .before .before .before .args .limit) (candidatesIn (c .before .before .before .before .before .before .before .before .before .before .before .before .before .before .before .before .before .before .before .before .before .before .before .before .before .before .before .before .before .before .before .before .args .found .found) (c .before .before .before .before .before .before .before .before .before .before .before .before .before .before .before .before .before .before .before .before .before .before .before .before .before .before .before .before .before .before .before .before .args .fs .now) (c .before .before .before .before .before .before .before .before .before .before .before .before .before .before .before .before .before .before .before .before .before .before .before .before .before .before .before .before .before .before .before .before .args .ws .now))) (c .before .before .before .before .before .before .before .before .before .before .before .before .before .before .write-taps .result .count) (c .before .before .before .before .before .before .before .before .before .before .before .before .before .before .write-taps .result .bytes) (c .before .before .before .before .before .before .before .before .before .before .before .before .before .before .before .before .before .before .before .before .before .before .before .before .before .before .before .before .before .before .before .before .args .out .now) (c .before .before .before .before .before .before .before .before .before .before .before .before .before .before .write-taps .last .1 .1 .1 .1 .1 .1 .1 .1 .1 .1 .1 .1 .1 .1 .0) (c .before .before .before .before .before .before .before .before .before .before .before .before .before .before .write-taps .ensures .0) (c .before .before .before .before .before .before .before .before .before .before .before .before .before .before .write-taps .ensures .1 .0) (c .before .before .before .before .before .before .before .before .before .before .before .before .before .before .write-taps .ensures .1 .1) in
-    record { answer = s .answer ∙ ap answeredOf e; output = s .output ∙ ap (λ (q : Query). outputOf q (c .before .before .before .before .before .before .before .before .before .before .before .before .before .before .before .before .before .before .before .before .before .before .before .before .before .before .before .before .before .before .before .before .args .out .now)) e }
+returns-2 c = let a = c .before .before .before .before .before .before .before .before .before .before .before .before .args in let f = a .found in let st = a .settings in
+    let cs = candidatesIn (f .found) (a .fs .now) (a .ws .now) in
+    let q = ended (st .«speed_of_sound») (st .«sample_rate») (limitOf st) (claim.search (f .images) (f .rays) cs (f .over)) in
+    let e = over-answer (st .«speed_of_sound») (st .«sample_rate») (limitOf st) (f .images) (f .rays) cs (f .over) q (c .before .if2 .taken) refl ∙ by-none (a .refusal) q (c .before .before .if1 .left) in
+    record { answer = c .refused2 .ensures ∙ ap answeredOf e; output = ap (λ (q : Query). outputOf q (a .out .now)) e }
+
+write-taps-requires : tie.Need-write-taps-requires
+write-taps-requires c κs = let a = c .before .before .before .before .before .before .before .before .before .before .before .before .before .before .before .before .before .before .before .args in let f = a .found in
+    sends-limit (f .found) (limitOf (a .settings)) (c .before .before .before .before .before .before .before .list-limit .result) (f .images) (a .fs .now) (a .ws .now) (a .hi .now) (a .queue .now) (a .words .now) (a .scratch .now) (a .next .now) (a .linked .now) (a .out .now) (c .before .before .before .before .before .before .before .list-limit .ensures) (c .before .before .before .before .before .before .before .before .before .before .before .before .before .before .before .before .before .before .before .pre (c .before .before .before .before .before .before .before .before .before .if1 .left))
+
+returns-3 : tie.Need-returns-3
+returns-3 c = let a = c .before .before .before .before .before .before .before .before .before .before .before .before .before .before .before .before .before .before .before .before .before .before .before .before .before .before .before .before .before .before .before .before .before .before .args in let f = a .found in let st = a .settings in let limit = c .before .before .before .before .before .before .before .before .before .before .before .before .before .before .before .before .before .before .before .before .before .before .list-limit .result in let t = c .before .before .before .before .before .before .before .before .before .before .before .before .before .before .write-taps in
+    let cs = candidatesIn (f .found) (a .fs .now) (a .ws .now) in
+    let w = claim.search (f .images) (f .rays) cs (f .over) in
+    let q = ended (st .«speed_of_sound») (st .«sample_rate») (limitOf st) w in
+    let e =
+    given-answer (st .«speed_of_sound») (st .«sample_rate») limit (f .images) (f .rays) cs (f .over) (ended (st .«speed_of_sound») (st .«sample_rate») limit w) (c .before .before .before .before .before .before .before .before .before .before .before .before .before .before .before .before .before .before .before .before .before .before .before .if2 .left) refl
+    ∙ ap (λ (l : ℕ). ended (st .«speed_of_sound») (st .«sample_rate») l w) (c .before .before .before .before .before .before .before .before .before .before .before .before .before .before .before .before .before .before .before .before .before .before .list-limit .ensures)
+    ∙ by-none (a .refusal) q (c .before .before .before .before .before .before .before .before .before .before .before .before .before .before .before .before .before .before .before .before .before .before .before .before .if1 .left)
+    in
+    let s = sent-answer (f .images) (f .rays) (ranked (st .«speed_of_sound») (st .«sample_rate») limit cs) (t .result .count) (t .result .bytes) (a .out .now) (t .last .1 .1 .1 .1 .1 .1 .1 .1 .1 .1 .1 .1 .1 .1 .0) (t .ensures .0) (t .ensures .1 .0) (t .ensures .1 .1) in
+    record { answer = s .answer ∙ ap answeredOf e; output = s .output ∙ ap (λ (q : Query). outputOf q (a .out .now)) e }
 
 pub send-spec : {M : Type 1} → statement M
 send-spec =
     tie.close
     (tie.spec
-    (λ c κs. search needs)
+    (λ c κs. tt)
     returns
+    (λ c κs. tt)
+    returns-2
+    (λ c κs. tt)
     write-taps-requires
     (λ c. search needs)
     (λ c. search needs)
@@ -39,4 +60,4 @@ send-spec =
     (λ c. search needs)
     (λ c. search needs)
     (λ c. search needs)
-    returns-2)
+    returns-3)

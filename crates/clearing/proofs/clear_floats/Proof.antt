@@ -1,0 +1,24 @@
+use native.Mathlib.Omega.{arith}
+use borrow.Author.Needs.{needs}
+use lib.ListN.{length}
+use Rattle.clearing.proofs.Zero.{zero-of}
+use Rattle.float.specs.Literals.{zero32}
+use Rattle.clearing.proofs.clear_floats.Statement.{statement}
+use Rattle.clearing.proofs.clear_floats.Tie as tie
+
+-- `clearing::clear_floats` meets its contract.
+
+returns : tie.Need-returns
+returns c = (zero-of zero32 (length (c .before .before .before .before .before .before .before .before .before .before .before .before .before .before .before .args .a .now)) _ (c .before .before .before .before .before .before .before .before .before .before .clear-f32 .ensures), zero-of zero32 (length (c .before .before .before .before .before .before .before .before .before .before .before .before .before .before .before .args .b .now)) _ (c .before .before .before .before .before .before .clear-f322 .ensures), zero-of zero32 (length (c .before .before .before .before .before .before .before .before .before .before .before .before .before .before .before .args .c .now)) _ (c .before .before .clear-f323 .ensures))
+
+pub clear-floats-spec : {M : Type 1} → statement M
+clear-floats-spec =
+    tie.close
+    (tie.spec
+    (λ c κs. tt)
+    (λ c κs. tt)
+    (λ c κs. tt)
+    (λ c. search needs)
+    (λ c. search needs)
+    (λ c. search needs)
+    returns)

@@ -1,0 +1,34 @@
+use native.Mathlib.Omega.{arith}
+use borrow.Author.Needs.{needs}
+use lib.ListN.{length}
+use Rattle.clearing.proofs.Zero.{zero-of}
+use Rattle.float.specs.Literals.{zero32}
+use Rattle.clearing.proofs.clear_scene.Statement.{statement}
+use Rattle.clearing.proofs.clear_scene.Tie as tie
+
+-- `clearing::clear_scene` meets its contract.
+
+returns : tie.Need-returns
+returns c = record {
+  columns-zero = zero-of zero32 (length (c .before .before .before .before .before .before .before .before .before .before .before .before .before .before .before .before .before .before .before .before .before .before .before .before .before .args .columns .now)) _ (c .before .before .before .before .before .before .before .before .before .before .before .before .before .before .before .before .before .before .clear-f32 .ensures);
+  handles-zero = zero-of 0 (length (c .before .before .before .before .before .before .before .before .before .before .before .before .before .before .before .before .before .before .before .before .before .before .before .before .before .args .handles .now)) _ (c .before .before .before .before .before .before .before .before .before .before .before .before .before .before .clear-u32 .ensures);
+  tree-zero = zero-of zero32 (length (c .before .before .before .before .before .before .before .before .before .before .before .before .before .before .before .before .before .before .before .before .before .before .before .before .before .args .tree .now)) _ (c .before .before .before .before .before .before .before .before .before .before .clear-f322 .ensures);
+  nodes-zero = zero-of 0 (length (c .before .before .before .before .before .before .before .before .before .before .before .before .before .before .before .before .before .before .before .before .before .before .before .before .before .args .nodes .now)) _ (c .before .before .before .before .before .before .clear-u322 .ensures);
+  perm-zero = zero-of 0 (length (c .before .before .before .before .before .before .before .before .before .before .before .before .before .before .before .before .before .before .before .before .before .before .before .before .before .args .perm .now)) _ (c .before .before .clear-u323 .ensures);
+}
+
+pub clear-scene-spec : {M : Type 1} → statement M
+clear-scene-spec =
+    tie.close
+    (tie.spec
+    (λ c κs. tt)
+    (λ c κs. tt)
+    (λ c κs. tt)
+    (λ c κs. tt)
+    (λ c κs. tt)
+    (λ c. search needs)
+    (λ c. search needs)
+    (λ c. search needs)
+    (λ c. search needs)
+    (λ c. search needs)
+    returns)

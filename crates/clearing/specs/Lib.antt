@@ -1,0 +1,2 @@
+-- Clearing: the definitions that its contracts cite.
+pub mod Zero

@@ -1,2 +1,0 @@
--- The laws of the answer over a loaded scene.
-mod Zero
