@@ -25,8 +25,9 @@ use Rattle.claim.specs.Answer.{Answer, passes}
 use Rattle.claim.specs.Query.{given}
 use Rattle.search.specs.Outcome.{onOf, outcomeOf}
 use Rattle.answer.specs.Query.{planesFor, pathFor}
-use Rattle.answer.specs.Answer.{queryFor}
-use Rattle.query.specs.Trace.{finitePoint, silentOf, usedOrder, byRefusal, queryIn}
+use Rattle.front.specs.Asked.{finitePoint, silentOf, usedOrder}
+use Rattle.answer.specs.Answer.{queryFor, byRefusal}
+use Rattle.query.specs.Trace.{queryIn}
 use Rattle.known_points.specs.CaseA.{settings, room, floor, materials, source, listener, separated, nearSource, farSource, image, bounce, answer, whole}
 use Rattle.known_points.specs.KnownPoints.{called, Enough}
 use Rattle.known_points.proofs.Scene.{two, triangles-are, not-refused}
