@@ -2,10 +2,11 @@
 -- of a triangle of the leaves.
 use mathlib.Core.Path.{_≡_, refl, sym, ap, _∙_, subst}
 use mathlib.Core.Logic.{_⊎_, inl, inr, ⊎-elim}
-use mathlib.Core.Bool.{Bool, true, false, cond, not, _||_}
+use mathlib.Core.Bool.{Bool, true, false, cond, _||_}
 use mathlib.Core.List.{List, [], _∷_, _++_, foldl}
 use Prim.Native.Nat.{ℕ}
 use native.Mathlib.Omega.{arith}
+use lib.Dec.{eqb}
 use lib.Ieee.{Float, lt, le}
 use Rattle.vector.specs.declared.Ray.{Ray}
 use Rattle.geometry.specs.declared.Triangle.{Triangle}
@@ -62,10 +63,10 @@ module _ (tri : ℕ → Triangle) (ray : Ray) where
     where
       go : (x : Crossing) → intersectMaxOf (tri i) ray (best .distance) ≡ x → Kept (i ∷ []) best (Rattle.trace.specs.Leaf.keepOf x i best)
       go crossing.Miss e = inl refl
-      go (crossing.At t p q) e = by (lt t (best .distance) || not (best .found))
+      go (crossing.At t p q) e = by (lt t (best .distance) || eqb (best .found) 0)
         where
           hit : Closest
-          hit = record { distance = t; index = i; found = true }
+          hit = record { distance = t; index = i; found = 1 }
 
           by : (k : Bool) → Kept (i ∷ []) best (cond k hit best)
           by true = inr (record { among = inl refl; within = best .distance; u = p; v = q; crosses = e })
@@ -112,11 +113,8 @@ module _ (tri : ℕ → Triangle) (ray : Ray) where
       go false p = inl refl
 
   -- THE HIT
-  pub hit-is : (test : Test) (t : Tree) → traceOf test tri ray t (none ray) .found ≡ true → IsHit tri ray (leavesOf t) (traceOf test tri ray t (none ray))
+  pub hit-is : (test : Test) (t : Tree) → traceOf test tri ray t (none ray) .found ≡ 1 → IsHit tri ray (leavesOf t) (traceOf test tri ray t (none ray))
   hit-is test t f = ⊎-elim (λ e. absurd (no (sym (ap (λ (c : Closest). c .found) e) ∙ f))) (λ h. h) (trace-kept test t (none ray))
     where
-      no : _≡_ {A = Bool} false true → ⊥
-      no e = let z : _≡_ {A = ℕ} 0 1 = cc in not-one z
-        where
-          not-one : _≡_ {A = ℕ} 0 1 → ⊥
-          not-one z = omega arith
+      no : _≡_ {A = ℕ} 0 1 → ⊥
+      no z = omega arith

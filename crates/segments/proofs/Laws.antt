@@ -2,6 +2,7 @@
 -- hit's handle is a triangle's.
 use mathlib.Core.Path.{_≡_, refl}
 use mathlib.Core.Bool.{Bool, true, false, cond}
+use lib.Dec.{eqb}
 use Prim.Native.Nat.{ℕ, zero, suc, _+_, _-_, _*_, _≤_}
 use native.Mathlib.Omega.{arith}
 use lib.Ieee.{Float, binary32, sub, mul, lt}
@@ -37,12 +38,12 @@ pub hit-handle :
     (tri : ℕ → Triangle) (t : Tree) (ray : Ray) (h : RayHit) (P : ℕ → Type 0) →
     ((i : ℕ) → P (tri i .«material_handle»)) → intersectOf tri ray t ≡ At h → P (h .«material_handle»)
 unfolding intersectOf
-hit-handle tri t ray h P all e = rw e at (found (traceOf intersectTOf tri ray t (none ray)) (traceOf intersectTOf tri ray t (none ray) .found)) where
+hit-handle tri t ray h P all e = rw e at (found (traceOf intersectTOf tri ray t (none ray)) (eqb (traceOf intersectTOf tri ray t (none ray) .found) 0)) where
   found : (c : Closest) (b : Bool) →
       P (handleOr (tri 0 .«material_handle»)
-      (cond b (At (record { distance = c .distance; point = pointAtOf ray (c .distance); triangle = c .index; «material_handle» = tri (c .index) .«material_handle» })) Nothing))
-  found c true = all (c .index)
-  found c false = all 0
+      (cond b Nothing (At (record { distance = c .distance; point = pointAtOf ray (c .distance); triangle = c .index; «material_handle» = tri (c .index) .«material_handle» }))))
+  found c true = all 0
+  found c false = all (c .index)
 
 module _ (trace : Ray → Hit) (pass : ℕ → Band8) where
   -- ---- the four ways that a turn of the walk goes

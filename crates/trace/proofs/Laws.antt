@@ -198,11 +198,11 @@ pub plain-trace : (tri : ℕ → Triangle) (ray : Ray) (t p : Tree) (c : Closest
 plain-trace tri ray t p c e q = e ∙ ap (λ (x : Tree). traceOf slabOf tri ray x (none ray)) q ∙ trace-padded tri ray t (none ray)
 
 module _ (tri : ℕ → Triangle) (ray : Ray) (t : Tree) (c : Closest) (e : c ≡ traceOf intersectTOf tri ray t (none ray)) where
-  pub hit-found : c .found ≡ true → (p : Vec3) → p ≡ pointAtOf ray (c .distance) → (h : ℕ) → h ≡ tri (c .index) .«material_handle» →
+  pub hit-found : (c .found ≡ 0 → ⊥) → (p : Vec3) → p ≡ pointAtOf ray (c .distance) → (h : ℕ) → h ≡ tri (c .index) .«material_handle» →
       hit.At (record { distance = c .distance; point = p; triangle = c .index; «material_handle» = h }) ≡ intersectOf tri ray t
   unfolding intersectOf
-  hit-found f p ep h eh = rw (← e, f, ep, eh)
+  hit-found f p ep h eh = rw (← e, ne-eqb (c .found) 0 f, ep, eh)
 
-  pub hit-nothing : c .found ≡ false → hit.Nothing ≡ intersectOf tri ray t
+  pub hit-nothing : c .found ≡ 0 → hit.Nothing ≡ intersectOf tri ray t
   unfolding intersectOf
-  hit-nothing f = rw (← e, f)
+  hit-nothing f = rw (← e, eq-eqb (c .found) 0 f)

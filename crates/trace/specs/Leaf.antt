@@ -1,9 +1,10 @@
 -- The triangles of a leaf, tried in order: the inner loop of `FlatBvh::intersect`. A triangle is a function of its index.
 use Prim.Native.Nat.{ℕ, _+_, _*_, _<_}
+use lib.Dec.{eqb}
 use lib.Ieee.{Float, nan, lt}
 use lib.ListN.{length, getD}
 use mathlib.Core.Path.{_≡_}
-use mathlib.Core.Bool.{true, cond, not, _||_}
+use mathlib.Core.Bool.{cond, _||_}
 use mathlib.Core.List.{List, [], _∷_}
 use Rattle.vector.specs.declared.Vec3.{Vec3}
 use Rattle.vector.specs.declared.Ray.{Ray}
@@ -18,7 +19,7 @@ use Rattle.trace.specs.declared.Closest.{Closest}
 -- `t < best || closest.is_none()`: a nearer crossing, or the first one, takes the place of the closest
 abbrev pub keepOf : Crossing → ℕ → Closest → Closest
 keepOf Miss i best = best
-keepOf (At t u v) i best = cond (lt t (best .distance) || not (best .found)) (record { distance = t; index = i; found = true }) best
+keepOf (At t u v) i best = cond (lt t (best .distance) || eqb (best .found) 0) (record { distance = t; index = i; found = 1 }) best
 
 -- with a triangle by its first corner and its edges
 unfoldable pub visitEdgesOf : Vec3 → Edges → Ray → ℕ → Closest → Closest

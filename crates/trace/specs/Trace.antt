@@ -48,14 +48,14 @@ traceOf test tri ray (node b l r) best =
 
 -- nothing found, and the ray's whole length to go
 abbrev pub none : Ray → Closest
-none ray = record { distance = ray .«max_distance»; index = 0; found = false }
+none ray = record { distance = ray .«max_distance»; index = 0; found = 0 }
 
 -- `RayHit`, with the triangle's index
 abbrev pub hitOf : (ℕ → Triangle) → Ray → Closest → Hit
 hitOf tri ray c =
-    cond (c .found)
-    (hit.At (record { distance = c .distance; point = pointAtOf ray (c .distance); triangle = c .index; «material_handle» = tri (c .index) .«material_handle» }))
+    cond (eqb (c .found) 0)
     hit.Nothing
+    (hit.At (record { distance = c .distance; point = pointAtOf ray (c .distance); triangle = c .index; «material_handle» = tri (c .index) .«material_handle» }))
 
 -- `FlatBvh::intersect`
 unfoldable pub intersectOf : (ℕ → Triangle) → Ray → Tree → Hit

@@ -1,5 +1,6 @@
 -- `trace::visit` meets its contract: by the crossing and the two tests.
 use borrow.Author.Needs.{needs}
+use borrow.Author.Tests.{eq-eqb, ne-eqb}
 use Rattle.trace.specs.Leaf.{visitEdgesOf}
 use Rattle.trace.proofs.visit.Statement.{statement}
 use Rattle.trace.proofs.visit.Tie as tie
@@ -10,11 +11,11 @@ returns c = rw (← c .before .before .before .before .before .intersect-edges .
 
 returns-2 : tie.Need-returns-2
 unfolding visitEdgesOf
-returns-2 c = rw (← c .before .before .before .before .before .before .intersect-edges .ensures, c .before .before .before .before .t .given .1, c .before .if1 .left, c .if2 .taken)
+returns-2 c = rw (← c .before .before .before .before .before .before .before .intersect-edges .ensures, c .before .before .before .before .before .t .given .1, c .before .before .if1 .left, eq-eqb _ _ (c .if2 .taken))
 
 returns-3 : tie.Need-returns-3
 unfolding visitEdgesOf
-returns-3 c = rw (← c .before .before .before .before .before .before .intersect-edges .ensures, c .before .before .before .before .t .given .1, c .before .if1 .left, c .if2 .left)
+returns-3 c = rw (← c .before .before .before .before .before .before .before .intersect-edges .ensures, c .before .before .before .before .before .t .given .1, c .before .before .if1 .left, ne-eqb _ _ (c .if2 .left))
 
 returns-4 : tie.Need-returns-4
 unfolding visitEdgesOf
