@@ -223,7 +223,9 @@ fn save(path: &[u8], packet: &[u8]) {
         os::fail(path);
         return;
     }
-    io::write_all(file, packet);
+    if io::write_all(file, packet) {} else {
+        os::fail(path);
+    }
     libc::close(file);
 }
 

@@ -1,22 +1,19 @@
 // Reads a case: settings, materials, meshes and positions in the text of reference/FORMAT.md, with remarks, and floats as decimals or by their
 // bits. Proved: every text is read safely and to an end, nothing is stored outside the areas, and their lengths stay.
 //
-// A case is stored in seven areas. `words`: the four counts, merge, curve, separated, rows of the material table, meshes, and all meshes'
-// vertices and indices. `floats`: the seven of the settings, the four of the curve, source, listener. Then materials, mesh rows, transforms,
+// A case is stored in seven areas. `w`, of 11 words: the four counts, merge, curve, separated, rows of the material table, meshes, and all meshes'
+// vertices and indices. `f`, of 17 floats: the seven of the settings, the four of the curve, source, listener. Then materials, mesh rows, transforms,
 // positions and indices as `scene` takes them.
-pub const WORDS: usize = 11;
+// The room that the areas of a case have.
+const MOST_MATERIALS: u32 = 64;
 
-pub const FLOATS: usize = 17;
+const MOST_MESHES: u32 = 64;
 
-pub const MATERIALS: usize = 64;
+const MOST_VERTICES: u32 = 2048;
 
-pub const MESHES: usize = 64;
+const MOST_INDICES: u32 = 1536;
 
-pub const VERTICES: usize = 2048;
-
-pub const INDICES: usize = 1536;
-
-// Places in `words`.
+// Places in `w`.
 const MERGE: usize = 4;
 
 const CURVE: usize = 5;
@@ -146,6 +143,7 @@ fn add_word(w: &mut [u32], k: usize, n: u32) {
 
 // ---- one token
 
+// The same place, where something else was expected.
 fn fault(c: Cursor, wrong: u32) -> Cursor {
     Cursor {
         at: c.at,
@@ -154,7 +152,7 @@ fn fault(c: Cursor, wrong: u32) -> Cursor {
     }
 }
 
-// The next token, of which nothing is known yet.
+// The place after a token.
 fn after(t: text::Token, wrong: u32) -> Cursor {
     Cursor {
         at: t.end,
@@ -267,7 +265,7 @@ fn read_floats(s: &[u8], c: Cursor, f: &mut [f32], k: usize, n: usize) -> Cursor
     d
 }
 
-// `wrong` where the number at place k is above the limit.
+// `wrong` where n is above the limit.
 fn at_most(c: Cursor, n: u32, limit: u32, wrong: u32) -> Cursor {
     if c.wrong != 0 {
         return c;
@@ -357,7 +355,7 @@ fn read_materials(s: &[u8], c: Cursor, w: &mut [u32], materials: &mut [f32]) -> 
     let a = keyword(s, c, b"materials", MATERIAL_WORD);
     let b = read_word(s, a, w, ROWS);
     let n = word(w, ROWS);
-    let d = at_most(b, n, 64, FEW_MATERIALS);
+    let d = at_most(b, n, MOST_MATERIALS, FEW_MATERIALS);
     if d.wrong != 0 {
         return d;
     }
@@ -419,15 +417,15 @@ fn read_mesh_row(s: &[u8], c: Cursor, meshes: &mut [u32], j: usize) -> Cursor {
 // Counts the vertices and indices of mesh j, if there is room for them.
 fn count_mesh(c: Cursor, w: &mut [u32], meshes: &[u32], j: usize) -> Cursor {
     let k = thrice(j);
-    let a = at_most(c, word(meshes, k), 2048, FEW_VERTICES);
-    let b = at_most(a, word(meshes, plus(k, 1)), 1536, FEW_INDICES);
+    let a = at_most(c, word(meshes, k), MOST_VERTICES, FEW_VERTICES);
+    let b = at_most(a, word(meshes, plus(k, 1)), MOST_INDICES, FEW_INDICES);
     if b.wrong != 0 {
         return b;
     }
     add_word(w, VERTEX_COUNT, word(meshes, k));
     add_word(w, INDEX_COUNT, word(meshes, plus(k, 1)));
-    let d = at_most(b, word(w, VERTEX_COUNT), 2048, FEW_VERTICES);
-    at_most(d, word(w, INDEX_COUNT), 1536, FEW_INDICES)
+    let d = at_most(b, word(w, VERTEX_COUNT), MOST_VERTICES, FEW_VERTICES);
+    at_most(d, word(w, INDEX_COUNT), MOST_INDICES, FEW_INDICES)
 }
 
 fn read_transform(s: &[u8], c: Cursor, transforms: &mut [f32], j: usize) -> Cursor {
@@ -498,7 +496,7 @@ fn read_meshes(
 fn read_mesh_count(s: &[u8], c: Cursor, w: &mut [u32]) -> Cursor {
     let a = keyword(s, c, b"meshes", MESHES_WORD);
     let b = read_word(s, a, w, MESH_COUNT);
-    at_most(b, word(w, MESH_COUNT), 64, FEW_MESHES)
+    at_most(b, word(w, MESH_COUNT), MOST_MESHES, FEW_MESHES)
 }
 
 fn read_scene(
