@@ -64,7 +64,7 @@ fn is_digit(b: u8) -> bool
     b >= b'0' && b <= b'9'
 }
 
-fn is_decimal(word: &[u8]) -> bool
+pub fn is_decimal(word: &[u8]) -> bool
     ensures { λ r. ⌜ r ≡ request.isDecimal (now (word .entry)) ⌝ }
 {
     if word.len() == 0 {
@@ -202,7 +202,7 @@ pub fn read_request(text: &[u8]) -> Request
 // ---- the pieces of the text
 
 // One byte at `at`; answers the place after it, as all that follow do.
-fn put(b: u8, out: &mut [u8], at: usize) -> usize
+pub fn put(b: u8, out: &mut [u8], at: usize) -> usize
     requires { ⌜ at < length (now out) ⌝ }
     ensures { λ r. ⌜ text.Wrote (b ∷ []) (now (out .entry)) at (now (out .exit)) r ⌝ }
 {
@@ -223,7 +223,7 @@ fn put_bytes(bytes: &[u8], out: &mut [u8], at: usize) -> usize
 }
 
 // n in decimal, of at most `most` digits.
-fn put_digits(n: usize, most: usize, out: &mut [u8], at: usize) -> usize
+pub fn put_digits(n: usize, most: usize, out: &mut [u8], at: usize) -> usize
     requires { ⌜ at + most ≤ length (now out) ⌝ }
     ensures { λ r. ⌜ text.Wrote (text.digitsOf most n) (now (out .entry)) at (now (out .exit)) r ⌝ }
 {

@@ -1,0 +1,184 @@
+// The areas of a query of at most 512 triples and 4,096 candidates (docs/AREAS.md), those that a case is read into, and the tap area. Each is
+// zero and promises its length, which is all that lending it asks.
+ghost use mathlib.Core.Path.{_≡_};
+ghost use lib.ListN.{length};
+
+pub fn fresh_columns() -> [f32; 11776]
+    ensures { λ r. ⌜ length r ≡ 11776 ⌝ }
+{
+    [0.0; 11776]
+}
+
+pub fn fresh_handles() -> [u32; 512]
+    ensures { λ r. ⌜ length r ≡ 512 ⌝ }
+{
+    [0u32; 512]
+}
+
+pub fn fresh_tree() -> [f32; 11264]
+    ensures { λ r. ⌜ length r ≡ 11264 ⌝ }
+{
+    [0.0; 11264]
+}
+
+pub fn fresh_nodes() -> [u32; 4096]
+    ensures { λ r. ⌜ length r ≡ 4096 ⌝ }
+{
+    [0u32; 4096]
+}
+
+pub fn fresh_perm() -> [u32; 512]
+    ensures { λ r. ⌜ length r ≡ 512 ⌝ }
+{
+    [0u32; 512]
+}
+
+pub fn fresh_hi() -> [u64; 5632]
+    ensures { λ r. ⌜ length r ≡ 5632 ⌝ }
+{
+    [0u64; 5632]
+}
+
+pub fn fresh_lo() -> [u64; 1536]
+    ensures { λ r. ⌜ length r ≡ 1536 ⌝ }
+{
+    [0u64; 1536]
+}
+
+pub fn fresh_words() -> [u64; 16384]
+    ensures { λ r. ⌜ length r ≡ 16384 ⌝ }
+{
+    [0u64; 16384]
+}
+
+pub fn fresh_scratch() -> [u64; 16384]
+    ensures { λ r. ⌜ length r ≡ 16384 ⌝ }
+{
+    [0u64; 16384]
+}
+
+pub fn fresh_index() -> [u32; 1536]
+    ensures { λ r. ⌜ length r ≡ 1536 ⌝ }
+{
+    [0u32; 1536]
+}
+
+pub fn fresh_id() -> [u32; 9728]
+    ensures { λ r. ⌜ length r ≡ 9728 ⌝ }
+{
+    [0u32; 9728]
+}
+
+pub fn fresh_first() -> [u32; 512]
+    ensures { λ r. ⌜ length r ≡ 512 ⌝ }
+{
+    [0u32; 512]
+}
+
+pub fn fresh_next() -> [u32; 576]
+    ensures { λ r. ⌜ length r ≡ 576 ⌝ }
+{
+    [0u32; 576]
+}
+
+pub fn fresh_of() -> [u32; 512]
+    ensures { λ r. ⌜ length r ≡ 512 ⌝ }
+{
+    [0u32; 512]
+}
+
+pub fn fresh_linked() -> [u32; 16384]
+    ensures { λ r. ⌜ length r ≡ 16384 ⌝ }
+{
+    [0u32; 16384]
+}
+
+pub fn fresh_queue() -> [u32; 5632]
+    ensures { λ r. ⌜ length r ≡ 5632 ⌝ }
+{
+    [0u32; 5632]
+}
+
+pub fn fresh_starts() -> [u32; 1537]
+    ensures { λ r. ⌜ length r ≡ 1537 ⌝ }
+{
+    [0u32; 1537]
+}
+
+pub fn fresh_gfloats() -> [f32; 59392]
+    ensures { λ r. ⌜ length r ≡ 59392 ⌝ }
+{
+    [0.0; 59392]
+}
+
+pub fn fresh_members() -> [u32; 513]
+    ensures { λ r. ⌜ length r ≡ 513 ⌝ }
+{
+    [0u32; 513]
+}
+
+pub fn fresh_rows() -> [f32; 6144]
+    ensures { λ r. ⌜ length r ≡ 6144 ⌝ }
+{
+    [0.0; 6144]
+}
+
+pub fn fresh_kept() -> [u32; 2560]
+    ensures { λ r. ⌜ length r ≡ 2560 ⌝ }
+{
+    [0u32; 2560]
+}
+
+pub fn fresh_edges() -> [f32; 9216]
+    ensures { λ r. ⌜ length r ≡ 9216 ⌝ }
+{
+    [0.0; 9216]
+}
+
+pub fn fresh_output() -> [u8; 3465]
+    ensures { λ r. ⌜ length r ≡ 3465 ⌝ }
+{
+    [0u8; 3465]
+}
+
+pub fn fresh_case_words() -> [u32; 11]
+    ensures { λ r. ⌜ length r ≡ 11 ⌝ }
+{
+    [0u32; 11]
+}
+
+pub fn fresh_case_floats() -> [f32; 17]
+    ensures { λ r. ⌜ length r ≡ 17 ⌝ }
+{
+    [0.0; 17]
+}
+
+pub fn fresh_case_rows() -> [f32; 1024]
+    ensures { λ r. ⌜ length r ≡ 1024 ⌝ }
+{
+    [0.0; 1024]
+}
+
+pub fn fresh_case_meshes() -> [u32; 192]
+    ensures { λ r. ⌜ length r ≡ 192 ⌝ }
+{
+    [0u32; 192]
+}
+
+pub fn fresh_case_positions() -> [f32; 6144]
+    ensures { λ r. ⌜ length r ≡ 6144 ⌝ }
+{
+    [0.0; 6144]
+}
+
+pub fn fresh_case_indices() -> [u32; 1536]
+    ensures { λ r. ⌜ length r ≡ 1536 ⌝ }
+{
+    [0u32; 1536]
+}
+
+pub fn fresh_taps() -> [u32; 896]
+    ensures { λ r. ⌜ length r ≡ 896 ⌝ }
+{
+    [0u32; 896]
+}

@@ -1,0 +1,3 @@
+-- The definitions that the contracts and laws of `text` cite.
+pub mod Numbers
+pub mod Fixed
