@@ -28,7 +28,7 @@ const VERTEX_COUNT: usize = 9;
 
 const INDEX_COUNT: usize = 10;
 
-// What can be expected where the text goes wrong: `expected` has the words for each.
+// What can be expected where the text goes wrong; `booth` has the words for each number.
 const A_NAME: u32 = 1;
 
 const A_WHOLE: u32 = 2;

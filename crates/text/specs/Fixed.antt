@@ -12,7 +12,7 @@ use Rattle.listing.specs.Text.{digitsOf}
 abbrev pub none : ℕ
 none = 18446744073709551615
 
--- |x| * tens + 1/2 in binary64, which is exact below 2 ^ 39 * tens
+-- |x| * tens + 1/2 in binary64; the product is exact, since tens is at most 10 ^ 6
 abbrev pub shifted : Float → ℕ → Float
 shifted x tens = add binary64 (mul binary64 (absOf x) (ofInt binary64 (pos tens))) (ofBits binary64 4602678819172646912)
 
