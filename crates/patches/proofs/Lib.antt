@@ -1,6 +1,6 @@
 -- The laws of step 2 that later steps cite.
 pub mod Lists
-pub mod Chains
+pub mod Buckets
 pub mod Stores
 pub mod Around
 pub mod Turns
