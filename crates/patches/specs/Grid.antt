@@ -77,9 +77,9 @@ pub record Grid (rows : List Float) (cells heads next : List ℕ) (np : ℕ) : T
   pub buckets : length heads ≡ bucketCount
   pub cells-are : (p : ℕ) → p < np → cellAt cells p ≡ cellIn rows p
   pub heads-are : (h : ℕ) → h < bucketCount → getD heads h 0 ≡ newest (inBucket cells h) np
-  -- behind the newest of the patches before q in its bucket stands q
+  -- `next` leads from a patch to the one made after it in the bucket
   pub next-are : (p q : ℕ) → q < np → newest (inBucket cells (bucketOf (cellAt cells q))) q ≡ suc p → getD next p 0 ≡ q
-  -- and behind the newest of all the oldest
+  -- and from the tail round to the oldest
   pub round-are : (p q : ℕ) → q < np → newest (inBucket cells (bucketOf (cellAt cells q))) q ≡ 0 → newest (inBucket cells (bucketOf (cellAt cells q))) np ≡ suc p → getD next p 0 ≡ q
 
 -- the areas hold the np patches of the first t triangles
