@@ -108,7 +108,8 @@ filling-none ts first m rows of cells heads next k e z =
           buckets = ap length z ∙ length-replicate k 0 ∙ e;
           cells-are = λ p l. absurd (not-suc-le-zero l);
           heads-are = λ h l. rw z (getD-replicate k h 0 0 (omega arith));
-          next-are = λ p l. absurd (not-suc-le-zero l);
+          next-are = λ p q l. absurd (not-suc-le-zero l);
+          round-are = λ p q l. absurd (not-suc-le-zero l);
         };
         few = omega arith;
         numbered = λ i l. absurd (not-suc-le-zero l);

@@ -1,10 +1,10 @@
 -- Lists of numbers below n: filters, first matches, and `map` over 0 .. n - 1 when one place changes (`map-set`) or one more is made
 -- (`map-push`).
 use mathlib.Core.Path.{_≡_, refl, sym, ap, _∙_}
-use mathlib.Core.Bool.{Bool, true, false, cond}
+use mathlib.Core.Bool.{Bool, true, false, cond, _&&_}
 use mathlib.Core.List.{List, [], _∷_, _++_, map, flatMap, append-assoc}
 use Prim.Native.Nat.{ℕ, zero, suc, _+_, _<_, _≤_}
-use native.Mathlib.Nat.{le-refl}
+use native.Mathlib.Nat.{le-refl, not-suc-le-zero}
 use native.Mathlib.Omega.{arith}
 use lib.Dec.{ltb}
 use lib.ListN.{length, getD, set, length-set}
@@ -15,6 +15,14 @@ use Rattle.order.proofs.Stable.{by-eq}
 use Rattle.faces.proofs.Firsts.{upTo-length}
 use Rattle.faces.proofs.Corners.{getD-map-upTo}
 use Rattle.patches.specs.Lists.{keepIf, filterBy}
+
+pub and-true : (a : Bool) → a && true ≡ a
+and-true true = refl
+and-true false = refl
+
+pub and-false : (a : Bool) → a && false ≡ false
+and-false true = refl
+and-false false = refl
 
 -- ---- all elements are below n
 
@@ -91,6 +99,30 @@ first-append : (p : ℕ → Bool) (d : ℕ) (xs ys : List ℕ) → firstBy p d (
 unfolding firstBy
 first-append p d [] ys = refl
 first-append p d (x ∷ xs) ys = ap (λ (r : ℕ). cond (p x) x r) (first-append p d xs ys)
+
+-- the first match of those that pass, in one test
+pub first-filter : (k m : ℕ → Bool) (d : ℕ) (xs : List ℕ) → firstBy m d (filterBy k xs) ≡ firstBy (λ j. k j && m j) d xs
+unfolding firstBy filterBy
+first-filter k m d [] = refl
+first-filter k m d (x ∷ xs) = go (k x) (first-filter k m d xs)
+  where
+    go : (b : Bool) → firstBy m d (filterBy k xs) ≡ firstBy (λ j. k j && m j) d xs → firstBy m d (keepIf b x (filterBy k xs)) ≡ cond (b && m x) x (firstBy (λ j. k j && m j) d xs)
+    go true r = ap (λ (t : ℕ). cond (m x) x t) r
+    go false r = r
+
+-- no number below n matches
+pub first-none : (p : ℕ → Bool) (d n : ℕ) → ((j : ℕ) → j < n → p j ≡ false) → firstBy p d (upTo n) ≡ d
+unfolding firstBy upTo
+first-none p d zero e = refl
+first-none p d (suc n) e = first-append p d (upTo n) (n ∷ []) ∙ rw (e n (le-refl (suc n))) (first-none p d n (λ j l. e j (omega arith)))
+
+-- i matches, and none before it
+pub first-at : (p : ℕ → Bool) (d n i : ℕ) → i < n → p i ≡ true → ((j : ℕ) → j < i → p j ≡ false) → firstBy p d (upTo n) ≡ i
+unfolding firstBy upTo
+first-at p d zero i l m e = absurd (not-suc-le-zero l)
+first-at p d (suc n) i l m e =
+    first-append p d (upTo n) (n ∷ [])
+    ∙ by-eq i n (λ s. rw (← s, m) (first-none p i i e)) (λ ne. first-at p (cond (p n) n d) n i (omega arith) m e)
 
 -- with n for 'none found', another default
 first-else : (p : ℕ → Bool) (n d : ℕ) (xs : List ℕ) → Under n xs → firstBy p d xs ≡ cond (ltb (firstBy p n xs) n) (firstBy p n xs) d

@@ -27,9 +27,9 @@ use Rattle.patches.specs.Normal.{canonicalOf, offsetOf}
 use Rattle.patches.specs.Patch.{Patch, noPatch, patchAt}
 use Rattle.patches.specs.Patches.{cellOf, aroundOf, inCell, isCoplanar, foundOf, newPatch, joinedOf, placedOf}
 use Rattle.patches.specs.Rows.{patchFloats, noneOf, vecIn, rowIn, newRowOf, joinedRowOf, trisIn, patchIn, patchesIn, Numbered}
-use Rattle.patches.specs.Grid.{key, planeKeyOf, bucketOf, cellAt, coplanarAt, cellIn, firstAmong, Grid, Standing}
+use Rattle.patches.specs.Grid.{key, planeKeyOf, bucketOf, cellAt, linkedOf, coplanarAt, cellIn, firstAmong, Grid, Standing}
 use Rattle.patches.proofs.Lists.{Under, under-upTo, under-filter, under-flat, filter-more, filter-under, filter-none, length-upTo, map-under, map-set, map-push}
-use Rattle.patches.proofs.Chains.{grid-joined, grid-more}
+use Rattle.patches.proofs.Buckets.{grid-joined, grid-more}
 
 -- ---- one patch
 
@@ -200,7 +200,7 @@ module _ (rows : List Float) (of cells heads next : List ℕ) (t np r : ℕ) (tr
     unfolding planeKeyOf
     key-cell = sym (ap (λ (k : PlaneKey). key (k .x) (k .y) (k .z)) ek)
 
-    pub new-standing : (heads′ next′ : List ℕ) → heads′ ≡ set heads (bucketOf (key (k .x) (k .y) (k .z))) (suc np) → next′ ≡ set next np (getD heads (bucketOf (key (k .x) (k .y) (k .z))) 0)
+    pub new-standing : (heads′ next′ : List ℕ) → heads′ ≡ set heads (bucketOf (key (k .x) (k .y) (k .z))) (suc np) → next′ ≡ linkedOf next np (getD heads (bucketOf (key (k .x) (k .y) (k .z))) 0)
         → Standing rows′ (set of t np) cells′ heads′ next′ (suc t) (suc np)
     new-standing heads′ next′ eh en =
         record {

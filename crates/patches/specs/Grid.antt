@@ -1,11 +1,11 @@
--- The grid of normals in areas: the cell of each patch, and chains of the patches whose cells share a bucket, newest first. A link is 0 at
--- the end of a chain, else a patch's number plus one.
+-- The grid of normals in areas: the cell of each patch, and a circular list of the patches whose cells share a bucket, from the oldest to the
+-- newest, the tail. A link is 0 where there is no patch, else a patch's number plus one.
 use Prim.Native.Nat.{ℕ, zero, suc, _+_, _*_, _%_, _<_, _≤_}
 use mathlib.Core.Path.{_≡_}
 use mathlib.Core.Bool.{Bool, cond, _&&_}
 use mathlib.Core.List.{List, [], _∷_, flatMap}
 use lib.Dec.{eqb}
-use lib.ListN.{length, getD}
+use lib.ListN.{length, getD, set}
 use lib.Ieee.{Float}
 use Rattle.vector.specs.declared.Vec3.{Vec3}
 use Rattle.geometry.specs.declared.Triangle.{Triangle}
@@ -39,21 +39,19 @@ bucketOf c = c .x % 16 * 256 + c .y % 16 * 16 + c .z % 16
 unfoldable pub cellAt : List ℕ → ℕ → Key
 cellAt cells p = key (getD cells (3 * p) 0) (getD cells (3 * p + 1) 0) (getD cells (3 * p + 2) 0)
 
+-- whether patch p is in bucket h
+abbrev pub inBucket : List ℕ → ℕ → ℕ → Bool
+inBucket cells h p = eqb (bucketOf (cellAt cells p)) h
+
 -- the link to the newest patch below n that passes
 unfoldable pub newest : (ℕ → Bool) → ℕ → ℕ
 newest p zero = 0
 newest p (suc n) = cond (p n) (suc n) (newest p n)
 
--- the patches from a link on, at most as many as fuel
-unfoldable pub chainOf : List ℕ → ℕ → ℕ → List ℕ
-chainOf next zero link = []
-chainOf next (suc fuel) zero = []
-chainOf next (suc fuel) (suc p) = p ∷ chainOf next fuel (getD next p 0)
-
--- the last element that passes the test, else d
-unfoldable pub lastBy : (ℕ → Bool) → ℕ → List ℕ → ℕ
-lastBy p d [] = d
-lastBy p d (x ∷ xs) = lastBy p (cond (p x) x d) xs
+-- `next` with patch p behind the tail that a link leads to, or alone
+unfoldable pub linkedOf : List ℕ → ℕ → ℕ → List ℕ
+linkedOf next p zero = set next p p
+linkedOf next p (suc tail) = set (set next p (getD next tail 0)) tail p
 
 -- whether patch p lies in the plane of a normal and an offset
 unfoldable pub coplanarAt : List Float → Vec3 → Float → ℕ → Bool
@@ -78,8 +76,11 @@ pub record Grid (rows : List Float) (cells heads next : List ℕ) (np : ℕ) : T
   pub room-next : np ≤ length next
   pub buckets : length heads ≡ bucketCount
   pub cells-are : (p : ℕ) → p < np → cellAt cells p ≡ cellIn rows p
-  pub heads-are : (h : ℕ) → h < bucketCount → getD heads h 0 ≡ newest (λ j. eqb (bucketOf (cellAt cells j)) h) np
-  pub next-are : (p : ℕ) → p < np → getD next p 0 ≡ newest (λ j. eqb (bucketOf (cellAt cells j)) (bucketOf (cellAt cells p))) p
+  pub heads-are : (h : ℕ) → h < bucketCount → getD heads h 0 ≡ newest (inBucket cells h) np
+  -- `next` leads from a patch to the one made after it in the bucket
+  pub next-are : (p q : ℕ) → q < np → newest (inBucket cells (bucketOf (cellAt cells q))) q ≡ suc p → getD next p 0 ≡ q
+  -- and from the tail round to the oldest
+  pub round-are : (p q : ℕ) → q < np → newest (inBucket cells (bucketOf (cellAt cells q))) q ≡ 0 → newest (inBucket cells (bucketOf (cellAt cells q))) np ≡ suc p → getD next p 0 ≡ q
 
 -- the areas hold the np patches of the first t triangles
 pub record Standing (rows : List Float) (of cells heads next : List ℕ) (t np : ℕ) : Type 0 where

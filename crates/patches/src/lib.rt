@@ -1,6 +1,6 @@
 // Coplanar patches of a scene, step 2 of `build_planes`: each triangle joins the first patch of its plane, or starts one.
 // A patch is a row of floats and the number that its triangles have in `of`. In place of the Rust's map from cells to patches, patches
-// whose cells share one of 4,096 buckets are chained, newest first.
+// whose cells share one of 4,096 buckets stand in a circular list from the oldest to the newest, the tail, to which `heads` leads.
 use geometry::Aabb;
 use geometry::Triangle;
 use vector::Vec3;
@@ -18,7 +18,7 @@ ghost use Rattle.patches.specs.Normal.{largerPartOf, largestPartOf, isTu
 ghost use Rattle.patches.specs.Patches.{cellsPerUnit, besideOf, aroundOf, placedOf, patchesOf};
 ghost use Rattle.patches.specs.Rows.{patchFloats, noneOf, vecIn, rowIn, newRowOf, joinedRowOf, patchesIn, Numbered, Beside};
 ghost use Rattle.patches.specs.Triangles.{triangleAt, trianglesIn};
-ghost use Rattle.patches.specs.Grid.{key, planeKeyOf, bucketCount, bucketOf, cellAt, chainOf, lastBy, coplanarAt, matchAt, firstAmong, Grid, Standing};
+ghost use Rattle.patches.specs.Grid.{key, planeKeyOf, bucketCount, bucketOf, cellAt, linkedOf, coplanarAt, matchAt, firstAmong, Grid, Standing};
 
 // The number of a triangle without a patch.
 pub const NONE: u32 = 0xffff_ffff;
@@ -194,55 +194,18 @@ fn is_coplanar(rows: &[f32], p: usize, k: PlaneKey) -> bool
     false
 }
 
-// Patch p where it matches, else `found`. Most patches of a chain fail by their offset, which is tested first.
-fn match_or(
-    rows: &[f32],
-    cells: &[u64],
-    p: usize,
-    x: u64,
-    y: u64,
-    z: u64,
-    k: PlaneKey,
-    found: usize,
-) -> usize
+// Whether patch p matches. Most patches of a bucket fail by their offset, which is tested first.
+fn is_match(rows: &[f32], cells: &[u64], p: usize, x: u64, y: u64, z: u64, k: PlaneKey) -> bool
     requires { ⌜ (patchFloats * p + patchFloats ≤ length (now rows)) × (3 * p + 3 ≤ length (now cells)) ⌝ }
-    ensures { λ r. ⌜ r ≡ cond (matchAt (now (rows .entry)) (now (cells .entry)) (key x y z) (k .normal) (k .offset) p) p found ⌝ }
+    ensures { λ r. ⌜ r ≡ matchAt (now (rows .entry)) (now (cells .entry)) (key x y z) (k .normal) (k .offset) p ⌝ }
 {
     if is_coplanar(rows, p, k) {
-        if in_cell(cells, p, x, y, z) {
-            return p;
-        }
+        return in_cell(cells, p, x, y, z);
     }
-    found
+    false
 }
 
-// The last match of a chain: the first in order of making, since the chain has the newest first.
-fn last_match(
-    rows: &[f32],
-    cells: &[u64],
-    next: &[u32],
-    head: u32,
-    np: usize,
-    x: u64,
-    y: u64,
-    z: u64,
-    k: PlaneKey,
-) -> usize
-    requires { ⌜ (patchFloats * np ≤ length (now rows)) × (3 * np ≤ length (now cells)) × (np ≤ length (now next)) × (head ≤ np) ⌝ }
-    requires { ⌜ ((p : ℕ) → p < np → getD (now next) p 0 ≤ p) ⌝ }
-    ensures { λ r. ⌜ r ≡ lastBy (matchAt (now (rows .entry)) (now (cells .entry)) (key x y z) (k .normal) (k .offset)) np (chainOf (now (next .entry)) np head) ⌝ }
-{
-    let mut found = np;
-    let mut link = head as usize;
-    while link > 0 {
-        let p = link - 1;
-        found = match_or(rows, cells, p, x, y, z, k, found);
-        link = next[p] as usize;
-    }
-    found
-}
-
-// The first patch of a cell in the plane of k, else np.
+// The first patch of a cell in the plane of k, else np: its bucket is walked from the oldest patch to the tail.
 fn first_in_cell(
     rows: &[f32],
     cells: &[u64],
@@ -258,7 +221,20 @@ fn first_in_cell(
     ensures { λ r. ⌜ r ≡ firstAmong (now (rows .entry)) np (k .normal) (k .offset) (key x y z ∷ []) ⌝ }
 {
     let head = heads[bucket(x, y, z)];
-    last_match(rows, cells, next, head, np, x, y, z, k)
+    if head == 0 {
+        return np;
+    }
+    let tail = (head - 1) as usize;
+    let mut p = next[tail] as usize;
+    loop {
+        if is_match(rows, cells, p, x, y, z, k) {
+            return p;
+        }
+        if p == tail {
+            return np;
+        }
+        p = next[p] as usize;
+    }
 }
 
 // The cell below c, 0 having none.
@@ -354,23 +330,30 @@ fn put_cell(cells: &mut [u64], p: usize, x: u64, y: u64, z: u64)
     cells[at + 2] = z;
 }
 
-// Patch p goes to the front of a chain.
+// Patch p becomes the tail of a circular list.
 fn link(heads: &mut [u32], next: &mut [u32], p: usize, h: usize)
-    requires { ⌜ (h < length (now heads)) × (p < length (now next)) × (p < 4294967295) ⌝ }
+    requires { ⌜ (h < length (now heads)) × (p < length (now next)) × (p < 4294967295) × (getD (now heads) h 0 ≤ p) ⌝ }
     ensures { λ _. ⌜ now (heads .exit) ≡ set (now (heads .entry)) h (suc p) ⌝ }
-    ensures { λ _. ⌜ now (next .exit) ≡ set (now (next .entry)) p (getD (now (heads .entry)) h 0) ⌝ }
+    ensures { λ _. ⌜ now (next .exit) ≡ linkedOf (now (next .entry)) p (getD (now (heads .entry)) h 0) ⌝ }
 {
-    next[p] = heads[h];
+    let head = heads[h];
     heads[h] = (p + 1) as u32;
+    if head == 0 {
+        next[p] = p as u32;
+        return;
+    }
+    let tail = (head - 1) as usize;
+    next[p] = next[tail];
+    next[tail] = p as u32;
 }
 
-// Patch p of cell k goes to the front of its chain.
+// Patch p of cell k becomes the tail of its bucket.
 fn put_in_grid(cells: &mut [u64], heads: &mut [u32], next: &mut [u32], p: usize, k: PlaneKey)
-    requires { ⌜ (3 * p + 3 ≤ length (now cells)) × (length (now heads) ≡ bucketCount) × (p < length (now next)) × (p < 4294967295) ⌝ }
+    requires { ⌜ (3 * p + 3 ≤ length (now cells)) × (length (now heads) ≡ bucketCount) × (p < length (now next)) × (p < 4294967295) × (getD (now heads) (bucketOf (key (k .x) (k .y) (k .z))) 0 ≤ p) ⌝ }
     ensures { λ _. ⌜ cellAt (now (cells .exit)) p ≡ key (k .x) (k .y) (k .z) ⌝ }
     ensures { λ _. ⌜ ((q : ℕ) → (q ≡ p → ⊥) → cellAt (now (cells .exit)) q ≡ cellAt (now (cells .entry)) q) ⌝ }
     ensures { λ _. ⌜ now (heads .exit) ≡ set (now (heads .entry)) (bucketOf (key (k .x) (k .y) (k .z))) (suc p) ⌝ }
-    ensures { λ _. ⌜ now (next .exit) ≡ set (now (next .entry)) p (getD (now (heads .entry)) (bucketOf (key (k .x) (k .y) (k .z))) 0) ⌝ }
+    ensures { λ _. ⌜ now (next .exit) ≡ linkedOf (now (next .entry)) p (getD (now (heads .entry)) (bucketOf (key (k .x) (k .y) (k .z))) 0) ⌝ }
 {
     put_cell(cells, p, k.x, k.y, k.z);
     link(heads, next, p, bucket(k.x, k.y, k.z));

@@ -1,20 +1,12 @@
 -- `patches::is_coplanar` meets its contract, by its calls and tests.
 use borrow.Author.Needs.{needs}
-use mathlib.Core.Path.{_≡_, refl, sym}
-use mathlib.Core.Bool.{Bool, true, false, _&&_}
+use mathlib.Core.Path.{sym}
 use Rattle.patches.specs.Patches.{isCoplanar}
 use Rattle.patches.specs.Rows.{patchIn}
 use Rattle.patches.specs.Grid.{coplanarAt}
+use Rattle.patches.proofs.Lists.{and-false, and-true}
 use Rattle.patches.proofs.is_coplanar.Statement.{statement}
 use Rattle.patches.proofs.is_coplanar.Tie as tie
-
-and-true : (a : Bool) → a && true ≡ a
-and-true true = refl
-and-true false = refl
-
-and-false : (a : Bool) → a && false ≡ false
-and-false true = refl
-and-false false = refl
 
 returns : tie.Need-returns
 unfolding coplanarAt isCoplanar patchIn

@@ -7,6 +7,8 @@ use lib.Seq.{getD-set-other}
 use lib.ListN.{length}
 use borrow.Author.Needs.{needs}
 use Rattle.patches.specs.Rows.{noneOf, patchFloats}
+use Rattle.patches.specs.Grid.{key}
+use Rattle.patches.proofs.Buckets.{head-low}
 use Rattle.patches.proofs.Turns.{joined-patches, joined-standing, new-patches, new-standing}
 use Rattle.patches.proofs.place.Statement.{statement}
 use Rattle.patches.proofs.place.Tie as tie
@@ -39,7 +41,7 @@ new-patch-requires : tie.Need-new-patch-requires
 new-patch-requires c κs = let p = c .before .before .before .before .before .before .before .before .before .before .before .before .before .before .before .before .pre .1 .0 in let f = c .before .before .before .before .before .before .before .before .before .before .before .before .before .before .before .before .pre .1 .1 .few in (omega arith, c .before .before .before .before .before .before .before .plane-key .ensures .0)
 
 put-in-grid-requires : tie.Need-put-in-grid-requires
-put-in-grid-requires c κs = let p = c .before .before .before .before .before .before .before .before .before .before .before .before .before .before .before .before .before .before .before .before .before .before .pre .1 .0 in let q = c .before .before .before .before .before .before .before .before .before .before .before .before .before .before .before .before .before .before .before .before .before .before .pre .0 in let f = c .before .before .before .before .before .before .before .before .before .before .before .before .before .before .before .before .before .before .before .before .before .before .pre .1 .1 .few in (omega arith, c .before .before .before .before .before .before .before .before .before .before .before .before .before .before .before .before .before .before .before .before .before .before .pre .1 .1 .grid .buckets, omega arith, omega arith)
+put-in-grid-requires c κs = let k = c .before .before .before .before .before .before .before .before .before .before .before .before .before .plane-key .result in let p = c .before .before .before .before .before .before .before .before .before .before .before .before .before .before .before .before .before .before .before .before .before .before .pre .1 .0 in let q = c .before .before .before .before .before .before .before .before .before .before .before .before .before .before .before .before .before .before .before .before .before .before .pre .0 in let f = c .before .before .before .before .before .before .before .before .before .before .before .before .before .before .before .before .before .before .before .before .before .before .pre .1 .1 .few in (omega arith, c .before .before .before .before .before .before .before .before .before .before .before .before .before .before .before .before .before .before .before .before .before .before .pre .1 .1 .grid .buckets, omega arith, omega arith, head-low (c .before .before .before .before .before .before .before .before .before .before .before .before .before .before .before .before .before .before .before .before .before .before .pre .1 .1 .grid) (key (k .x) (k .y) (k .z)))
 
 cast-of-2 : tie.Need-cast-of-2
 cast-of-2 c = let p = c .before .before .before .before .before .before .before .before .before .before .before .before .before .before .before .before .before .before .before .before .before .before .before .before .before .before .before .before .before .pre .0 in let f = c .before .before .before .before .before .before .before .before .before .before .before .before .before .before .before .before .before .before .before .before .before .before .before .before .before .before .before .before .before .pre .1 .1 .few in omega arith

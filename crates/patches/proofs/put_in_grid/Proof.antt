@@ -8,7 +8,7 @@ put-cell-requires : tie.Need-put-cell-requires
 put-cell-requires c κs = c .before .before .before .before .pre .0
 
 link-requires : tie.Need-link-requires
-link-requires c κs = let b = c .bucket .ensures .1 in let p = c .before .before .before .before .before .before .before .before .before .before .pre in (omega arith, p .2, p .3)
+link-requires c κs = let b = c .bucket .ensures .1 in let p = c .before .before .before .before .before .before .before .before .before .before .pre in (omega arith, p .2, p .3, rw (c .bucket .ensures .0) (p .4))
 
 returns : tie.Need-returns
 returns c = let b = c .before .before .before .before .before .bucket .ensures .0 in
