@@ -149,60 +149,22 @@ fn line_floats() -> [f32; LONGEST]
     [0.0; LONGEST]
 }
 
-// The curve is 0 for Inverse, else Linear.
-fn curve_of(number: u32) -> bands::DistanceCurve {
-    if number == 0 {
-        return bands::DistanceCurve::Inverse;
-    }
-    bands::DistanceCurve::Linear
-}
-
 fn settings_from(w: &[u32], f: &[f32]) -> Settings
     requires { ⌜ (35 ≤ length (now w)) × (35 ≤ length (now f)) ⌝ }
 {
-    let curve = curve_of(w[9]);
-    let plane_merge = w[8] != 0;
-    let distance_model = bands::DistanceModel {
-        curve,
-        reference_distance: f[17],
-        rolloff_factor: f[18],
-        min_distance: f[19],
-        max_distance: f[20],
-    };
-    Settings {
-        max_reflection_order: w[5],
-        max_reflections: w[6],
-        max_reflection_planes: w[7],
-        reflection_edge_fade: f[10],
-        max_reflection_distance: f[11],
-        speed_of_sound: f[12],
-        sample_rate: f[13],
-        plane_merge_cos: f[14],
-        plane_merge,
-        plane_merge_offset: f[15],
-        plane_buried_distance: f[16],
-        distance_model,
-    }
+    arguments::settings_from(&w[5..10], &f[10..21])
 }
 
 fn source_from(f: &[f32]) -> Vec3
     requires { ⌜ 35 ≤ length (now f) ⌝ }
 {
-    Vec3 {
-        x: f[24],
-        y: f[25],
-        z: f[26],
-    }
+    arguments::point_from(&f[24..27])
 }
 
 fn listener_from(f: &[f32]) -> Vec3
     requires { ⌜ 35 ≤ length (now f) ⌝ }
 {
-    Vec3 {
-        x: f[27],
-        y: f[28],
-        z: f[29],
-    }
+    arguments::point_from(&f[27..30])
 }
 
 // The query of a line whose parts end at a, b, c, d and e.
