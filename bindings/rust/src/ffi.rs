@@ -17,7 +17,7 @@ extern "C" {
         count: usize, images: u32, rays: u32, taps: *const u32, taps_len: usize, out: *mut u8, out_len: usize, found: *mut usize, found_len: usize,
     ) -> u32;
     #[rustfmt::skip]
-    fn biv_trace_early_reflections(
+    pub fn biv_trace_early_reflections(
         columns: *mut f32, columns_len: usize, handles: *mut u32, handles_len: usize, tree: *mut f32, tree_len: usize,
         nodes: *mut u32, nodes_len: usize, perm: *mut u32, perm_len: usize, hi: *mut u64, hi_len: usize, lo: *mut u64, lo_len: usize,
         words: *mut u64, words_len: usize, scratch: *mut u64, scratch_len: usize, index: *mut u32, index_len: usize,

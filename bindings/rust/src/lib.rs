@@ -22,7 +22,9 @@
 //! What is proved is what the archive holds (`target/staticlib/libexports.a`, by `rt staticlib exports`); this crate hands on to it. Its `unsafe`
 //! calls pass slices of their own lengths, and of the few lengths that the archive does not test they keep those that its contracts ask.
 
-mod ffi;
+/// The archive's functions as they are, for the comparison with the Rust, which hands over what no caller should.
+#[doc(hidden)]
+pub mod ffi;
 
 use std::fmt;
 

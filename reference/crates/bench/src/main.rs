@@ -12,9 +12,10 @@ use std::time::Instant;
 
 const ROUNDS: usize = 40;
 
-const PARTS: [(&str, fn()); 10] = [
-    ("roots", roots), ("sorts", sorts), ("fronts", fronts), ("trees", trees), ("planes", all_planes), ("paths", single_paths), ("searches", searches),
-    ("rankings", rankings), ("packets", packets), ("calls", calls),
+/// The builds and queries of whole scenes, the call that does both and clears its areas, and then the stages and functions that they are made of.
+const PARTS: [(&str, fn()); 11] = [
+    ("builds", builds), ("queries", queries), ("calls", calls), ("fronts", fronts), ("trees", trees), ("planes", all_planes), ("paths", single_paths),
+    ("rankings", rankings), ("packets", packets), ("roots", roots), ("sorts", sorts),
 ];
 
 /// All parts, or those named.
@@ -180,7 +181,8 @@ fn hall(sheets: usize) -> Case {
         quad(&mut m, [-1.0 + 0.15 * k as f32, 0.2, -2.0], [0.0, 2.6, 0.0], [0.0, 0.0, 4.0]);
     }
     let row = Row { absorption: [0.2; 8], transmission: [0.6; 8] };
-    Case { name: format!("hall-{sheets}"), settings: Settings { room: 0, ..Settings::default() }, materials: vec![row], meshes: vec![m], source: [-2.3, 1.1, 0.4], listener: [2.6, 1.6, -0.7], separated: false }
+    let name = if sheets == 0 { "booth".into() } else { format!("{sheets} sheets across a booth") };
+    Case { name, settings: Settings { room: 0, ..Settings::default() }, materials: vec![row], meshes: vec![m], source: [-2.3, 1.1, 0.4], listener: [2.6, 1.6, -0.7], separated: false }
 }
 
 fn grid(m: &mut Mesh, at: [f32; 3], u: [f32; 3], w: [f32; 3], a: usize, b: usize) {
@@ -250,9 +252,38 @@ fn loaded(c: &Case) -> (Areas, usize, Tree) {
     (a, triples, tree)
 }
 
+/// Scenes of few planes and of many, of 12 triangles to 4,096.
+fn scenes() -> Vec<Case> {
+    vec![
+        hall(0), hall(12), tiled([8, 5, 9, 5]), tiled([18, 19, 17, 20]), barrel(64, 32), ground(64, 32, 0.02), ground(64, 32, 1.0),
+        stack(4096, 0), stack(1024, 3072), soup(12), soup(500), soup(4096),
+    ]
+}
+
+/// What `build_bvh` does but for the statistics of the room: `triangles_from_scene`, `build_flat_bvh` and `build_planes`.
+fn builds() {
+    for c in scenes() {
+        let (mut a, triples, mut tree) = loaded(&c);
+        let (backend, l, mut work) = (oracle::built(&c, false), lent(&c), PlaneAreas::new(triples));
+        let sets = (2048 / triples).max(1);
+        let (p, q) = both(
+            || (),
+            |_| {
+                (0..sets).for_each(|_| {
+                    black_box(port::load_scene(&l, &mut a));
+                    black_box(tree.build(&a.columns, &a.handles, triples));
+                    black_box(work.build(&tree, &a.columns, &l.counts, &l.floats));
+                })
+            },
+            |_| (0..sets).for_each(|_| { black_box((backend.oracle_place(), backend.oracle_build_tree(), backend.oracle_build_planes())); }),
+        );
+        line(&format!("build, {}, {triples} triangles", c.name), p / sets as f64, q / sets as f64);
+    }
+}
+
 /// `build_planes`.
 fn all_planes() {
-    for c in [tiled([1; 4]), tiled([8, 5, 9, 5]), tiled([18, 19, 17, 20]), barrel(64, 32), ground(64, 32, 0.02), ground(64, 32, 1.0), stack(4096, 0), stack(1024, 3072), soup(12), soup(500), soup(4096)] {
+    for c in scenes() {
         let (a, triples, tree) = loaded(&c);
         let (backend, l, mut work) = (oracle::built(&c, false), lent(&c), PlaneAreas::new(triples));
         if let Some(Err(words)) = planes::run(&c, &backend, &a, triples, &tree, None) {
@@ -312,8 +343,8 @@ fn single_paths() {
     }
 }
 
-/// The search and the ranking: all images of an order, and such that most images are too far.
-fn searches() {
+/// `trace_early_reflections` over a scene that is built, the search and the ranking: all images of an order, and such that most images are too far.
+fn queries() {
     let far = Settings::default().max_distance;
     for (name, sheets, order, far) in [("booth", 0, 3, far), ("12 sheets", 12, 2, far), ("booth", 0, 8, far), ("booth", 0, 8, 20.0), ("booth", 0, 8, 10.0)] {
         let mut c = hall(sheets);
@@ -332,7 +363,7 @@ fn searches() {
             |_| { let f = scene.search(&c.source, &c.listener, order as usize, &mut rows); black_box(rows.rank_first(f.found, c.settings.speed, c.settings.rate, &mut out)); },
             |_| { black_box(oracle::run_built(&c, &backend)); },
         );
-        line(&format!("search, {name}, order {order}, to {far} m: {} images", found.images), p, q);
+        line(&format!("query, {name}, order {order}, to {far} m: {} images", found.images), p, q);
         println!("  ({} rays, {} candidates)", found.rays, found.found);
     }
 }

@@ -1,8 +1,10 @@
-//! The port as Rust sees it: the functions of crates/exports, each behind a safe one that tests what its `requires` asks.
-//! Nothing checks these declarations against the Rattle source: compare them with include/bivelondry.h and
+//! The port as Rust sees it: the functions of crates/exports (declared in bindings/rust) and crates/stages, each behind a safe one that tests
+//! what its `requires` asks. Nothing checks the declarations below against the Rattle source: compare them with
 //! include/bivelondry_stages.h when either changes.
 
 mod ffi {
+    pub use bivelondry::ffi::{biv_area_lengths, biv_packet_read, biv_packet_write, biv_trace_early_reflections};
+
     extern "C" {
         pub fn biv_sqrt(x: f32) -> f32;
         pub fn biv_round(x: f32) -> i64;
@@ -15,11 +17,6 @@ mod ffi {
         pub fn biv_sort_by_key(
             keys: *const u64, keys_len: usize, index: *mut u32, index_len: usize, words: *mut u64, words_len: usize, scratch: *mut u64, scratch_len: usize,
         );
-        pub fn biv_packet_read(bytes: *const u8, bytes_len: usize, taps: *mut u32, taps_len: usize, found: *mut usize, found_len: usize) -> u32;
-        #[rustfmt::skip]
-        pub fn biv_packet_write(
-            count: usize, images: u32, rays: u32, taps: *const u32, taps_len: usize, out: *mut u8, out_len: usize, found: *mut usize, found_len: usize,
-        ) -> u32;
         #[rustfmt::skip]
         pub fn biv_load_scene(
             counts: *const u32, counts_len: usize, floats: *const f32, floats_len: usize, c: u32,
@@ -88,22 +85,6 @@ mod ffi {
             listener: *const f32, listener_len: usize, order: usize, room: usize, fs: *mut f32, fs_len: usize, ws: *mut u32, ws_len: usize,
             found: *mut usize, found_len: usize,
         ) -> bool;
-        #[rustfmt::skip]
-        pub fn biv_trace_early_reflections(
-            columns: *mut f32, columns_len: usize, handles: *mut u32, handles_len: usize, tree: *mut f32, tree_len: usize,
-            nodes: *mut u32, nodes_len: usize, perm: *mut u32, perm_len: usize, hi: *mut u64, hi_len: usize, lo: *mut u64, lo_len: usize,
-            words: *mut u64, words_len: usize, scratch: *mut u64, scratch_len: usize, index: *mut u32, index_len: usize,
-            id: *mut u32, id_len: usize, first: *mut u32, first_len: usize, next: *mut u32, next_len: usize, of: *mut u32, of_len: usize,
-            linked: *mut u32, linked_len: usize, queue: *mut u32, queue_len: usize, starts: *mut u32, starts_len: usize,
-            gfloats: *mut f32, gfloats_len: usize, members: *mut u32, members_len: usize, rows: *mut f32, rows_len: usize,
-            kept: *mut u32, kept_len: usize, edges: *mut f32, edges_len: usize, out: *mut u8, out_len: usize,
-            found: *mut usize, found_len: usize, counts: *const u32, counts_len: usize,
-            setting_floats: *const f32, setting_floats_len: usize, c: u32, meshes: *const u32, meshes_len: usize,
-            transforms: *const f32, transforms_len: usize, positions: *const f32, positions_len: usize,
-            indices: *const u32, indices_len: usize, materials: *const f32, materials_len: usize, rows_count: u32,
-            source: *const f32, source_len: usize, listener: *const f32, listener_len: usize, separated: bool,
-        ) -> u32;
-        pub fn biv_area_lengths(triples: usize, c: u32, lens: *mut usize, lens_len: usize) -> bool;
         pub fn biv_distance_gain(curve: u32, reference: f32, rolloff: f32, least: f32, greatest: f32, distance: f32) -> f32;
     }
 }
