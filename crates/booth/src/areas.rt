@@ -141,6 +141,11 @@ pub fn fresh_output() -> [u8; 3465]
     [0u8; 3465]
 }
 
+// Room for the records of 250,000 images. It promises no length, so that no proof looks into so long a list.
+pub fn fresh_records() -> [u8; 2_250_000] {
+    [0u8; 2_250_000]
+}
+
 pub fn fresh_case_words() -> [u32; 11]
     ensures { λ r. ⌜ length r ≡ 11 ⌝ }
 {

@@ -3,6 +3,7 @@
 //
 // Proved: it is safe and ends, whatever the file holds. What it prints is the answer of `query`, whose contract says what that is.
 mod areas;
+mod names;
 mod scene_text;
 mod table;
 
@@ -93,6 +94,12 @@ fn separated_of(w: &[u32]) -> bool {
     casefile::word(w, 6) != 0
 }
 
+// The answer of a query, and how many planes its scene has.
+struct Named {
+    answer: Answered,
+    planes: usize,
+}
+
 // The query in areas of its own.
 fn trace(
     out: &mut [u8],
@@ -170,6 +177,120 @@ fn trace(
     )
 }
 
+// The planes of the scene, in rows and kept, and the planes of each image, in records; in areas of its own, since those of the query are gone. The
+// answer is how many planes there are.
+fn name_walls(
+    rows: &mut [f32],
+    kept: &mut [u32],
+    records: &mut [u8],
+    w: &[u32],
+    f: &[f32],
+    meshes: &[u32],
+    transforms: &[f32],
+    positions: &[f32],
+    indices: &[u32],
+    materials: &[f32],
+) -> usize {
+    let mut columns = areas::fresh_columns();
+    let mut handles = areas::fresh_handles();
+    let mut tree = areas::fresh_tree();
+    let mut nodes = areas::fresh_nodes();
+    let mut perm = areas::fresh_perm();
+    let mut hi = areas::fresh_hi();
+    let mut lo = areas::fresh_lo();
+    let mut words = areas::fresh_words();
+    let mut scratch = areas::fresh_scratch();
+    let mut index = areas::fresh_index();
+    let mut id = areas::fresh_id();
+    let mut first = areas::fresh_first();
+    let mut next = areas::fresh_next();
+    let mut of = areas::fresh_of();
+    let mut linked = areas::fresh_linked();
+    let mut queue = areas::fresh_queue();
+    let mut starts = areas::fresh_starts();
+    let mut gfloats = areas::fresh_gfloats();
+    let mut members = areas::fresh_members();
+    let mut edges = areas::fresh_edges();
+    let settings = settings_of(w, f);
+    let source = point_of(f, 11);
+    let room = room_of(casefile::word(w, 3));
+    let count = casefile::word(w, 7);
+    let planes = walls::planes_of(
+        &mut columns,
+        &mut handles,
+        &mut tree,
+        &mut nodes,
+        &mut perm,
+        &mut hi,
+        &mut lo,
+        &mut words,
+        &mut scratch,
+        &mut index,
+        &mut id,
+        &mut first,
+        &mut next,
+        &mut of,
+        &mut linked,
+        &mut queue,
+        &mut starts,
+        &mut gfloats,
+        &mut members,
+        rows,
+        kept,
+        &mut edges,
+        settings,
+        room,
+        meshes,
+        transforms,
+        positions,
+        indices,
+        materials,
+        count,
+    );
+    walls::list_images(
+        rows,
+        kept,
+        planes,
+        source,
+        front::search_order(settings),
+        records,
+    );
+    planes
+}
+
+// The query, and the planes where it is not refused.
+fn trace_and_name(
+    out: &mut [u8],
+    rows: &mut [f32],
+    kept: &mut [u32],
+    records: &mut [u8],
+    w: &[u32],
+    f: &[f32],
+    meshes: &[u32],
+    transforms: &[f32],
+    positions: &[f32],
+    indices: &[u32],
+    materials: &[f32],
+) -> Named {
+    let answer = trace(out, w, f, meshes, transforms, positions, indices, materials);
+    if answer.refusal != 0 {
+        return Named { answer, planes: 0 };
+    }
+    let planes = name_walls(
+        rows,
+        kept,
+        records,
+        w,
+        f,
+        meshes,
+        transforms,
+        positions,
+        indices,
+        materials,
+    );
+    Named { answer, planes }
+}
+
 // A count of a case, cut to what its area holds.
 fn limited(n: u32, most: usize) -> usize
     ensures { λ r. ⌜ r ≤ most ⌝ }
@@ -184,6 +305,9 @@ fn limited(n: u32, most: usize) -> usize
 // The query of a case that was read: the parts of its areas that it fills.
 fn ask(
     out: &mut [u8],
+    floats: &mut [f32],
+    words: &mut [u32],
+    records: &mut [u8],
     w: &[u32],
     f: &[f32],
     meshes: &[u32],
@@ -191,7 +315,7 @@ fn ask(
     positions: &[f32],
     indices: &[u32],
     materials: &[f32],
-) -> Answered
+) -> Named
     requires { ⌜ (192 ≤ length (now meshes)) × (1024 ≤ length (now transforms)) × (6144 ≤ length (now positions)) × (1536 ≤ length (now indices)) × (1024 ≤ length (now materials)) ⌝ }
 {
     let rows = 16 * limited(casefile::word(w, 7), 64);
@@ -199,8 +323,11 @@ fn ask(
     let mesh_floats = 16 * limited(casefile::word(w, 8), 64);
     let coordinates = 3 * limited(casefile::word(w, 9), 2048);
     let corners = limited(casefile::word(w, 10), 1536);
-    trace(
+    trace_and_name(
         out,
+        floats,
+        words,
+        records,
         w,
         f,
         &meshes[..mesh_words],
@@ -230,7 +357,19 @@ fn save(path: &[u8], packet: &[u8]) {
 }
 
 // What is said of an answer: the refusal, or the table; the packet goes to the file.
-fn report(out: &[u8], r: Answered, w: &[u32], f: &[f32], path: &[u8]) {
+fn report(
+    out: &[u8],
+    floats: &[f32],
+    words: &[u32],
+    records: &[u8],
+    named: Named,
+    w: &[u32],
+    f: &[f32],
+    path: &[u8],
+)
+    requires { ⌜ (3072 ≤ length (now floats)) × (1280 ≤ length (now words)) ⌝ }
+{
+    let r = named.answer;
     let bytes = r.bytes;
     if r.refusal != 0 {
         table::print_refusal(r.refusal, casefile::word(w, 3));
@@ -239,7 +378,15 @@ fn report(out: &[u8], r: Answered, w: &[u32], f: &[f32], path: &[u8]) {
     if out.len() < bytes {
         return;
     }
-    table::print_table(&out[..bytes], real(f, 3), r);
+    table::print_table(
+        &out[..bytes],
+        floats,
+        words,
+        named.planes,
+        records,
+        real(f, 3),
+        r,
+    );
     save(path, &out[..bytes]);
 }
 
@@ -253,6 +400,9 @@ pub(crate) fn run(s: &[u8], path: &[u8]) {
     let mut positions = areas::fresh_case_positions();
     let mut indices = areas::fresh_case_indices();
     let mut out = areas::fresh_output();
+    let mut floats = areas::fresh_rows();
+    let mut words = areas::fresh_kept();
+    let mut records = areas::fresh_records();
     let c = casefile::read_case(
         s,
         &mut w,
@@ -267,8 +417,11 @@ pub(crate) fn run(s: &[u8], path: &[u8]) {
         table::print_wrong(c.line, c.wrong);
         return;
     }
-    let r = ask(
+    let named = ask(
         &mut out,
+        &mut floats,
+        &mut words,
+        &mut records,
         &w,
         &f,
         &meshes,
@@ -277,7 +430,7 @@ pub(crate) fn run(s: &[u8], path: &[u8]) {
         &indices,
         &materials,
     );
-    report(&out, r, &w, &f, path);
+    report(&out, &floats, &words, &records, named, &w, &f, path);
 }
 
 // ---- files

@@ -51,7 +51,7 @@ module _ (q r : List ℕ) (few : length q ≤ 8) where
       ∙ take-take (length q) 8 (q ++ replicate 8 0) few
       ∙ take-append-seam q (replicate 8 0)
 
-planes-back :
+pub planes-back :
     (v : List (List ℕ)) (r : List ℕ) → ((q : List ℕ) → In q v → length q ≤ 8) → (k : ℕ) → k < length v →
     planesAt (listed v ++ r) k ≡ getD v k []
 unfolding planesAt listed

@@ -1,0 +1,28 @@
+use borrow.Author.Needs.{needs}
+use Prim.Native.Nat.{_-_}
+use Rattle.booth.proofs.names.meets.Statement.{statement}
+use Rattle.booth.proofs.names.meets.Tie as tie
+
+-- `booth::names::meets` meets its contract: each turn is one wall more.
+
+abbrev Inv-loop : tie.InvT-loop
+Inv-loop records number p count k₀ k = Unit {0}
+
+abbrev μ-loop : tie.MeasureT-loop
+μ-loop records number p count k₀ k = count - k
+
+pub meets-spec : {M : Type 1} → statement M
+meets-spec =
+    tie.close
+    (tie.spec
+    Inv-loop
+    μ-loop
+    (λ c κs. tt)
+    (λ c. tt)
+    (λ c κs. tt)
+    (λ c. search needs)
+    (λ c. tt)
+    (λ c. search needs)
+    (λ c. search needs)
+    (λ c. tt)
+    (λ c. tt))

@@ -1,0 +1,125 @@
+// The walls: those that each echo meets, and what they are.
+use crate::table::print;
+use crate::table::print_float;
+use crate::table::print_whole;
+use libc::STDOUT_FILENO;
+ghost use Prim.Native.Nat.{_+_, _*_, _≤_};
+ghost use lib.ListN.{length};
+
+fn print_arrow(k: usize) {
+    if 0 < k {
+        print(b" > ");
+    }
+}
+
+// The walls that the echo with this image meets, the one next to the source first.
+pub fn print_walls(records: &[u8], number: u32) {
+    let count = walls::wall_count(records, number);
+    let mut k = 0;
+    while k < count {
+        print_arrow(k);
+        io::print_decimal(STDOUT_FILENO, walls::wall_at(records, number, k) as u64);
+        k += 1;
+    }
+}
+
+// Whether the echo with this image meets plane p.
+fn meets(records: &[u8], number: u32, p: usize) -> bool {
+    let count = walls::wall_count(records, number);
+    let mut k = 0;
+    while k < count {
+        if walls::wall_at(records, number, k) as usize == p {
+            return true;
+        }
+        k += 1;
+    }
+    false
+}
+
+// Whether one of the echoes does.
+fn occurs(taps: &[u32], records: &[u8], count: usize, p: usize) -> bool
+    requires { ⌜ 896 ≤ length (now taps) ⌝ }
+{
+    let mut i = 0;
+    while i < count {
+        if 63 < i {
+            return false;
+        }
+        if meets(records, taps[14 * i + 1], p) {
+            return true;
+        }
+        i += 1;
+    }
+    false
+}
+
+fn print_heading() {
+    print(
+        b"The walls that these echoes meet: the unit normal, how far along it the wall lies from the origin, and the area\n",
+    );
+    print(b"of its triangles, in metres and square metres.\n\n");
+    print(b"wall   normal x      y      z   offset     area\n");
+}
+
+// One wall: a line.
+fn print_wall(floats: &[f32], words: &[u32], p: usize)
+    requires { ⌜ (p ≤ 255) × (12 * p + 12 ≤ length (now floats)) × (5 * p + 5 ≤ length (now words)) ⌝ }
+{
+    let plane = mirror::plane_at(floats, words, p);
+    print_whole(p as u32, 4);
+    print_float(plane.normal.x, 3, 9);
+    print_float(plane.normal.y, 3, 7);
+    print_float(plane.normal.z, 3, 7);
+    print_float(plane.offset, 3, 9);
+    print_float(plane.area, 2, 9);
+    print(b"\n");
+}
+
+// The line of plane p, if an echo meets it.
+fn print_used(taps: &[u32], records: &[u8], count: usize, floats: &[f32], words: &[u32], p: usize)
+    requires { ⌜ (896 ≤ length (now taps)) × (p ≤ 255) × (12 * p + 12 ≤ length (now floats)) × (5 * p + 5 ≤ length (now words)) ⌝ }
+{
+    if occurs(taps, records, count, p) {
+        print_wall(floats, words, p);
+    }
+}
+
+// The lines of the planes that the echoes meet.
+fn print_lines(
+    taps: &[u32],
+    records: &[u8],
+    count: usize,
+    floats: &[f32],
+    words: &[u32],
+    planes: usize,
+)
+    requires { ⌜ (896 ≤ length (now taps)) × (3072 ≤ length (now floats)) × (1280 ≤ length (now words)) ⌝ }
+{
+    let mut p = 0;
+    while p < planes {
+        if 255 < p {
+            return;
+        }
+        print_used(taps, records, count, floats, words, p);
+        p += 1;
+    }
+}
+
+// The walls that the echoes meet, in the order of their numbers. A scene may have 256: one that no row names is left out.
+pub fn print_list(
+    taps: &[u32],
+    records: &[u8],
+    count: usize,
+    floats: &[f32],
+    words: &[u32],
+    planes: usize,
+)
+    requires { ⌜ (896 ≤ length (now taps)) × (3072 ≤ length (now floats)) × (1280 ≤ length (now words)) ⌝ }
+{
+    if count == 0 {
+        return;
+    }
+    print_heading();
+    print_lines(taps, records, count, floats, words, planes);
+    print(b"\n");
+}

@@ -1,0 +1,4 @@
+-- The laws of the walls.
+pub mod Marking
+pub mod Naming
+pub mod Taps
