@@ -82,11 +82,24 @@ fn edges_at(rows: &[f32], k: usize) -> Edges
     }
 }
 
-// Tries one triangle.
+// Tries one triangle: `geometry::intersect_edges` in its two steps, so that the compiler has both in line here. A call hands corner, edges
+// and ray over in memory, copied for each triangle (a tenth of a trace's time).
 fn visit(a: Vec3, e: Edges, ray: Ray, i: usize, best: Closest) -> Closest
     ensures { λ r. ⌜ r ≡ visitEdgesOf a e ray i best ⌝ }
 {
-    match geometry::intersect_edges(a, e, ray, best.distance) {
+    let h = vector::cross3(ray.direction, e.edge2);
+    let det = vector::dot3(e.edge1, h);
+    if geometry::parallel(det, e.least_det) {
+        return best;
+    }
+    match geometry::solve(
+        e,
+        h,
+        vector::sub3(ray.origin, a),
+        1.0 / det,
+        ray,
+        best.distance,
+    ) {
         geometry::Crossing::At(t, _, _) => {
             if t < best.distance {
                 return Closest {
