@@ -161,6 +161,11 @@ pub first-entered : (test : Test) (b : List Float) (ray : Ray) (t : Float) (l r 
     entered (test (boxAtOf b first) ray t) ≡ true
 first-entered test b ray t l r first h = ⊎-elim (λ w. rw (w .0) (w .1)) (λ w. rw (w .0) (w .1)) h
 
+-- and the second, where both are
+pub second-entered : (test : Test) (b : List Float) (ray : Ray) (t : Float) (l r second : ℕ) (far : Float) →
+    ((second ≡ l) × (test (boxAtOf b l) ray t ≡ At far)) ⊎ ((second ≡ r) × (test (boxAtOf b r) ray t ≡ At far)) → test (boxAtOf b second) ray t ≡ At far
+second-entered test b ray t l r second far h = ⊎-elim (λ w. rw (w .0) (w .1)) (λ w. rw (w .0) (w .1)) h
+
 -- ---- within the nodes
 pub children : (l : List ℕ) (nodes i k : ℕ) → Sound l 0 nodes 0 k → i < nodes → linksAtOf l i .len ≡ 0 → (linksAtOf l i .left < nodes) × (linksAtOf l i .right < nodes)
 unfolding Sound

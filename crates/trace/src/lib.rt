@@ -7,11 +7,13 @@ use geometry::Entry;
 use vector::Ray;
 use vector::Vec3;
 ghost use mathlib.Core.Path.{_≡_};
-ghost use mathlib.Core.Bool.{true};
+ghost use mathlib.Core.Bool.{true, false};
 ghost use mathlib.Core.Logic.{_⊎_};
 ghost use Prim.Native.Nat.{ℕ, _+_, _*_, _<_, _≤_};
+ghost use lib.Ieee.{lt};
 ghost use lib.ListN.{length, take, drop, getD};
 ghost use Rattle.geometry.specs.declared.Triangle.{Triangle};
+ghost use Rattle.geometry.specs.declared.Entry.the-variants.{At};
 ghost use Rattle.geometry.specs.Slab.{slabOf};
 ghost use Rattle.build.specs.Tree.{Tree};
 ghost use Rattle.build.specs.Areas.{boxAtOf, treeAtOf};
@@ -38,11 +40,12 @@ pub enum Hit {
     Nothing,
 }
 
-// How many children of a node are visited, and which.
+// How many children of a node are visited, and which. Where both are, the second one's box is entered at `far`.
 pub struct Turns {
     pub count: usize,
     pub first: usize,
     pub second: usize,
+    pub far: f32,
 }
 
 // ---- leaves
@@ -159,6 +162,7 @@ fn enters(b: Aabb, ray: Ray, t: f32) -> bool
 fn in_turn(a: Entry, b: Entry, l: usize, r: usize) -> Turns
     ensures list { λ w. ⌜ listOf w ≡ orderOf a b l r ⌝ }
     ensures first { λ w. ⌜ ((w .count ≡ 0 → ⊥) → ((w .first ≡ l) × (entered a ≡ true)) ⊎ ((w .first ≡ r) × (entered b ≡ true))) ⌝ }
+    ensures second { λ w. ⌜ ((w .count ≡ 0 → ⊥) → (w .count ≡ 1 → ⊥) → ((w .second ≡ l) × (a ≡ At (w .far))) ⊎ ((w .second ≡ r) × (b ≡ At (w .far)))) ⌝ }
     ensures both { λ w. ⌜ ((m : ℕ) → l < m → r < m → (w .first < m) × (w .second < m)) ⌝ }
 {
     match a {
@@ -170,18 +174,21 @@ fn in_turn(a: Entry, b: Entry, l: usize, r: usize) -> Turns
                             count: 2,
                             first: l,
                             second: r,
+                            far: tb,
                         };
                     }
                     Turns {
                         count: 2,
                         first: r,
                         second: l,
+                        far: ta,
                     }
                 }
                 Entry::Miss => Turns {
                     count: 1,
                     first: l,
                     second: r,
+                    far: 0.0,
                 },
             }
         }
@@ -191,11 +198,13 @@ fn in_turn(a: Entry, b: Entry, l: usize, r: usize) -> Turns
                     count: 1,
                     first: r,
                     second: l,
+                    far: 0.0,
                 },
                 Entry::Miss => Turns {
                     count: 0,
                     first: l,
                     second: r,
+                    far: 0.0,
                 },
             }
         }
@@ -206,6 +215,7 @@ fn order_at(padded: &[f32], ray: Ray, l: usize, r: usize, t: f32) -> Turns
     requires { ⌜ (6 * l + 6 ≤ length (now padded)) × (6 * r + 6 ≤ length (now padded)) ⌝ }
     ensures list { λ w. ⌜ listOf w ≡ orderOf (slabOf (boxAtOf (now (padded .entry)) l) ray t) (slabOf (boxAtOf (now (padded .entry)) r) ray t) l r ⌝ }
     ensures first { λ w. ⌜ ((w .count ≡ 0 → ⊥) → entered (slabOf (boxAtOf (now (padded .entry)) (w .first)) ray t) ≡ true) ⌝ }
+    ensures second { λ w. ⌜ ((w .count ≡ 0 → ⊥) → (w .count ≡ 1 → ⊥) → slabOf (boxAtOf (now (padded .entry)) (w .second)) ray t ≡ At (w .far)) ⌝ }
     ensures both { λ w. ⌜ ((m : ℕ) → l < m → r < m → (w .first < m) × (w .second < m)) ⌝ }
 {
     let a = geometry::intersect_padded(build::box_at(padded, l), ray, t);
@@ -213,8 +223,9 @@ fn order_at(padded: &[f32], ray: Ray, l: usize, r: usize, t: f32) -> Turns
     in_turn(a, b, l, r)
 }
 
-// The tree at node i, to a depth of `fuel` nodes. The ray enters the node's box: the test at the node above said so, and nothing
-// nearer was found since.
+// The tree at node i, to a depth of `fuel` nodes. The ray enters the node's box: the test at the node above said so. Of two children the
+// first one's box was tested with this very distance; the second one is still entered where nothing nearer than its entry was found, so that
+// its box is not tested again (the Rust tests both again).
 fn trace(
     padded: &[f32],
     nodes: &[u32],
@@ -228,8 +239,7 @@ fn trace(
 ) -> Closest
     requires { ⌜ Held (now padded) (now nodes) (now perm) (now rows) count ⌝ }
     requires { ⌜ i < count ⌝ }
-    requires { ⌜ entered (slabOf (boxAtOf (now padded) i) ray (best .distance)) ≡ true ⌝ }
-    ensures { λ r. ⌜ ((tri : ℕ → Triangle) → Rows tri (now (perm .entry)) (now (rows .entry)) → r ≡ traceOf slabOf tri ray (treeAtOf (now (padded .entry)) (now (nodes .entry)) (now (perm .entry)) fuel i) best) ⌝ }
+    ensures { λ r. ⌜ ((tri : ℕ → Triangle) → Rows tri (now (perm .entry)) (now (rows .entry)) → lt (best .distance) (ray .«min_distance») ≡ false → entered (slabOf (boxAtOf (now (padded .entry)) i) ray (best .distance)) ≡ true → r ≡ traceOf slabOf tri ray (treeAtOf (now (padded .entry)) (now (nodes .entry)) (now (perm .entry)) fuel i) best) ⌝ }
 {
     if fuel == 0 {
         return best;
@@ -254,25 +264,25 @@ fn trace(
         if w.count == 1 {
             return one;
         }
-        if enters(build::box_at(padded, w.second), ray, one.distance) {
-            return trace(
-                padded,
-                nodes,
-                perm,
-                rows,
-                count,
-                ray,
-                fuel - 1,
-                w.second,
-                one,
-            );
+        if one.distance < w.far {
+            return one;
         }
-        return one;
+        return trace(
+            padded,
+            nodes,
+            perm,
+            rows,
+            count,
+            ray,
+            fuel - 1,
+            w.second,
+            one,
+        );
     }
     visit_leaf(perm, rows, ray, k.start, k.len, best)
 }
 
-// The whole tree.
+// The whole tree. A ray that ends before it begins crosses nothing; `trace` is for the others.
 fn closest_hit(
     padded: &[f32],
     nodes: &[u32],
@@ -290,6 +300,9 @@ fn closest_hit(
         index: 0,
         found: 0,
     };
+    if ray.max_distance < ray.min_distance {
+        return nothing;
+    }
     if enters(build::box_at(padded, 0), ray, ray.max_distance) {
         return trace(padded, nodes, perm, rows, count, ray, 33, 0, nothing);
     }

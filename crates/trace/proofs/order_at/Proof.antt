@@ -17,7 +17,11 @@ returns c =
       (
         λ ne. law.first-entered slabOf (a .padded .now) (a .ray) (a .t) (a .l) (a .r) (c .in-turn .result .first)
             (rw (c .before .before .before .intersect-padded .ensures, c .before .before .before .before .box-at .ensures, c .before .intersect-padded2 .ensures, c .before .before .box-at2 .ensures) at (c .in-turn .ensures .1 .0 ne)),
-        c .in-turn .ensures .1 .1,
+        (
+          λ ne nf. law.second-entered slabOf (a .padded .now) (a .ray) (a .t) (a .l) (a .r) (c .in-turn .result .second) (c .in-turn .result .far)
+              (rw (c .before .before .before .intersect-padded .ensures, c .before .before .before .before .box-at .ensures, c .before .intersect-padded2 .ensures, c .before .before .box-at2 .ensures) at (c .in-turn .ensures .1 .1 .0 ne nf)),
+          c .in-turn .ensures .1 .1 .1,
+        ),
       ),
     )
 
