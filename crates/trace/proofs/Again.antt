@@ -148,10 +148,10 @@ module _ (t : Float) where
       go false k = refl
 
 -- the span of a ray up to t, cut by one axis, by two and by all
-abbrev cut-x : Aabb → Ray → Float → Span
+abbrev pub cut-x : Aabb → Ray → Float → Span
 cut-x b ray t = axisOf (b .min .x) (b .max .x) (ray .origin .x) (ray .direction .x) (ray .«min_distance») t
 
-abbrev cut-y : Aabb → Ray → Float → Span
+abbrev pub cut-y : Aabb → Ray → Float → Span
 cut-y b ray t = andThen (cut-x b ray t) (λ s f. axisOf (b .min .y) (b .max .y) (ray .origin .y) (ray .direction .y) s f)
 
 abbrev cut-z : Aabb → Ray → Float → Span

@@ -18,6 +18,7 @@ ghost use Rattle.geometry.specs.Slab.{slabOf};
 ghost use Rattle.build.specs.Tree.{Tree};
 ghost use Rattle.build.specs.Areas.{boxAtOf, treeAtOf};
 ghost use Rattle.trace.specs.Leaf.{cornerAtOf, edgesAtOf, visitEdgesOf, visitAllOf, Rows};
+ghost use Rattle.trace.specs.Slopes.{alongOf, anyAlongOf, slopeOf, slopesOf, nearOf, farOf, cutOf, besideOf, pastOf};
 ghost use Rattle.trace.specs.Trace.{entered, orderOf, traceOf, none, intersectOf, paddedTreeOf, listOf, Held};
 
 // The closest hit so far: `best` and `closest` of the Rust. While nothing is found, `found` is 0 and the distance is the ray's length. (A bool's
@@ -149,13 +150,121 @@ fn visit_leaf(
 
 // ---- nodes
 
-fn enters(b: Aabb, ray: Ray, t: f32) -> bool
-    ensures { λ r. ⌜ r ≡ entered (slabOf b ray t) ⌝ }
+// Whether a ray of this direction does not move on an axis.
+fn is_along(d: f32) -> bool
+    ensures { λ r. ⌜ r ≡ alongOf d ⌝ }
 {
-    match geometry::intersect_padded(b, ray, t) {
+    float::abs(d) < 1e-20
+}
+
+fn any_along(d: Vec3) -> bool
+    ensures { λ r. ⌜ r ≡ anyAlongOf d ⌝ }
+{
+    if is_along(d.x) {
+        return true;
+    }
+    if is_along(d.y) {
+        return true;
+    }
+    is_along(d.z)
+}
+
+// The reciprocal, and NaN where the ray does not move.
+fn slope(d: f32) -> f32
+    ensures { λ r. ⌜ r ≡ slopeOf d ⌝ }
+{
+    if is_along(d) {
+        return 0.0 / 0.0;
+    }
+    1.0 / d
+}
+
+// Worked out once a ray, where the Rust divides in each test.
+fn slopes_of(d: Vec3) -> Vec3
+    ensures { λ r. ⌜ r ≡ slopesOf d ⌝ }
+{
+    Vec3 {
+        x: slope(d.x),
+        y: slope(d.y),
+        z: slope(d.z),
+    }
+}
+
+// Where a span begins, cut by an axis: the ends of the box there, and the ray's origin and slope.
+fn near(from: f32, low: f32, high: f32, o: f32, slope: f32) -> f32
+    ensures { λ r. ⌜ r ≡ nearOf from low high o slope ⌝ }
+{
+    float::max(from, float::min((low - o) * slope, (high - o) * slope))
+}
+
+// Where it ends.
+fn far(to: f32, low: f32, high: f32, o: f32, slope: f32) -> f32
+    ensures { λ r. ⌜ r ≡ farOf to low high o slope ⌝ }
+{
+    float::min(to, float::max((low - o) * slope, (high - o) * slope))
+}
+
+// The slab test with the slopes at hand, but for the axes on which the ray does not move. All axes are worked out, with one test at the end: the
+// Rust tests after each, and which of these tests fails is hard to foretell. With no branch it is compiled in line wherever it is called.
+fn slab(b: Aabb, ray: Ray, slopes: Vec3, t: f32) -> Entry
+    ensures { λ r. ⌜ r ≡ cutOf b ray slopes t ⌝ }
+{
+    let x = near(ray.min_distance, b.min.x, b.max.x, ray.origin.x, slopes.x);
+    let y = near(x, b.min.y, b.max.y, ray.origin.y, slopes.y);
+    let from = near(y, b.min.z, b.max.z, ray.origin.z, slopes.z);
+    let p = far(t, b.min.x, b.max.x, ray.origin.x, slopes.x);
+    let q = far(p, b.min.y, b.max.y, ray.origin.y, slopes.y);
+    let to = far(q, b.min.z, b.max.z, ray.origin.z, slopes.z);
+    if to < from {
+        return Entry::Miss;
+    }
+    Entry::At(from)
+}
+
+// Whether a ray does not move on an axis and is outside the box on that axis.
+fn beside(low: f32, high: f32, o: f32, d: f32) -> bool
+    ensures { λ r. ⌜ r ≡ besideOf low high o d ⌝ }
+{
+    if is_along(d) {
+        return o < low || o > high;
+    }
+    false
+}
+
+// What `slab` says, but for a ray that runs beside the box.
+fn past(e: Entry, b: Aabb, ray: Ray) -> Entry
+    ensures { λ r. ⌜ r ≡ pastOf e b ray ⌝ }
+{
+    if beside(b.min.x, b.max.x, ray.origin.x, ray.direction.x) {
+        return Entry::Miss;
+    }
+    if beside(b.min.y, b.max.y, ray.origin.y, ray.direction.y) {
+        return Entry::Miss;
+    }
+    if beside(b.min.z, b.max.z, ray.origin.z, ray.direction.z) {
+        return Entry::Miss;
+    }
+    e
+}
+
+fn is_some(e: Entry) -> bool
+    ensures { λ r. ⌜ r ≡ entered e ⌝ }
+{
+    match e {
         Entry::At(_) => true,
         Entry::Miss => false,
     }
+}
+
+fn enters(b: Aabb, ray: Ray, slopes: Vec3, along: bool, t: f32) -> bool
+    requires { ⌜ (slopes ≡ slopesOf (ray .direction)) × (along ≡ anyAlongOf (ray .direction)) ⌝ }
+    ensures { λ r. ⌜ (lt t (ray .«min_distance») ≡ false → r ≡ entered (slabOf b ray t)) ⌝ }
+{
+    let e = slab(b, ray, slopes, t);
+    if along {
+        return is_some(past(e, b, ray));
+    }
+    is_some(e)
 }
 
 // Which of the children l and r are visited, and in which order.
@@ -211,15 +320,29 @@ fn in_turn(a: Entry, b: Entry, l: usize, r: usize) -> Turns
     }
 }
 
-fn order_at(padded: &[f32], ray: Ray, l: usize, r: usize, t: f32) -> Turns
+fn order_at(
+    padded: &[f32],
+    ray: Ray,
+    slopes: Vec3,
+    along: bool,
+    l: usize,
+    r: usize,
+    t: f32,
+) -> Turns
     requires { ⌜ (6 * l + 6 ≤ length (now padded)) × (6 * r + 6 ≤ length (now padded)) ⌝ }
-    ensures list { λ w. ⌜ listOf w ≡ orderOf (slabOf (boxAtOf (now (padded .entry)) l) ray t) (slabOf (boxAtOf (now (padded .entry)) r) ray t) l r ⌝ }
-    ensures first { λ w. ⌜ ((w .count ≡ 0 → ⊥) → entered (slabOf (boxAtOf (now (padded .entry)) (w .first)) ray t) ≡ true) ⌝ }
-    ensures second { λ w. ⌜ ((w .count ≡ 0 → ⊥) → (w .count ≡ 1 → ⊥) → slabOf (boxAtOf (now (padded .entry)) (w .second)) ray t ≡ At (w .far)) ⌝ }
+    requires { ⌜ (slopes ≡ slopesOf (ray .direction)) × (along ≡ anyAlongOf (ray .direction)) ⌝ }
+    ensures list { λ w. ⌜ (lt t (ray .«min_distance») ≡ false → listOf w ≡ orderOf (slabOf (boxAtOf (now (padded .entry)) l) ray t) (slabOf (boxAtOf (now (padded .entry)) r) ray t) l r) ⌝ }
+    ensures first { λ w. ⌜ (lt t (ray .«min_distance») ≡ false → (w .count ≡ 0 → ⊥) → entered (slabOf (boxAtOf (now (padded .entry)) (w .first)) ray t) ≡ true) ⌝ }
+    ensures second { λ w. ⌜ (lt t (ray .«min_distance») ≡ false → (w .count ≡ 0 → ⊥) → (w .count ≡ 1 → ⊥) → slabOf (boxAtOf (now (padded .entry)) (w .second)) ray t ≡ At (w .far)) ⌝ }
     ensures both { λ w. ⌜ ((m : ℕ) → l < m → r < m → (w .first < m) × (w .second < m)) ⌝ }
 {
-    let a = geometry::intersect_padded(build::box_at(padded, l), ray, t);
-    let b = geometry::intersect_padded(build::box_at(padded, r), ray, t);
+    let p = build::box_at(padded, l);
+    let q = build::box_at(padded, r);
+    let a = slab(p, ray, slopes, t);
+    let b = slab(q, ray, slopes, t);
+    if along {
+        return in_turn(past(a, p, ray), past(b, q, ray), l, r);
+    }
     in_turn(a, b, l, r)
 }
 
@@ -233,12 +356,15 @@ fn trace(
     rows: &[f32],
     count: usize,
     ray: Ray,
+    slopes: Vec3,
+    along: bool,
     fuel: usize,
     i: usize,
     best: Closest,
 ) -> Closest
     requires { ⌜ Held (now padded) (now nodes) (now perm) (now rows) count ⌝ }
     requires { ⌜ i < count ⌝ }
+    requires { ⌜ (slopes ≡ slopesOf (ray .direction)) × (along ≡ anyAlongOf (ray .direction)) ⌝ }
     ensures { λ r. ⌜ ((tri : ℕ → Triangle) → Rows tri (now (perm .entry)) (now (rows .entry)) → lt (best .distance) (ray .«min_distance») ≡ false → entered (slabOf (boxAtOf (now (padded .entry)) i) ray (best .distance)) ≡ true → r ≡ traceOf slabOf tri ray (treeAtOf (now (padded .entry)) (now (nodes .entry)) (now (perm .entry)) fuel i) best) ⌝ }
 {
     if fuel == 0 {
@@ -246,7 +372,7 @@ fn trace(
     }
     let k = build::links_at(nodes, i);
     if k.len == 0 {
-        let w = order_at(padded, ray, k.left, k.right, best.distance);
+        let w = order_at(padded, ray, slopes, along, k.left, k.right, best.distance);
         if w.count == 0 {
             return best;
         }
@@ -257,6 +383,8 @@ fn trace(
             rows,
             count,
             ray,
+            slopes,
+            along,
             fuel - 1,
             w.first,
             best,
@@ -274,6 +402,8 @@ fn trace(
             rows,
             count,
             ray,
+            slopes,
+            along,
             fuel - 1,
             w.second,
             one,
@@ -303,8 +433,28 @@ fn closest_hit(
     if ray.max_distance < ray.min_distance {
         return nothing;
     }
-    if enters(build::box_at(padded, 0), ray, ray.max_distance) {
-        return trace(padded, nodes, perm, rows, count, ray, 33, 0, nothing);
+    let slopes = slopes_of(ray.direction);
+    let along = any_along(ray.direction);
+    if enters(
+        build::box_at(padded, 0),
+        ray,
+        slopes,
+        along,
+        ray.max_distance,
+    ) {
+        return trace(
+            padded,
+            nodes,
+            perm,
+            rows,
+            count,
+            ray,
+            slopes,
+            along,
+            33,
+            0,
+            nothing,
+        );
     }
     nothing
 }

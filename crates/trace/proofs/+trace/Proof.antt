@@ -25,7 +25,7 @@ use Rattle.trace.proofs.+trace.Tie.{close}
 
 -- the fuel
 abbrev μ-trace : Measures 4 trace-kinds.ps ℕ
-μ-trace κs a = a .1 .1 .1 .1 .1 .1 .0
+μ-trace κs a = a .1 .1 .1 .1 .1 .1 .1 .1 .0
 
 abbrev trace-at : ℕ → In 4 trace-kinds.ps
 trace-at t = and 4 trace-kinds.ps (is 4 trace-kinds.ps μ-trace t) trace.Pre
@@ -42,28 +42,28 @@ pub +trace-spec : {M : Type 1} → statement M
     (λ c.
     let a = c .before .before .before .before .before .args in
     let H = c .before .before .before .before .before .pre .1 .0 in
-    let here = c .before .before .before .before .before .pre .1 .1 in
+    let here = c .before .before .before .before .before .pre .1 .1 .0 in
     λ tri h ahead hit. law.trace-none slabOf tri (a .ray) (a .padded .now) (a .nodes .now) (a .perm .now) (a .fuel) (a .i) (a .best) (c .if1 .taken))
     (λ c κs.
     let a = c .before .before .before .before .before .args in
     let H = c .before .before .before .before .before .pre .1 .0 in
-    let here = c .before .before .before .before .before .pre .1 .1 in
+    let here = c .before .before .before .before .before .pre .1 .1 .0 in
     let room = H .nodes-room in omega arith)
     (λ c κs.
     let a = c .before .before .before .before .before .before .before .before .args in
     let H = c .before .before .before .before .before .before .before .before .pre .1 .0 in
-    let here = c .before .before .before .before .before .before .before .before .pre .1 .1 in
+    let here = c .before .before .before .before .before .before .before .before .pre .1 .1 .0 in
     let e = c .before .before .links-at .ensures in
     let none : linksAtOf (a .nodes .now) (a .i) .len ≡ 0 = sym (ap (λ (k : Links). k .len) e) ∙ c .if2 .taken in
     let ch = law.children (a .nodes .now) (a .count) (a .i) (length (a .perm .now)) (H .sound) here none in
     let el = ap (λ (k : Links). k .left) e in
     let er = ap (λ (k : Links). k .right) e in
     let boxes = H .boxes-room in
-    (omega arith, omega arith))
+    ((omega arith, omega arith), c .before .before .before .before .before .before .before .before .pre .1 .1 .1))
     (λ c.
     let a = c .before .before .before .before .before .before .before .before .before .before .before .args in
     let H = c .before .before .before .before .before .before .before .before .before .before .before .pre .1 .0 in
-    let here = c .before .before .before .before .before .before .before .before .before .before .before .pre .1 .1 in
+    let here = c .before .before .before .before .before .before .before .before .before .before .before .pre .1 .1 .0 in
     let e = c .before .before .before .before .before .links-at .ensures in
     let none : linksAtOf (a .nodes .now) (a .i) .len ≡ 0 = sym (ap (λ (k : Links). k .len) e) ∙ c .before .before .before .if2 .taken in
     let ch = law.children (a .nodes .now) (a .count) (a .i) (length (a .perm .now)) (H .sound) here none in
@@ -73,13 +73,13 @@ pub +trace-spec : {M : Type 1} → statement M
     λ tri h ahead hit.
     let on : ℕ → Closest → Closest = λ j. traceOf slabOf tri (a .ray) (treeAtOf (a .padded .now) (a .nodes .now) (a .perm .now) (a .fuel - 1) j) in
     let w = c .before .before .order-at .result in
-    let whole = law.trace-node slabOf tri (a .ray) (a .padded .now) (a .nodes .now) (a .perm .now) (a .fuel) (a .i) (a .best) (c .before .before .before .before .before .before .if1 .left) hit none w (rw e at (c .before .before .order-at .ensures .0)) in
+    let whole = law.trace-node slabOf tri (a .ray) (a .padded .now) (a .nodes .now) (a .perm .now) (a .fuel) (a .i) (a .best) (c .before .before .before .before .before .before .if1 .left) hit none w (rw e at (c .before .before .order-at .ensures .0 ahead)) in
     law.turns-none w on (a .best) (c .if3 .taken) ∙ whole)
     (λ c. let z = c .before .before .before .before .before .before .if1 .left in omega arith)
     (λ c κs.
     let a = c .before .before .before .before .before .before .before .before .before .before .before .args in
     let H = c .before .before .before .before .before .before .before .before .before .before .before .pre .1 .0 in
-    let here = c .before .before .before .before .before .before .before .before .before .before .before .pre .1 .1 in
+    let here = c .before .before .before .before .before .before .before .before .before .before .before .pre .1 .1 .0 in
     let e = c .before .before .before .before .before .links-at .ensures in
     let none : linksAtOf (a .nodes .now) (a .i) .len ≡ 0 = sym (ap (λ (k : Links). k .len) e) ∙ c .before .before .before .if2 .taken in
     let ch = law.children (a .nodes .now) (a .count) (a .i) (length (a .perm .now)) (H .sound) here none in
@@ -89,11 +89,11 @@ pub +trace-spec : {M : Type 1} → statement M
     let m = c .before .before .before .before .before .before .before .before .before .before .before .pre .0 in
     let z = c .before .before .before .before .before .before .if1 .left in
     let both = c .before .before .order-at .ensures .1 .1 .1 (a .count) (omega arith) (omega arith) in
-    (omega arith, (H, both .0)))
+    (omega arith, (H, (both .0, c .before .before .before .before .before .before .before .before .before .before .before .pre .1 .1 .1))))
     (λ c.
     let a = c .before .before .before .before .before .before .before .before .before .before .before .before .before .before .args in
     let H = c .before .before .before .before .before .before .before .before .before .before .before .before .before .before .pre .1 .0 in
-    let here = c .before .before .before .before .before .before .before .before .before .before .before .before .before .before .pre .1 .1 in
+    let here = c .before .before .before .before .before .before .before .before .before .before .before .before .before .before .pre .1 .1 .0 in
     let e = c .before .before .before .before .before .before .before .before .links-at .ensures in
     let none : linksAtOf (a .nodes .now) (a .i) .len ≡ 0 = sym (ap (λ (k : Links). k .len) e) ∙ c .before .before .before .before .before .before .if2 .taken in
     let ch = law.children (a .nodes .now) (a .count) (a .i) (length (a .perm .now)) (H .sound) here none in
@@ -103,12 +103,12 @@ pub +trace-spec : {M : Type 1} → statement M
     λ tri h ahead hit.
     let on : ℕ → Closest → Closest = λ j. traceOf slabOf tri (a .ray) (treeAtOf (a .padded .now) (a .nodes .now) (a .perm .now) (a .fuel - 1) j) in
     let w = c .before .before .before .before .before .order-at .result in
-    let whole = law.trace-node slabOf tri (a .ray) (a .padded .now) (a .nodes .now) (a .perm .now) (a .fuel) (a .i) (a .best) (c .before .before .before .before .before .before .before .before .before .if1 .left) hit none w (rw e at (c .before .before .before .before .before .order-at .ensures .0)) in
-    c .before .before .trace .ensures tri h ahead (c .before .before .before .before .before .order-at .ensures .1 .0 (c .before .before .before .if3 .left)) ∙ law.turns-one w on (a .best) (c .before .before .before .if3 .left) (c .if4 .taken) ∙ whole)
+    let whole = law.trace-node slabOf tri (a .ray) (a .padded .now) (a .nodes .now) (a .perm .now) (a .fuel) (a .i) (a .best) (c .before .before .before .before .before .before .before .before .before .if1 .left) hit none w (rw e at (c .before .before .before .before .before .order-at .ensures .0 ahead)) in
+    c .before .before .trace .ensures tri h ahead (c .before .before .before .before .before .order-at .ensures .1 .0 ahead (c .before .before .before .if3 .left)) ∙ law.turns-one w on (a .best) (c .before .before .before .if3 .left) (c .if4 .taken) ∙ whole)
     (λ c.
     let a = c .before .before .before .before .before .before .before .before .before .before .before .before .before .before .before .before .before .args in
     let H = c .before .before .before .before .before .before .before .before .before .before .before .before .before .before .before .before .before .pre .1 .0 in
-    let here = c .before .before .before .before .before .before .before .before .before .before .before .before .before .before .before .before .before .pre .1 .1 in
+    let here = c .before .before .before .before .before .before .before .before .before .before .before .before .before .before .before .before .before .pre .1 .1 .0 in
     let e = c .before .before .before .before .before .before .before .before .before .before .before .links-at .ensures in
     let none : linksAtOf (a .nodes .now) (a .i) .len ≡ 0 = sym (ap (λ (k : Links). k .len) e) ∙ c .before .before .before .before .before .before .before .before .before .if2 .taken in
     λ tri h ahead hit.
@@ -116,17 +116,17 @@ pub +trace-spec : {M : Type 1} → statement M
     let w = c .before .before .before .before .before .before .before .before .order-at .result in
     let one = c .before .before .before .before .before .trace .result in
     let two = c .before .before .before .before .before .before .if3 .left in
-    let whole = law.trace-node slabOf tri (a .ray) (a .padded .now) (a .nodes .now) (a .perm .now) (a .fuel) (a .i) (a .best) (c .before .before .before .before .before .before .before .before .before .before .before .before .if1 .left) hit none w (rw e at (c .before .before .before .before .before .before .before .before .order-at .ensures .0)) in
-    let found = c .before .before .before .before .before .trace .ensures tri h ahead (c .before .before .before .before .before .before .before .before .order-at .ensures .1 .0 two) in
+    let whole = law.trace-node slabOf tri (a .ray) (a .padded .now) (a .nodes .now) (a .perm .now) (a .fuel) (a .i) (a .best) (c .before .before .before .before .before .before .before .before .before .before .before .before .if1 .left) hit none w (rw e at (c .before .before .before .before .before .before .before .before .order-at .ensures .0 ahead)) in
+    let found = c .before .before .before .before .before .trace .ensures tri h ahead (c .before .before .before .before .before .before .before .before .order-at .ensures .1 .0 ahead two) in
     let box = boxAtOf (a .padded .now) (w .second) in
-    let test = test-since tri (a .ray) (treeAtOf (a .padded .now) (a .nodes .now) (a .perm .now) (a .fuel - 1) (w .first)) (a .best) one found ahead box (w .far) (c .before .before .before .before .before .before .before .before .order-at .ensures .1 .1 .0 two (c .before .before .before .if4 .left)) in
+    let test = test-since tri (a .ray) (treeAtOf (a .padded .now) (a .nodes .now) (a .perm .now) (a .fuel - 1) (w .first)) (a .best) one found ahead box (w .far) (c .before .before .before .before .before .before .before .before .order-at .ensures .1 .1 .0 ahead two (c .before .before .before .if4 .left)) in
     law.trace-miss slabOf tri (a .ray) (a .padded .now) (a .nodes .now) (a .perm .now) (a .fuel - 1) (w .second) one (test ∙ ap not (c .if5 .taken))
     ∙ ap (λ (x : Closest). on (w .second) x) found ∙ law.turns-two w on (a .best) two (c .before .before .before .if4 .left) ∙ whole)
     (λ c. let z = c .before .before .before .before .before .before .before .before .before .before .before .before .if1 .left in omega arith)
     (λ c κs.
     let a = c .before .before .before .before .before .before .before .before .before .before .before .before .before .before .before .before .before .args in
     let H = c .before .before .before .before .before .before .before .before .before .before .before .before .before .before .before .before .before .pre .1 .0 in
-    let here = c .before .before .before .before .before .before .before .before .before .before .before .before .before .before .before .before .before .pre .1 .1 in
+    let here = c .before .before .before .before .before .before .before .before .before .before .before .before .before .before .before .before .before .pre .1 .1 .0 in
     let e = c .before .before .before .before .before .before .before .before .before .before .before .links-at .ensures in
     let none : linksAtOf (a .nodes .now) (a .i) .len ≡ 0 = sym (ap (λ (k : Links). k .len) e) ∙ c .before .before .before .before .before .before .before .before .before .if2 .taken in
     let ch = law.children (a .nodes .now) (a .count) (a .i) (length (a .perm .now)) (H .sound) here none in
@@ -136,11 +136,11 @@ pub +trace-spec : {M : Type 1} → statement M
     let m = c .before .before .before .before .before .before .before .before .before .before .before .before .before .before .before .before .before .pre .0 in
     let z = c .before .before .before .before .before .before .before .before .before .before .before .before .if1 .left in
     let both = c .before .before .before .before .before .before .before .before .order-at .ensures .1 .1 .1 (a .count) (omega arith) (omega arith) in
-    (omega arith, (H, both .1)))
+    (omega arith, (H, (both .1, c .before .before .before .before .before .before .before .before .before .before .before .before .before .before .before .before .before .pre .1 .1 .1))))
     (λ c.
     let a = c .before .before .before .before .before .before .before .before .before .before .before .before .before .before .before .before .before .before .args in
     let H = c .before .before .before .before .before .before .before .before .before .before .before .before .before .before .before .before .before .before .pre .1 .0 in
-    let here = c .before .before .before .before .before .before .before .before .before .before .before .before .before .before .before .before .before .before .pre .1 .1 in
+    let here = c .before .before .before .before .before .before .before .before .before .before .before .before .before .before .before .before .before .before .pre .1 .1 .0 in
     let e = c .before .before .before .before .before .before .before .before .before .before .before .before .links-at .ensures in
     let none : linksAtOf (a .nodes .now) (a .i) .len ≡ 0 = sym (ap (λ (k : Links). k .len) e) ∙ c .before .before .before .before .before .before .before .before .before .before .if2 .taken in
     λ tri h ahead hit.
@@ -148,23 +148,23 @@ pub +trace-spec : {M : Type 1} → statement M
     let w = c .before .before .before .before .before .before .before .before .before .order-at .result in
     let one = c .before .before .before .before .before .before .trace .result in
     let two = c .before .before .before .before .before .before .before .if3 .left in
-    let whole = law.trace-node slabOf tri (a .ray) (a .padded .now) (a .nodes .now) (a .perm .now) (a .fuel) (a .i) (a .best) (c .before .before .before .before .before .before .before .before .before .before .before .before .before .if1 .left) hit none w (rw e at (c .before .before .before .before .before .before .before .before .before .order-at .ensures .0)) in
-    let found = c .before .before .before .before .before .before .trace .ensures tri h ahead (c .before .before .before .before .before .before .before .before .before .order-at .ensures .1 .0 two) in
+    let whole = law.trace-node slabOf tri (a .ray) (a .padded .now) (a .nodes .now) (a .perm .now) (a .fuel) (a .i) (a .best) (c .before .before .before .before .before .before .before .before .before .before .before .before .before .if1 .left) hit none w (rw e at (c .before .before .before .before .before .before .before .before .before .order-at .ensures .0 ahead)) in
+    let found = c .before .before .before .before .before .before .trace .ensures tri h ahead (c .before .before .before .before .before .before .before .before .before .order-at .ensures .1 .0 ahead two) in
     let box = boxAtOf (a .padded .now) (w .second) in
-    let test = test-since tri (a .ray) (treeAtOf (a .padded .now) (a .nodes .now) (a .perm .now) (a .fuel - 1) (w .first)) (a .best) one found ahead box (w .far) (c .before .before .before .before .before .before .before .before .before .order-at .ensures .1 .1 .0 two (c .before .before .before .before .if4 .left)) in
+    let test = test-since tri (a .ray) (treeAtOf (a .padded .now) (a .nodes .now) (a .perm .now) (a .fuel - 1) (w .first)) (a .best) one found ahead box (w .far) (c .before .before .before .before .before .before .before .before .before .order-at .ensures .1 .1 .0 ahead two (c .before .before .before .before .if4 .left)) in
     let later = ahead-since tri (a .ray) (treeAtOf (a .padded .now) (a .nodes .now) (a .perm .now) (a .fuel - 1) (w .first)) (a .best) one found ahead in
     c .trace2 .ensures tri h later (test ∙ ap not (c .before .if5 .left)) ∙ ap (λ (x : Closest). on (w .second) x) found ∙ law.turns-two w on (a .best) two (c .before .before .before .before .if4 .left) ∙ whole)
     (λ c κs.
     let a = c .before .before .before .before .before .before .before .before .args in
     let H = c .before .before .before .before .before .before .before .before .pre .1 .0 in
-    let here = c .before .before .before .before .before .before .before .before .pre .1 .1 in
+    let here = c .before .before .before .before .before .before .before .before .pre .1 .1 .0 in
     let e = c .before .before .links-at .ensures in
     let some : linksAtOf (a .nodes .now) (a .i) .len ≡ 0 → ⊥ = rw e at (c .if2 .left) in
     (H .rows-room, rw e (law.triangles (a .nodes .now) (a .count) (a .i) (length (a .perm .now)) (H .sound) here some)))
     (λ c.
     let a = c .before .before .before .before .before .before .before .before .before .args in
     let H = c .before .before .before .before .before .before .before .before .before .pre .1 .0 in
-    let here = c .before .before .before .before .before .before .before .before .before .pre .1 .1 in
+    let here = c .before .before .before .before .before .before .before .before .before .pre .1 .1 .0 in
     let e = c .before .before .before .links-at .ensures in
     let some : linksAtOf (a .nodes .now) (a .i) .len ≡ 0 → ⊥ = rw e at (c .before .if2 .left) in
     λ tri h ahead hit. rw e at (c .visit-leaf .ensures tri h) ∙ law.trace-leaf slabOf tri (a .ray) (a .padded .now) (a .nodes .now) (a .perm .now) (a .fuel) (a .i) (a .best) (c .before .before .before .before .if1 .left) hit some)
