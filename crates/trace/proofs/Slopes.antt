@@ -6,7 +6,6 @@ use lib.Dec.{T, T-not}
 use lib.Ieee.{Float, nan, inf, fin, binary32, sub, mul, div, lt, isNan}
 use Rattle.float.specs.Literals.{one32}
 use Rattle.float.specs.Compare.{minOf, maxOf, absOf}
-use Rattle.vector.specs.declared.Vec3.{Vec3}
 use Rattle.vector.specs.declared.Ray.{Ray}
 use Rattle.geometry.specs.declared.Aabb.{Aabb}
 use Rattle.geometry.specs.declared.Span.{Span}
@@ -14,7 +13,8 @@ use Rattle.geometry.specs.declared.Span.the-variants.{Open, Closed}
 use Rattle.geometry.specs.declared.Entry.{Entry}
 use Rattle.geometry.specs.declared.Entry.the-variants.{At, Miss}
 use Rattle.geometry.specs.Slab.{alongAxis, narrowOf, axisOf, andThen, entryOf, slabOf}
-use Rattle.trace.specs.Slopes.{alongOf, anyAlongOf, slopeOf, slopesOf, nearOf, farOf, spanOf, cutOf, besideOf, pastOf}
+use Rattle.trace.specs.declared.Way.{Way}
+use Rattle.trace.specs.Slopes.{alongOf, anyAlongOf, slopeOf, slopesOf, nearOf, farOf, cutOf, besideOf, pastOf, wayOf}
 use Rattle.trace.proofs.Floats.{lt-left, lt-right, lt-trans, min-case, max-case}
 use Rattle.trace.proofs.Again.{cut-x, cut-y}
 
@@ -145,10 +145,14 @@ none-beside e b ray h = go (alongOf (ray .direction .x)) (alongOf (ray .directio
     go false false true k = absurd (subst T k tt)
     go false false false k = refl
 
--- THE TEST IS `slabOf`: with the slopes at hand, for a ray that may run beside the box, and for one that moves on every axis
-module _ (b : Aabb) (ray : Ray) (slopes : Vec3) (t : Float) (h : slopes ≡ slopesOf (ray .direction)) (ahead : lt t (ray .«min_distance») ≡ false) where
-  pub past-is : (e : Entry) → e ≡ cutOf b ray slopes t → pastOf e b ray ≡ slabOf b ray t
-  past-is e k = rw (k, h) (slab-is b ray t ahead)
+-- THE TEST IS `slabOf`: for a ray that may run beside the box, and for one that moves on every axis
+module _ (b : Aabb) (way : Way) (t : Float) (h : way ≡ wayOf (way .ray)) (ahead : lt t (way .ray .«min_distance») ≡ false) where
+  pub past-is : (e : Entry) → e ≡ cutOf b (way .ray) (way .slopes) t → pastOf e b (way .ray) ≡ slabOf b (way .ray) t
+  unfolding wayOf
+  past-is e k =
+      ap (λ (x : Entry). pastOf x b (way .ray)) (k ∙ ap (λ (w : Way). cutOf b (way .ray) (w .slopes) t) h)
+      ∙ slab-is b (way .ray) t ahead
 
-  pub cut-is : (e : Entry) → e ≡ cutOf b ray slopes t → anyAlongOf (ray .direction) ≡ false → e ≡ slabOf b ray t
-  cut-is e k none = sym (none-beside e b ray none) ∙ past-is e k
+  pub cut-is : (e : Entry) → e ≡ cutOf b (way .ray) (way .slopes) t → way .along ≡ false → e ≡ slabOf b (way .ray) t
+  unfolding wayOf
+  cut-is e k none = sym (none-beside e b (way .ray) (sym (ap (λ (w : Way). w .along) h) ∙ none)) ∙ past-is e k

@@ -11,6 +11,7 @@ use Rattle.geometry.specs.declared.Aabb.{Aabb}
 use Rattle.geometry.specs.declared.Entry.{Entry}
 use Rattle.geometry.specs.declared.Entry.the-variants.{At, Miss}
 use Rattle.geometry.specs.Slab.{alongAxis}
+use Rattle.trace.specs.declared.Way.{Way}
 
 -- a ray that does not move on an axis, as `axisOf` has it
 unfoldable pub alongOf : Float → Bool
@@ -25,6 +26,9 @@ slopeOf d = cond (alongOf d) nan (div binary32 one32 d)
 
 unfoldable pub slopesOf : Vec3 → Vec3
 slopesOf d = vec (slopeOf (d .x)) (slopeOf (d .y)) (slopeOf (d .z))
+
+unfoldable pub wayOf : Ray → Way
+wayOf ray = record { ray = ray; slopes = slopesOf (ray .direction); along = anyAlongOf (ray .direction) }
 
 -- where the ray passes x on an axis
 abbrev pub passOf : Float → Float → Float → Float

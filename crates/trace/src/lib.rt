@@ -18,8 +18,8 @@ ghost use Rattle.geometry.specs.Slab.{slabOf};
 ghost use Rattle.build.specs.Tree.{Tree};
 ghost use Rattle.build.specs.Areas.{boxAtOf, treeAtOf};
 ghost use Rattle.trace.specs.Leaf.{cornerAtOf, edgesAtOf, visitEdgesOf, visitAllOf, Rows};
-ghost use Rattle.trace.specs.Slopes.{alongOf, anyAlongOf, slopeOf, slopesOf, nearOf, farOf, cutOf, besideOf, pastOf};
-ghost use Rattle.trace.specs.Trace.{entered, orderOf, traceOf, none, intersectOf, paddedTreeOf, listOf, Held};
+ghost use Rattle.trace.specs.Slopes.{alongOf, anyAlongOf, slopeOf, slopesOf, nearOf, farOf, cutOf, besideOf, pastOf, wayOf};
+ghost use Rattle.trace.specs.Trace.{entered, orderOf, onlyOf, traceOf, none, intersectOf, paddedTreeOf, listOf, Held};
 
 // The closest hit so far: `best` and `closest` of the Rust. While nothing is found, `found` is 0 and the distance is the ray's length. (A bool's
 // padding would be copied along at each node, byte by byte: a tenth of a trace's time.)
@@ -39,6 +39,13 @@ pub struct RayHit {
 pub enum Hit {
     At(RayHit),
     Nothing,
+}
+
+// A ray, and what the tests of boxes need of its direction: worked out once a ray, where the Rust divides in each test.
+pub struct Way {
+    pub ray: Ray,
+    pub slopes: Vec3,
+    pub along: bool,
 }
 
 // How many children of a node are visited, and which. Where both are, the second one's box is entered at `far`.
@@ -179,7 +186,6 @@ fn slope(d: f32) -> f32
     1.0 / d
 }
 
-// Worked out once a ray, where the Rust divides in each test.
 fn slopes_of(d: Vec3) -> Vec3
     ensures { λ r. ⌜ r ≡ slopesOf d ⌝ }
 {
@@ -256,15 +262,34 @@ fn is_some(e: Entry) -> bool
     }
 }
 
-fn enters(b: Aabb, ray: Ray, slopes: Vec3, along: bool, t: f32) -> bool
-    requires { ⌜ (slopes ≡ slopesOf (ray .direction)) × (along ≡ anyAlongOf (ray .direction)) ⌝ }
-    ensures { λ r. ⌜ (lt t (ray .«min_distance») ≡ false → r ≡ entered (slabOf b ray t)) ⌝ }
+fn way_of(ray: Ray) -> Way
+    ensures { λ r. ⌜ r ≡ wayOf ray ⌝ }
 {
-    let e = slab(b, ray, slopes, t);
-    if along {
-        return is_some(past(e, b, ray));
+    let slopes = slopes_of(ray.direction);
+    let along = any_along(ray.direction);
+    Way { ray, slopes, along }
+}
+
+fn enters(b: Aabb, way: Way, t: f32) -> bool
+    requires { ⌜ way ≡ wayOf (way .ray) ⌝ }
+    ensures { λ r. ⌜ (lt t (way .ray .«min_distance») ≡ false → r ≡ entered (slabOf b (way .ray) t)) ⌝ }
+{
+    let e = slab(b, way.ray, way.slopes, t);
+    if way.along {
+        return is_some(past(e, b, way.ray));
     }
     is_some(e)
+}
+
+fn only(i: usize) -> Turns
+    ensures { λ w. ⌜ w ≡ onlyOf i ⌝ }
+{
+    Turns {
+        count: 1,
+        first: i,
+        second: i,
+        far: 0.0,
+    }
 }
 
 // Which of the children l and r are visited, and in which order.
@@ -293,22 +318,12 @@ fn in_turn(a: Entry, b: Entry, l: usize, r: usize) -> Turns
                         far: ta,
                     }
                 }
-                Entry::Miss => Turns {
-                    count: 1,
-                    first: l,
-                    second: r,
-                    far: 0.0,
-                },
+                Entry::Miss => only(l),
             }
         }
         Entry::Miss => {
             match b {
-                Entry::At(_) => Turns {
-                    count: 1,
-                    first: r,
-                    second: l,
-                    far: 0.0,
-                },
+                Entry::At(_) => only(r),
                 Entry::Miss => Turns {
                     count: 0,
                     first: l,
@@ -320,28 +335,20 @@ fn in_turn(a: Entry, b: Entry, l: usize, r: usize) -> Turns
     }
 }
 
-fn order_at(
-    padded: &[f32],
-    ray: Ray,
-    slopes: Vec3,
-    along: bool,
-    l: usize,
-    r: usize,
-    t: f32,
-) -> Turns
+fn order_at(padded: &[f32], way: Way, l: usize, r: usize, t: f32) -> Turns
     requires { ⌜ (6 * l + 6 ≤ length (now padded)) × (6 * r + 6 ≤ length (now padded)) ⌝ }
-    requires { ⌜ (slopes ≡ slopesOf (ray .direction)) × (along ≡ anyAlongOf (ray .direction)) ⌝ }
-    ensures list { λ w. ⌜ (lt t (ray .«min_distance») ≡ false → listOf w ≡ orderOf (slabOf (boxAtOf (now (padded .entry)) l) ray t) (slabOf (boxAtOf (now (padded .entry)) r) ray t) l r) ⌝ }
-    ensures first { λ w. ⌜ (lt t (ray .«min_distance») ≡ false → (w .count ≡ 0 → ⊥) → entered (slabOf (boxAtOf (now (padded .entry)) (w .first)) ray t) ≡ true) ⌝ }
-    ensures second { λ w. ⌜ (lt t (ray .«min_distance») ≡ false → (w .count ≡ 0 → ⊥) → (w .count ≡ 1 → ⊥) → slabOf (boxAtOf (now (padded .entry)) (w .second)) ray t ≡ At (w .far)) ⌝ }
+    requires { ⌜ way ≡ wayOf (way .ray) ⌝ }
+    ensures list { λ w. ⌜ (lt t (way .ray .«min_distance») ≡ false → listOf w ≡ orderOf (slabOf (boxAtOf (now (padded .entry)) l) (way .ray) t) (slabOf (boxAtOf (now (padded .entry)) r) (way .ray) t) l r) ⌝ }
+    ensures first { λ w. ⌜ (lt t (way .ray .«min_distance») ≡ false → (w .count ≡ 0 → ⊥) → entered (slabOf (boxAtOf (now (padded .entry)) (w .first)) (way .ray) t) ≡ true) ⌝ }
+    ensures second { λ w. ⌜ (lt t (way .ray .«min_distance») ≡ false → (w .count ≡ 0 → ⊥) → (w .count ≡ 1 → ⊥) → slabOf (boxAtOf (now (padded .entry)) (w .second)) (way .ray) t ≡ At (w .far)) ⌝ }
     ensures both { λ w. ⌜ ((m : ℕ) → l < m → r < m → (w .first < m) × (w .second < m)) ⌝ }
 {
     let p = build::box_at(padded, l);
     let q = build::box_at(padded, r);
-    let a = slab(p, ray, slopes, t);
-    let b = slab(q, ray, slopes, t);
-    if along {
-        return in_turn(past(a, p, ray), past(b, q, ray), l, r);
+    let a = slab(p, way.ray, way.slopes, t);
+    let b = slab(q, way.ray, way.slopes, t);
+    if way.along {
+        return in_turn(past(a, p, way.ray), past(b, q, way.ray), l, r);
     }
     in_turn(a, b, l, r)
 }
@@ -355,61 +362,36 @@ fn trace(
     perm: &[u32],
     rows: &[f32],
     count: usize,
-    ray: Ray,
-    slopes: Vec3,
-    along: bool,
+    way: Way,
     fuel: usize,
     i: usize,
     best: Closest,
 ) -> Closest
     requires { ⌜ Held (now padded) (now nodes) (now perm) (now rows) count ⌝ }
     requires { ⌜ i < count ⌝ }
-    requires { ⌜ (slopes ≡ slopesOf (ray .direction)) × (along ≡ anyAlongOf (ray .direction)) ⌝ }
-    ensures { λ r. ⌜ ((tri : ℕ → Triangle) → Rows tri (now (perm .entry)) (now (rows .entry)) → lt (best .distance) (ray .«min_distance») ≡ false → entered (slabOf (boxAtOf (now (padded .entry)) i) ray (best .distance)) ≡ true → r ≡ traceOf slabOf tri ray (treeAtOf (now (padded .entry)) (now (nodes .entry)) (now (perm .entry)) fuel i) best) ⌝ }
+    requires { ⌜ way ≡ wayOf (way .ray) ⌝ }
+    ensures { λ r. ⌜ ((tri : ℕ → Triangle) → Rows tri (now (perm .entry)) (now (rows .entry)) → lt (best .distance) (way .ray .«min_distance») ≡ false → entered (slabOf (boxAtOf (now (padded .entry)) i) (way .ray) (best .distance)) ≡ true → r ≡ traceOf slabOf tri (way .ray) (treeAtOf (now (padded .entry)) (now (nodes .entry)) (now (perm .entry)) fuel i) best) ⌝ }
 {
     if fuel == 0 {
         return best;
     }
+    let left = fuel - 1;
     let k = build::links_at(nodes, i);
     if k.len == 0 {
-        let w = order_at(padded, ray, slopes, along, k.left, k.right, best.distance);
+        let w = order_at(padded, way, k.left, k.right, best.distance);
         if w.count == 0 {
             return best;
         }
-        let one = trace(
-            padded,
-            nodes,
-            perm,
-            rows,
-            count,
-            ray,
-            slopes,
-            along,
-            fuel - 1,
-            w.first,
-            best,
-        );
+        let one = trace(padded, nodes, perm, rows, count, way, left, w.first, best);
         if w.count == 1 {
             return one;
         }
         if one.distance < w.far {
             return one;
         }
-        return trace(
-            padded,
-            nodes,
-            perm,
-            rows,
-            count,
-            ray,
-            slopes,
-            along,
-            fuel - 1,
-            w.second,
-            one,
-        );
+        return trace(padded, nodes, perm, rows, count, way, left, w.second, one);
     }
-    visit_leaf(perm, rows, ray, k.start, k.len, best)
+    visit_leaf(perm, rows, way.ray, k.start, k.len, best)
 }
 
 // The whole tree. A ray that ends before it begins crosses nothing; `trace` is for the others.
@@ -433,28 +415,9 @@ fn closest_hit(
     if ray.max_distance < ray.min_distance {
         return nothing;
     }
-    let slopes = slopes_of(ray.direction);
-    let along = any_along(ray.direction);
-    if enters(
-        build::box_at(padded, 0),
-        ray,
-        slopes,
-        along,
-        ray.max_distance,
-    ) {
-        return trace(
-            padded,
-            nodes,
-            perm,
-            rows,
-            count,
-            ray,
-            slopes,
-            along,
-            33,
-            0,
-            nothing,
-        );
+    let way = way_of(ray);
+    if enters(build::box_at(padded, 0), way, ray.max_distance) {
+        return trace(padded, nodes, perm, rows, count, way, 33, 0, nothing);
     }
     nothing
 }

@@ -25,7 +25,7 @@ use Rattle.trace.proofs.+trace.Tie.{close}
 
 -- the fuel
 abbrev μ-trace : Measures 4 trace-kinds.ps ℕ
-μ-trace κs a = a .1 .1 .1 .1 .1 .1 .1 .1 .0
+μ-trace κs a = a .1 .1 .1 .1 .1 .1 .0
 
 abbrev trace-at : ℕ → In 4 trace-kinds.ps
 trace-at t = and 4 trace-kinds.ps (is 4 trace-kinds.ps μ-trace t) trace.Pre
@@ -43,7 +43,8 @@ pub +trace-spec : {M : Type 1} → statement M
     let a = c .before .before .before .before .before .args in
     let H = c .before .before .before .before .before .pre .1 .0 in
     let here = c .before .before .before .before .before .pre .1 .1 .0 in
-    λ tri h ahead hit. law.trace-none slabOf tri (a .ray) (a .padded .now) (a .nodes .now) (a .perm .now) (a .fuel) (a .i) (a .best) (c .if1 .taken))
+    λ tri h ahead hit. law.trace-none slabOf tri (a .way .ray) (a .padded .now) (a .nodes .now) (a .perm .now) (a .fuel) (a .i) (a .best) (c .if1 .taken))
+    (λ c. let z = c .if1 .left in omega arith)
     (λ c κs.
     let a = c .before .before .before .before .before .args in
     let H = c .before .before .before .before .before .pre .1 .0 in
@@ -71,11 +72,10 @@ pub +trace-spec : {M : Type 1} → statement M
     let er = ap (λ (k : Links). k .right) e in
     let boxes = H .boxes-room in
     λ tri h ahead hit.
-    let on : ℕ → Closest → Closest = λ j. traceOf slabOf tri (a .ray) (treeAtOf (a .padded .now) (a .nodes .now) (a .perm .now) (a .fuel - 1) j) in
+    let on : ℕ → Closest → Closest = λ j. traceOf slabOf tri (a .way .ray) (treeAtOf (a .padded .now) (a .nodes .now) (a .perm .now) (a .fuel - 1) j) in
     let w = c .before .before .order-at .result in
-    let whole = law.trace-node slabOf tri (a .ray) (a .padded .now) (a .nodes .now) (a .perm .now) (a .fuel) (a .i) (a .best) (c .before .before .before .before .before .before .if1 .left) hit none w (rw e at (c .before .before .order-at .ensures .0 ahead)) in
+    let whole = law.trace-node slabOf tri (a .way .ray) (a .padded .now) (a .nodes .now) (a .perm .now) (a .fuel) (a .i) (a .best) (c .before .before .before .before .before .before .if1 .left) hit none w (rw e at (c .before .before .order-at .ensures .0 ahead)) in
     law.turns-none w on (a .best) (c .if3 .taken) ∙ whole)
-    (λ c. let z = c .before .before .before .before .before .before .if1 .left in omega arith)
     (λ c κs.
     let a = c .before .before .before .before .before .before .before .before .before .before .before .args in
     let H = c .before .before .before .before .before .before .before .before .before .before .before .pre .1 .0 in
@@ -101,9 +101,9 @@ pub +trace-spec : {M : Type 1} → statement M
     let er = ap (λ (k : Links). k .right) e in
     let boxes = H .boxes-room in
     λ tri h ahead hit.
-    let on : ℕ → Closest → Closest = λ j. traceOf slabOf tri (a .ray) (treeAtOf (a .padded .now) (a .nodes .now) (a .perm .now) (a .fuel - 1) j) in
+    let on : ℕ → Closest → Closest = λ j. traceOf slabOf tri (a .way .ray) (treeAtOf (a .padded .now) (a .nodes .now) (a .perm .now) (a .fuel - 1) j) in
     let w = c .before .before .before .before .before .order-at .result in
-    let whole = law.trace-node slabOf tri (a .ray) (a .padded .now) (a .nodes .now) (a .perm .now) (a .fuel) (a .i) (a .best) (c .before .before .before .before .before .before .before .before .before .if1 .left) hit none w (rw e at (c .before .before .before .before .before .order-at .ensures .0 ahead)) in
+    let whole = law.trace-node slabOf tri (a .way .ray) (a .padded .now) (a .nodes .now) (a .perm .now) (a .fuel) (a .i) (a .best) (c .before .before .before .before .before .before .before .before .before .if1 .left) hit none w (rw e at (c .before .before .before .before .before .order-at .ensures .0 ahead)) in
     c .before .before .trace .ensures tri h ahead (c .before .before .before .before .before .order-at .ensures .1 .0 ahead (c .before .before .before .if3 .left)) ∙ law.turns-one w on (a .best) (c .before .before .before .if3 .left) (c .if4 .taken) ∙ whole)
     (λ c.
     let a = c .before .before .before .before .before .before .before .before .before .before .before .before .before .before .before .before .before .args in
@@ -112,17 +112,16 @@ pub +trace-spec : {M : Type 1} → statement M
     let e = c .before .before .before .before .before .before .before .before .before .before .before .links-at .ensures in
     let none : linksAtOf (a .nodes .now) (a .i) .len ≡ 0 = sym (ap (λ (k : Links). k .len) e) ∙ c .before .before .before .before .before .before .before .before .before .if2 .taken in
     λ tri h ahead hit.
-    let on : ℕ → Closest → Closest = λ j. traceOf slabOf tri (a .ray) (treeAtOf (a .padded .now) (a .nodes .now) (a .perm .now) (a .fuel - 1) j) in
+    let on : ℕ → Closest → Closest = λ j. traceOf slabOf tri (a .way .ray) (treeAtOf (a .padded .now) (a .nodes .now) (a .perm .now) (a .fuel - 1) j) in
     let w = c .before .before .before .before .before .before .before .before .order-at .result in
     let one = c .before .before .before .before .before .trace .result in
     let two = c .before .before .before .before .before .before .if3 .left in
-    let whole = law.trace-node slabOf tri (a .ray) (a .padded .now) (a .nodes .now) (a .perm .now) (a .fuel) (a .i) (a .best) (c .before .before .before .before .before .before .before .before .before .before .before .before .if1 .left) hit none w (rw e at (c .before .before .before .before .before .before .before .before .order-at .ensures .0 ahead)) in
+    let whole = law.trace-node slabOf tri (a .way .ray) (a .padded .now) (a .nodes .now) (a .perm .now) (a .fuel) (a .i) (a .best) (c .before .before .before .before .before .before .before .before .before .before .before .before .if1 .left) hit none w (rw e at (c .before .before .before .before .before .before .before .before .order-at .ensures .0 ahead)) in
     let found = c .before .before .before .before .before .trace .ensures tri h ahead (c .before .before .before .before .before .before .before .before .order-at .ensures .1 .0 ahead two) in
     let box = boxAtOf (a .padded .now) (w .second) in
-    let test = test-since tri (a .ray) (treeAtOf (a .padded .now) (a .nodes .now) (a .perm .now) (a .fuel - 1) (w .first)) (a .best) one found ahead box (w .far) (c .before .before .before .before .before .before .before .before .order-at .ensures .1 .1 .0 ahead two (c .before .before .before .if4 .left)) in
-    law.trace-miss slabOf tri (a .ray) (a .padded .now) (a .nodes .now) (a .perm .now) (a .fuel - 1) (w .second) one (test ∙ ap not (c .if5 .taken))
+    let test = test-since tri (a .way .ray) (treeAtOf (a .padded .now) (a .nodes .now) (a .perm .now) (a .fuel - 1) (w .first)) (a .best) one found ahead box (w .far) (c .before .before .before .before .before .before .before .before .order-at .ensures .1 .1 .0 ahead two (c .before .before .before .if4 .left)) in
+    law.trace-miss slabOf tri (a .way .ray) (a .padded .now) (a .nodes .now) (a .perm .now) (a .fuel - 1) (w .second) one (test ∙ ap not (c .if5 .taken))
     ∙ ap (λ (x : Closest). on (w .second) x) found ∙ law.turns-two w on (a .best) two (c .before .before .before .if4 .left) ∙ whole)
-    (λ c. let z = c .before .before .before .before .before .before .before .before .before .before .before .before .if1 .left in omega arith)
     (λ c κs.
     let a = c .before .before .before .before .before .before .before .before .before .before .before .before .before .before .before .before .before .args in
     let H = c .before .before .before .before .before .before .before .before .before .before .before .before .before .before .before .before .before .pre .1 .0 in
@@ -144,15 +143,15 @@ pub +trace-spec : {M : Type 1} → statement M
     let e = c .before .before .before .before .before .before .before .before .before .before .before .before .links-at .ensures in
     let none : linksAtOf (a .nodes .now) (a .i) .len ≡ 0 = sym (ap (λ (k : Links). k .len) e) ∙ c .before .before .before .before .before .before .before .before .before .before .if2 .taken in
     λ tri h ahead hit.
-    let on : ℕ → Closest → Closest = λ j. traceOf slabOf tri (a .ray) (treeAtOf (a .padded .now) (a .nodes .now) (a .perm .now) (a .fuel - 1) j) in
+    let on : ℕ → Closest → Closest = λ j. traceOf slabOf tri (a .way .ray) (treeAtOf (a .padded .now) (a .nodes .now) (a .perm .now) (a .fuel - 1) j) in
     let w = c .before .before .before .before .before .before .before .before .before .order-at .result in
     let one = c .before .before .before .before .before .before .trace .result in
     let two = c .before .before .before .before .before .before .before .if3 .left in
-    let whole = law.trace-node slabOf tri (a .ray) (a .padded .now) (a .nodes .now) (a .perm .now) (a .fuel) (a .i) (a .best) (c .before .before .before .before .before .before .before .before .before .before .before .before .before .if1 .left) hit none w (rw e at (c .before .before .before .before .before .before .before .before .before .order-at .ensures .0 ahead)) in
+    let whole = law.trace-node slabOf tri (a .way .ray) (a .padded .now) (a .nodes .now) (a .perm .now) (a .fuel) (a .i) (a .best) (c .before .before .before .before .before .before .before .before .before .before .before .before .before .if1 .left) hit none w (rw e at (c .before .before .before .before .before .before .before .before .before .order-at .ensures .0 ahead)) in
     let found = c .before .before .before .before .before .before .trace .ensures tri h ahead (c .before .before .before .before .before .before .before .before .before .order-at .ensures .1 .0 ahead two) in
     let box = boxAtOf (a .padded .now) (w .second) in
-    let test = test-since tri (a .ray) (treeAtOf (a .padded .now) (a .nodes .now) (a .perm .now) (a .fuel - 1) (w .first)) (a .best) one found ahead box (w .far) (c .before .before .before .before .before .before .before .before .before .order-at .ensures .1 .1 .0 ahead two (c .before .before .before .before .if4 .left)) in
-    let later = ahead-since tri (a .ray) (treeAtOf (a .padded .now) (a .nodes .now) (a .perm .now) (a .fuel - 1) (w .first)) (a .best) one found ahead in
+    let test = test-since tri (a .way .ray) (treeAtOf (a .padded .now) (a .nodes .now) (a .perm .now) (a .fuel - 1) (w .first)) (a .best) one found ahead box (w .far) (c .before .before .before .before .before .before .before .before .before .order-at .ensures .1 .1 .0 ahead two (c .before .before .before .before .if4 .left)) in
+    let later = ahead-since tri (a .way .ray) (treeAtOf (a .padded .now) (a .nodes .now) (a .perm .now) (a .fuel - 1) (w .first)) (a .best) one found ahead in
     c .trace2 .ensures tri h later (test ∙ ap not (c .before .if5 .left)) ∙ ap (λ (x : Closest). on (w .second) x) found ∙ law.turns-two w on (a .best) two (c .before .before .before .before .if4 .left) ∙ whole)
     (λ c κs.
     let a = c .before .before .before .before .before .before .before .before .args in
@@ -167,4 +166,4 @@ pub +trace-spec : {M : Type 1} → statement M
     let here = c .before .before .before .before .before .before .before .before .before .pre .1 .1 .0 in
     let e = c .before .before .before .links-at .ensures in
     let some : linksAtOf (a .nodes .now) (a .i) .len ≡ 0 → ⊥ = rw e at (c .before .if2 .left) in
-    λ tri h ahead hit. rw e at (c .visit-leaf .ensures tri h) ∙ law.trace-leaf slabOf tri (a .ray) (a .padded .now) (a .nodes .now) (a .perm .now) (a .fuel) (a .i) (a .best) (c .before .before .before .before .if1 .left) hit some)
+    λ tri h ahead hit. rw e at (c .visit-leaf .ensures tri h) ∙ law.trace-leaf slabOf tri (a .way .ray) (a .padded .now) (a .nodes .now) (a .perm .now) (a .fuel) (a .i) (a .best) (c .before .before .before .before .if1 .left) hit some)

@@ -6,6 +6,7 @@ use lib.Dec.{T}
 use Rattle.geometry.specs.declared.Aabb.{Aabb}
 use Rattle.geometry.specs.Slab.{slabOf}
 use Rattle.build.specs.Areas.{boxAtOf, treeAtOf}
+use Rattle.trace.specs.Slopes.{wayOf}
 use Rattle.trace.specs.Trace.{entered, none}
 use Rattle.trace.proofs.Laws as law
 use Rattle.trace.proofs.Since.{trace-lost}
@@ -19,30 +20,36 @@ returns c =
 
 box-at-requires : tie.Need-box-at-requires
 box-at-requires c κs =
-    let H = c .before .before .before .before .before .before .before .before .pre .0 in
+    let H = c .before .before .before .before .before .before .before .pre .0 in
     let b = H .boxes-room in
-    let z = c .before .before .before .before .before .before .before .before .pre .1 in
+    let z = c .before .before .before .before .before .before .before .pre .1 in
     omega arith
 
 enters-requires : tie.Need-enters-requires
-enters-requires c κs = (c .before .before .slopes-of .ensures, c .before .any-along .ensures)
+unfolding wayOf
+enters-requires c κs = rw (c .before .way-of .ensures)
 
 trace-requires : tie.Need-trace-requires
-trace-requires c κs = (c .before .before .before .before .before .before .before .before .before .before .before .pre .0, (c .before .before .before .before .before .before .before .before .before .before .before .pre .1, (c .before .before .before .before .slopes-of .ensures, c .before .before .before .any-along .ensures)))
+unfolding wayOf
+trace-requires c κs = (c .before .before .before .before .before .before .before .before .before .before .pre .0, (c .before .before .before .before .before .before .before .before .before .before .pre .1, rw (c .before .before .before .way-of .ensures)))
 
 returns-2 : tie.Need-returns-2
+unfolding wayOf
 returns-2 c =
-    let a = c .before .before .before .before .before .before .before .before .before .before .before .before .args in
-    let ahead = c .before .before .before .before .before .before .if1 .left in
+    let a = c .before .before .before .before .before .before .before .before .before .before .before .args in
+    let ahead = c .before .before .before .before .before .if1 .left in
+    let way = c .before .before .before .before .way-of .ensures in
     let e : entered (slabOf (boxAtOf (a .padded .now) 0) (a .ray) (a .ray .«max_distance»)) ≡ true =
-    ap (λ (v : Aabb). entered (slabOf v (a .ray) (a .ray .«max_distance»))) (sym (c .before .before .before .box-at .ensures)) ∙ sym (c .before .before .enters .ensures ahead) ∙ c .before .if2 .taken in
-    λ tri h. c .trace .ensures tri h ahead e
+    ap (λ (v : Aabb). entered (slabOf v (a .ray) (a .ray .«max_distance»))) (sym (c .before .before .before .box-at .ensures)) ∙ sym (rw way at (c .before .before .enters .ensures) ahead) ∙ c .before .if2 .taken in
+    λ tri h. rw way at (c .trace .ensures tri h) ahead e
 
 returns-3 : tie.Need-returns-3
+unfolding wayOf
 returns-3 c =
-    let a = c .before .before .before .before .before .before .before .before .before .before .before .args in
+    let a = c .before .before .before .before .before .before .before .before .before .before .args in
+    let way = c .before .before .before .way-of .ensures in
     let e : entered (slabOf (boxAtOf (a .padded .now) 0) (a .ray) (a .ray .«max_distance»)) ≡ false =
-    ap (λ (v : Aabb). entered (slabOf v (a .ray) (a .ray .«max_distance»))) (sym (c .before .before .box-at .ensures)) ∙ sym (c .before .enters .ensures (c .before .before .before .before .before .if1 .left)) ∙ c .if2 .left in
+    ap (λ (v : Aabb). entered (slabOf v (a .ray) (a .ray .«max_distance»))) (sym (c .before .before .box-at .ensures)) ∙ sym (rw way at (c .before .enters .ensures) (c .before .before .before .before .if1 .left)) ∙ c .if2 .left in
     λ tri h. law.trace-miss slabOf tri (a .ray) (a .padded .now) (a .nodes .now) (a .perm .now) 33 0 (none (a .ray)) e
 
 pub closest-hit-spec : {M : Type 1} → statement M
@@ -50,7 +57,6 @@ closest-hit-spec =
     tie.close
     (tie.spec
     returns
-    (λ c κs. tt)
     (λ c κs. tt)
     box-at-requires
     enters-requires

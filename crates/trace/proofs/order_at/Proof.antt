@@ -1,5 +1,5 @@
 -- `trace::order_at` meets its contract: `in_turn` of the entries into the two boxes that it reads, which are those of `slabOf`.
-use mathlib.Core.Path.{_≡_, sym, ap, _∙_}
+use mathlib.Core.Path.{_≡_, ap, _∙_}
 use mathlib.Core.Bool.{false}
 use lib.Ieee.{lt}
 use Rattle.geometry.specs.declared.Aabb.{Aabb}
@@ -26,17 +26,17 @@ returns c =
     let y = s .slab2 in
     let u = s .before .before .before .box-at in
     let v = s .before .before .box-at2 in
-    let in-box : Aabb → Entry = λ b. slabOf b (a .ray) (a .t) in
-    let left : lt (a .t) (a .ray .«min_distance») ≡ false → c .before .before .past .result ≡ slabOf (boxAtOf (a .padded .now) (a .l)) (a .ray) (a .t) =
-    λ h. c .before .before .past .ensures ∙ past-is (u .result) (a .ray) (a .slopes) (a .t) (p .0) h (x .result) (x .ensures) ∙ ap in-box (u .ensures) in
-    let right : lt (a .t) (a .ray .«min_distance») ≡ false → c .before .past2 .result ≡ slabOf (boxAtOf (a .padded .now) (a .r)) (a .ray) (a .t) =
-    λ h. c .before .past2 .ensures ∙ past-is (v .result) (a .ray) (a .slopes) (a .t) (p .0) h (y .result) (y .ensures) ∙ ap in-box (v .ensures) in
+    let in-box : Aabb → Entry = λ b. slabOf b (a .way .ray) (a .t) in
+    let left : lt (a .t) (a .way .ray .«min_distance») ≡ false → c .before .before .past .result ≡ slabOf (boxAtOf (a .padded .now) (a .l)) (a .way .ray) (a .t) =
+    λ h. c .before .before .past .ensures ∙ past-is (u .result) (a .way) (a .t) p h (x .result) (x .ensures) ∙ ap in-box (u .ensures) in
+    let right : lt (a .t) (a .way .ray .«min_distance») ≡ false → c .before .past2 .result ≡ slabOf (boxAtOf (a .padded .now) (a .r)) (a .way .ray) (a .t) =
+    λ h. c .before .past2 .ensures ∙ past-is (v .result) (a .way) (a .t) p h (y .result) (y .ensures) ∙ ap in-box (v .ensures) in
     let told = c .in-turn .ensures in (
-      λ h. law.list-at (a .padded .now) (a .ray) (a .t) (a .l) (a .r) (c .in-turn .result) (c .before .before .past .result) (c .before .past2 .result) (left h) (right h) (told .0),
+      λ h. law.list-at (a .padded .now) (a .way .ray) (a .t) (a .l) (a .r) (c .in-turn .result) (c .before .before .past .result) (c .before .past2 .result) (left h) (right h) (told .0),
       (
-        λ h ne. law.first-at (a .padded .now) (a .ray) (a .t) (a .l) (a .r) (c .in-turn .result) (c .before .before .past .result) (c .before .past2 .result) (left h) (right h) (told .1 .0 ne),
+        λ h ne. law.first-at (a .padded .now) (a .way .ray) (a .t) (a .l) (a .r) (c .in-turn .result) (c .before .before .past .result) (c .before .past2 .result) (left h) (right h) (told .1 .0 ne),
         (
-          λ h ne nf. law.second-at (a .padded .now) (a .ray) (a .t) (a .l) (a .r) (c .in-turn .result) (c .before .before .past .result) (c .before .past2 .result) (left h) (right h) (told .1 .1 .0 ne nf),
+          λ h ne nf. law.second-at (a .padded .now) (a .way .ray) (a .t) (a .l) (a .r) (c .in-turn .result) (c .before .before .past .result) (c .before .past2 .result) (left h) (right h) (told .1 .1 .0 ne nf),
           told .1 .1 .1,
         ),
       ),
@@ -51,17 +51,17 @@ returns-2 c =
     let y = s .slab2 in
     let u = s .before .before .before .box-at in
     let v = s .before .before .box-at2 in
-    let in-box : Aabb → Entry = λ b. slabOf b (a .ray) (a .t) in
-    let left : lt (a .t) (a .ray .«min_distance») ≡ false → x .result ≡ slabOf (boxAtOf (a .padded .now) (a .l)) (a .ray) (a .t) =
-    λ h. cut-is (u .result) (a .ray) (a .slopes) (a .t) (p .0) h (x .result) (x .ensures) (sym (p .1) ∙ c .before .if1 .left) ∙ ap in-box (u .ensures) in
-    let right : lt (a .t) (a .ray .«min_distance») ≡ false → y .result ≡ slabOf (boxAtOf (a .padded .now) (a .r)) (a .ray) (a .t) =
-    λ h. cut-is (v .result) (a .ray) (a .slopes) (a .t) (p .0) h (y .result) (y .ensures) (sym (p .1) ∙ c .before .if1 .left) ∙ ap in-box (v .ensures) in
+    let in-box : Aabb → Entry = λ b. slabOf b (a .way .ray) (a .t) in
+    let left : lt (a .t) (a .way .ray .«min_distance») ≡ false → x .result ≡ slabOf (boxAtOf (a .padded .now) (a .l)) (a .way .ray) (a .t) =
+    λ h. cut-is (u .result) (a .way) (a .t) p h (x .result) (x .ensures) (c .before .if1 .left) ∙ ap in-box (u .ensures) in
+    let right : lt (a .t) (a .way .ray .«min_distance») ≡ false → y .result ≡ slabOf (boxAtOf (a .padded .now) (a .r)) (a .way .ray) (a .t) =
+    λ h. cut-is (v .result) (a .way) (a .t) p h (y .result) (y .ensures) (c .before .if1 .left) ∙ ap in-box (v .ensures) in
     let told = c .in-turn2 .ensures in (
-      λ h. law.list-at (a .padded .now) (a .ray) (a .t) (a .l) (a .r) (c .in-turn2 .result) (x .result) (y .result) (left h) (right h) (told .0),
+      λ h. law.list-at (a .padded .now) (a .way .ray) (a .t) (a .l) (a .r) (c .in-turn2 .result) (x .result) (y .result) (left h) (right h) (told .0),
       (
-        λ h ne. law.first-at (a .padded .now) (a .ray) (a .t) (a .l) (a .r) (c .in-turn2 .result) (x .result) (y .result) (left h) (right h) (told .1 .0 ne),
+        λ h ne. law.first-at (a .padded .now) (a .way .ray) (a .t) (a .l) (a .r) (c .in-turn2 .result) (x .result) (y .result) (left h) (right h) (told .1 .0 ne),
         (
-          λ h ne nf. law.second-at (a .padded .now) (a .ray) (a .t) (a .l) (a .r) (c .in-turn2 .result) (x .result) (y .result) (left h) (right h) (told .1 .1 .0 ne nf),
+          λ h ne nf. law.second-at (a .padded .now) (a .way .ray) (a .t) (a .l) (a .r) (c .in-turn2 .result) (x .result) (y .result) (left h) (right h) (told .1 .1 .0 ne nf),
           told .1 .1 .1,
         ),
       ),
