@@ -1,10 +1,10 @@
 -- What a trace leaves: the closest of before or a nearer one, and no nearer than the ray begins, so that a box that was entered before is
 -- entered still where its entry is no farther (`test-since`). A ray that ends before it begins crosses nothing (`trace-lost`).
 use mathlib.Core.Path.{_≡_, refl, sym, ap, subst, _∙_}
-use mathlib.Core.Bool.{Bool, true, false, not, cond, _||_, _&&_}
+use mathlib.Core.Bool.{Bool, true, false, not, cond, _&&_}
 use mathlib.Core.List.{List, [], _∷_, foldl}
 use Prim.Native.Nat.{ℕ}
-use lib.Dec.{T, eqb}
+use lib.Dec.{T}
 use lib.Ieee.{Float, binary32, add, mul, div, lt, le}
 use Rattle.float.specs.Literals.{one32}
 use Rattle.vector.specs.declared.Vec3.{Vec3}
@@ -21,7 +21,7 @@ use Rattle.geometry.specs.declared.Aabb.{Aabb}
 use Rattle.geometry.specs.Slab.{slabOf}
 use Rattle.build.specs.Tree.{Tree, leaf, node, boxOf}
 use Rattle.trace.specs.declared.Closest.{Closest}
-use Rattle.trace.specs.Leaf.{keepOf, visitOf, visitAllOf}
+use Rattle.trace.specs.Leaf.{takesOf, keepOf, visitOf, visitAllOf}
 use Rattle.trace.specs.Trace.{Test, entered, orderOf, traceOf}
 use Rattle.float.proofs.Beyond.{float-turn}
 use Rattle.trace.proofs.Floats.{le-left, le-right, le-not-lt, lt-le-trans}
@@ -95,7 +95,7 @@ module _ (ray : Ray) where
 
   keep-since : (x : Crossing) (i : ℕ) (best : Closest) → Ahead best → On ray (best .distance) x → Since ray best (keepOf x i best)
   keep-since crossing.Miss i best a h = still best a
-  keep-since (crossing.At t u v) i best a h = go (lt t (best .distance) || eqb (best .found) 0)
+  keep-since (crossing.At t u v) i best a h = go (takesOf t i best)
     where
       go : (b : Bool) → Since ray best (cond b (record { distance = t; index = i; found = 1 }) best)
       go true =
