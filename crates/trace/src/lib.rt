@@ -157,7 +157,7 @@ fn visit_leaf(
 
 // ---- nodes
 
-// Whether a ray of this direction does not move on an axis.
+// Whether a ray of this direction does not move on an axis: `d.abs() < 1e-20`.
 fn is_along(d: f32) -> bool
     ensures { λ r. ⌜ r ≡ alongOf d ⌝ }
 {
@@ -237,7 +237,7 @@ fn beside(low: f32, high: f32, o: f32, d: f32) -> bool
     false
 }
 
-// What `slab` says, but for a ray that runs beside the box.
+// What `slab` says, but a miss for a ray that runs beside the box.
 fn past(e: Entry, b: Aabb, ray: Ray) -> Entry
     ensures { λ r. ⌜ r ≡ pastOf e b ray ⌝ }
 {
@@ -270,6 +270,7 @@ fn way_of(ray: Ray) -> Way
     Way { ray, slopes, along }
 }
 
+// Whether the ray enters a box within the distance t.
 fn enters(b: Aabb, way: Way, t: f32) -> bool
     requires { ⌜ way ≡ wayOf (way .ray) ⌝ }
     ensures { λ r. ⌜ (lt t (way .ray .«min_distance») ≡ false → r ≡ entered (slabOf b (way .ray) t)) ⌝ }
@@ -281,6 +282,7 @@ fn enters(b: Aabb, way: Way, t: f32) -> bool
     is_some(e)
 }
 
+// One child alone.
 fn only(i: usize) -> Turns
     ensures { λ w. ⌜ w ≡ onlyOf i ⌝ }
 {
@@ -335,6 +337,7 @@ fn in_turn(a: Entry, b: Entry, l: usize, r: usize) -> Turns
     }
 }
 
+// The test of both boxes, then the rare ray that does not move on an axis: so both stand in line, and no entry goes through memory.
 fn order_at(padded: &[f32], way: Way, l: usize, r: usize, t: f32) -> Turns
     requires { ⌜ (6 * l + 6 ≤ length (now padded)) × (6 * r + 6 ≤ length (now padded)) ⌝ }
     requires { ⌜ way ≡ wayOf (way .ray) ⌝ }
