@@ -322,7 +322,7 @@ pub fn edges_of(a: Vec3, b: Vec3, c: Vec3) -> Edges
 }
 
 // Whether a ray of this determinant runs along the triangle.
-fn parallel(det: f32, least_det: f32) -> bool
+pub fn parallel(det: f32, least_det: f32) -> bool
     ensures { λ r. ⌜ r ≡ parallelOf det «least_det» ⌝ }
 {
     !(float::abs(det) > least_det)
@@ -348,7 +348,7 @@ fn within(t: f32, u: f32, v: f32, tmin: f32, tmax: f32) -> Crossing
 
 // The crossing of a ray that does not run along the triangle: h is the direction's product with the second edge, s the way from the
 // first corner to the ray's origin.
-fn solve(e: Edges, h: Vec3, s: Vec3, inv_det: f32, ray: Ray, t_max: f32) -> Crossing
+pub fn solve(e: Edges, h: Vec3, s: Vec3, inv_det: f32, ray: Ray, t_max: f32) -> Crossing
     ensures { λ r. ⌜ r ≡ solveOf e h s «inv_det» ray «t_max» ⌝ }
 {
     let u = vector::dot3(s, h) * inv_det;

@@ -155,11 +155,16 @@ module _ (w : Turns) (on : ℕ → Closest → Closest) (best : Closest) where
   pub turns-two : (w .count ≡ 0 → ⊥) → (w .count ≡ 1 → ⊥) → on (w .second) (on (w .first) best) ≡ foldl (λ x j. on j x) best (listOf w)
   turns-two ne nf = rw (ne-eqb (w .count) 0 ne, ne-eqb (w .count) 1 nf)
 
--- the first child that is visited is entered
-pub first-entered : (test : Test) (b : List Float) (ray : Ray) (t : Float) (l r first : ℕ) →
-    ((first ≡ l) × (entered (test (boxAtOf b l) ray t) ≡ true)) ⊎ ((first ≡ r) × (entered (test (boxAtOf b r) ray t) ≡ true)) →
-    entered (test (boxAtOf b first) ray t) ≡ true
-first-entered test b ray t l r first h = ⊎-elim (λ w. rw (w .0) (w .1)) (λ w. rw (w .0) (w .1)) h
+-- what `in_turn` says of two entries, where they are those into the children's boxes
+module _ (b : List Float) (ray : Ray) (t : Float) (l r : ℕ) (w : Turns) (x y : Entry) (ex : x ≡ slabOf (boxAtOf b l) ray t) (ey : y ≡ slabOf (boxAtOf b r) ray t) where
+  pub list-at : listOf w ≡ orderOf x y l r → listOf w ≡ orderOf (slabOf (boxAtOf b l) ray t) (slabOf (boxAtOf b r) ray t) l r
+  list-at h = rw (← ex, ← ey) h
+
+  pub first-at : ((w .first ≡ l) × (entered x ≡ true)) ⊎ ((w .first ≡ r) × (entered y ≡ true)) → entered (slabOf (boxAtOf b (w .first)) ray t) ≡ true
+  first-at h = ⊎-elim (λ k. rw (k .0, ← ex) (k .1)) (λ k. rw (k .0, ← ey) (k .1)) h
+
+  pub second-at : ((w .second ≡ l) × (x ≡ At (w .far))) ⊎ ((w .second ≡ r) × (y ≡ At (w .far))) → slabOf (boxAtOf b (w .second)) ray t ≡ At (w .far)
+  second-at h = ⊎-elim (λ k. rw (k .0, ← ex) (k .1)) (λ k. rw (k .0, ← ey) (k .1)) h
 
 -- ---- within the nodes
 pub children : (l : List ℕ) (nodes i k : ℕ) → Sound l 0 nodes 0 k → i < nodes → linksAtOf l i .len ≡ 0 → (linksAtOf l i .left < nodes) × (linksAtOf l i .right < nodes)

@@ -4,7 +4,7 @@ use lib.Dec.{eqb}
 use lib.Ieee.{Float, nan, lt}
 use lib.ListN.{length, getD}
 use mathlib.Core.Path.{_≡_}
-use mathlib.Core.Bool.{cond, _||_}
+use mathlib.Core.Bool.{Bool, cond, _||_}
 use mathlib.Core.List.{List, [], _∷_}
 use Rattle.vector.specs.declared.Vec3.{Vec3}
 use Rattle.vector.specs.declared.Ray.{Ray}
@@ -17,9 +17,12 @@ use Rattle.geometry.specs.Intersect.{edgesOf, crossingOf, intersectMaxOf}
 use Rattle.trace.specs.declared.Closest.{Closest}
 
 -- `t < best || closest.is_none()`: a nearer crossing, or the first one, takes the place of the closest
+abbrev pub takesOf : Float → ℕ → Closest → Bool
+takesOf t i best = lt t (best .distance) || eqb (best .found) 0
+
 abbrev pub keepOf : Crossing → ℕ → Closest → Closest
 keepOf Miss i best = best
-keepOf (At t u v) i best = cond (lt t (best .distance) || eqb (best .found) 0) (record { distance = t; index = i; found = 1 }) best
+keepOf (At t u v) i best = cond (takesOf t i best) (record { distance = t; index = i; found = 1 }) best
 
 -- with a triangle by its first corner and its edges
 unfoldable pub visitEdgesOf : Vec3 → Edges → Ray → ℕ → Closest → Closest

@@ -7,6 +7,7 @@ use lib.Dec.{eqb}
 use lib.ListN.{length}
 use mathlib.Core.Bool.{Bool, true, false, cond}
 use mathlib.Core.List.{List, [], _∷_, foldl}
+use Rattle.float.specs.Literals.{zero32}
 use Rattle.vector.specs.declared.Ray.{Ray}
 use Rattle.vector.specs.Ray.{pointAtOf}
 use Rattle.geometry.specs.declared.Aabb.{Aabb}
@@ -70,6 +71,10 @@ paddedTreeOf (node b l r) = node (paddedOf b) (paddedTreeOf l) (paddedTreeOf r)
 
 abbrev pub listOf : Turns → List ℕ
 listOf w = cond (eqb (w .count) 0) [] (cond (eqb (w .count) 1) (w .first ∷ []) (w .first ∷ w .second ∷ []))
+
+-- one child alone
+unfoldable pub onlyOf : ℕ → Turns
+onlyOf i = record { count = 1; first = i; second = i; far = zero32 }
 
 -- the areas of a tree of so many nodes
 pub record Held (padded : List Float) (nodes perm : List ℕ) (rows : List Float) (count : ℕ) : Type 0 where

@@ -1,24 +1,23 @@
 -- `trace::trace` meets its contract, by recursion on the fuel: a leaf, or the children in turn (`trace-node` of `Laws.antt`). The first
 -- child's box was tested with this very distance; the second one's is tested again.
 use mathlib.Core.Path.{_≡_, sym, ap, _∙_}
+use mathlib.Core.Bool.{not}
 use Prim.Native.Nat.{ℕ, _-_, _<_}
 use native.Mathlib.Omega.{arith}
 use lib.ListN.{length}
-use Rattle.geometry.specs.declared.Aabb.{Aabb}
 use Rattle.geometry.specs.Slab.{slabOf}
 use Rattle.build.specs.declared.Links.{Links}
-use Rattle.build.specs.Areas.{linksAtOf, treeAtOf}
+use Rattle.build.specs.Areas.{boxAtOf, linksAtOf, treeAtOf}
 use Rattle.trace.specs.declared.Closest.{Closest}
-use Rattle.trace.specs.Trace.{entered, traceOf}
+use Rattle.trace.specs.Trace.{traceOf}
 use Rattle.trace.proofs.Laws as law
+use Rattle.trace.proofs.Since.{ahead-since, test-since}
 use borrow.Fn.Kinds.{In}
 use borrow.Fn.PlainCycle.{Measures, is, falls, and}
 use Rattle.trace.proofs.trace.Reads as trace
 use Rattle.trace.proofs.trace.Kinds as trace-kinds
 use Rattle.trace.proofs.+trace.Lts-trace as trace-lts
 use Rattle.build.proofs.links_at.Reads as links-at-reads
-use Rattle.build.proofs.box_at.Reads as box-at-reads
-use Rattle.trace.proofs.enters.Reads as enters-reads
 use Rattle.trace.proofs.order_at.Reads as order-at-reads
 use Rattle.trace.proofs.visit_leaf.Reads as visit-leaf-reads
 use Rattle.trace.proofs.+trace.{statement}
@@ -37,55 +36,50 @@ trace-below t = and 4 trace-kinds.ps (falls 4 trace-kinds.ps _<_ μ-trace t) tra
 pub +trace-spec : {M : Type 1} → statement M
 +trace-spec =
     close μ-trace λ t. trace-lts.spec
-    (links-at-reads.Asked, links-at-reads.Learnt, order-at-reads.Asked, order-at-reads.Learnt, trace-below t, trace.Post, box-at-reads.Asked, box-at-reads.Learnt, enters-reads.Asked, enters-reads.Learnt, visit-leaf-reads.Asked, visit-leaf-reads.Learnt)
+    (links-at-reads.Asked, links-at-reads.Learnt, order-at-reads.Asked, order-at-reads.Learnt, trace-below t, trace.Post, visit-leaf-reads.Asked, visit-leaf-reads.Learnt)
     (trace-at t)
     trace.Post
     (λ c.
     let a = c .before .before .before .before .before .args in
     let H = c .before .before .before .before .before .pre .1 .0 in
     let here = c .before .before .before .before .before .pre .1 .1 .0 in
-    let hit = c .before .before .before .before .before .pre .1 .1 .1 in
-    λ tri h. law.trace-none slabOf tri (a .ray) (a .padded .now) (a .nodes .now) (a .perm .now) (a .fuel) (a .i) (a .best) (c .if1 .taken))
+    λ tri h ahead hit. law.trace-none slabOf tri (a .way .ray) (a .padded .now) (a .nodes .now) (a .perm .now) (a .fuel) (a .i) (a .best) (c .if1 .taken))
+    (λ c. let z = c .if1 .left in omega arith)
     (λ c κs.
     let a = c .before .before .before .before .before .args in
     let H = c .before .before .before .before .before .pre .1 .0 in
     let here = c .before .before .before .before .before .pre .1 .1 .0 in
-    let hit = c .before .before .before .before .before .pre .1 .1 .1 in
     let room = H .nodes-room in omega arith)
     (λ c κs.
     let a = c .before .before .before .before .before .before .before .before .args in
     let H = c .before .before .before .before .before .before .before .before .pre .1 .0 in
     let here = c .before .before .before .before .before .before .before .before .pre .1 .1 .0 in
-    let hit = c .before .before .before .before .before .before .before .before .pre .1 .1 .1 in
     let e = c .before .before .links-at .ensures in
     let none : linksAtOf (a .nodes .now) (a .i) .len ≡ 0 = sym (ap (λ (k : Links). k .len) e) ∙ c .if2 .taken in
     let ch = law.children (a .nodes .now) (a .count) (a .i) (length (a .perm .now)) (H .sound) here none in
     let el = ap (λ (k : Links). k .left) e in
     let er = ap (λ (k : Links). k .right) e in
     let boxes = H .boxes-room in
-    (omega arith, omega arith))
+    ((omega arith, omega arith), c .before .before .before .before .before .before .before .before .pre .1 .1 .1))
     (λ c.
     let a = c .before .before .before .before .before .before .before .before .before .before .before .args in
     let H = c .before .before .before .before .before .before .before .before .before .before .before .pre .1 .0 in
     let here = c .before .before .before .before .before .before .before .before .before .before .before .pre .1 .1 .0 in
-    let hit = c .before .before .before .before .before .before .before .before .before .before .before .pre .1 .1 .1 in
     let e = c .before .before .before .before .before .links-at .ensures in
     let none : linksAtOf (a .nodes .now) (a .i) .len ≡ 0 = sym (ap (λ (k : Links). k .len) e) ∙ c .before .before .before .if2 .taken in
     let ch = law.children (a .nodes .now) (a .count) (a .i) (length (a .perm .now)) (H .sound) here none in
     let el = ap (λ (k : Links). k .left) e in
     let er = ap (λ (k : Links). k .right) e in
     let boxes = H .boxes-room in
-    λ tri h.
-    let on : ℕ → Closest → Closest = λ j. traceOf slabOf tri (a .ray) (treeAtOf (a .padded .now) (a .nodes .now) (a .perm .now) (a .fuel - 1) j) in
+    λ tri h ahead hit.
+    let on : ℕ → Closest → Closest = λ j. traceOf slabOf tri (a .way .ray) (treeAtOf (a .padded .now) (a .nodes .now) (a .perm .now) (a .fuel - 1) j) in
     let w = c .before .before .order-at .result in
-    let whole = law.trace-node slabOf tri (a .ray) (a .padded .now) (a .nodes .now) (a .perm .now) (a .fuel) (a .i) (a .best) (c .before .before .before .before .before .before .if1 .left) hit none w (rw e at (c .before .before .order-at .ensures .0)) in
+    let whole = law.trace-node slabOf tri (a .way .ray) (a .padded .now) (a .nodes .now) (a .perm .now) (a .fuel) (a .i) (a .best) (c .before .before .before .before .before .before .if1 .left) hit none w (rw e at (c .before .before .order-at .ensures .0 ahead)) in
     law.turns-none w on (a .best) (c .if3 .taken) ∙ whole)
-    (λ c. let z = c .before .before .before .before .before .before .if1 .left in omega arith)
     (λ c κs.
     let a = c .before .before .before .before .before .before .before .before .before .before .before .args in
     let H = c .before .before .before .before .before .before .before .before .before .before .before .pre .1 .0 in
     let here = c .before .before .before .before .before .before .before .before .before .before .before .pre .1 .1 .0 in
-    let hit = c .before .before .before .before .before .before .before .before .before .before .before .pre .1 .1 .1 in
     let e = c .before .before .before .before .before .links-at .ensures in
     let none : linksAtOf (a .nodes .now) (a .i) .len ≡ 0 = sym (ap (λ (k : Links). k .len) e) ∙ c .before .before .before .if2 .taken in
     let ch = law.children (a .nodes .now) (a .count) (a .i) (length (a .perm .now)) (H .sound) here none in
@@ -94,44 +88,44 @@ pub +trace-spec : {M : Type 1} → statement M
     let boxes = H .boxes-room in
     let m = c .before .before .before .before .before .before .before .before .before .before .before .pre .0 in
     let z = c .before .before .before .before .before .before .if1 .left in
-    let both = c .before .before .order-at .ensures .1 .1 (a .count) (omega arith) (omega arith) in
-    (omega arith, (H, (both .0, c .before .before .order-at .ensures .1 .0 (c .if3 .left)))))
+    let both = c .before .before .order-at .ensures .1 .1 .1 (a .count) (omega arith) (omega arith) in
+    (omega arith, (H, (both .0, c .before .before .before .before .before .before .before .before .before .before .before .pre .1 .1 .1))))
     (λ c.
     let a = c .before .before .before .before .before .before .before .before .before .before .before .before .before .before .args in
     let H = c .before .before .before .before .before .before .before .before .before .before .before .before .before .before .pre .1 .0 in
     let here = c .before .before .before .before .before .before .before .before .before .before .before .before .before .before .pre .1 .1 .0 in
-    let hit = c .before .before .before .before .before .before .before .before .before .before .before .before .before .before .pre .1 .1 .1 in
     let e = c .before .before .before .before .before .before .before .before .links-at .ensures in
     let none : linksAtOf (a .nodes .now) (a .i) .len ≡ 0 = sym (ap (λ (k : Links). k .len) e) ∙ c .before .before .before .before .before .before .if2 .taken in
     let ch = law.children (a .nodes .now) (a .count) (a .i) (length (a .perm .now)) (H .sound) here none in
     let el = ap (λ (k : Links). k .left) e in
     let er = ap (λ (k : Links). k .right) e in
     let boxes = H .boxes-room in
-    λ tri h.
-    let on : ℕ → Closest → Closest = λ j. traceOf slabOf tri (a .ray) (treeAtOf (a .padded .now) (a .nodes .now) (a .perm .now) (a .fuel - 1) j) in
+    λ tri h ahead hit.
+    let on : ℕ → Closest → Closest = λ j. traceOf slabOf tri (a .way .ray) (treeAtOf (a .padded .now) (a .nodes .now) (a .perm .now) (a .fuel - 1) j) in
     let w = c .before .before .before .before .before .order-at .result in
-    let whole = law.trace-node slabOf tri (a .ray) (a .padded .now) (a .nodes .now) (a .perm .now) (a .fuel) (a .i) (a .best) (c .before .before .before .before .before .before .before .before .before .if1 .left) hit none w (rw e at (c .before .before .before .before .before .order-at .ensures .0)) in
-    c .before .before .trace .ensures tri h ∙ law.turns-one w on (a .best) (c .before .before .before .if3 .left) (c .if4 .taken) ∙ whole)
-    (λ c κs.
-    let a = c .before .before .before .before .before .before .before .before .before .before .before .before .before .before .args in
-    let H = c .before .before .before .before .before .before .before .before .before .before .before .before .before .before .pre .1 .0 in
-    let here = c .before .before .before .before .before .before .before .before .before .before .before .before .before .before .pre .1 .1 .0 in
-    let hit = c .before .before .before .before .before .before .before .before .before .before .before .before .before .before .pre .1 .1 .1 in
-    let e = c .before .before .before .before .before .before .before .before .links-at .ensures in
-    let none : linksAtOf (a .nodes .now) (a .i) .len ≡ 0 = sym (ap (λ (k : Links). k .len) e) ∙ c .before .before .before .before .before .before .if2 .taken in
-    let ch = law.children (a .nodes .now) (a .count) (a .i) (length (a .perm .now)) (H .sound) here none in
-    let el = ap (λ (k : Links). k .left) e in
-    let er = ap (λ (k : Links). k .right) e in
-    let boxes = H .boxes-room in
-    let both = c .before .before .before .before .before .order-at .ensures .1 .1 (a .count) (omega arith) (omega arith) in
-    let second = both .1 in omega arith)
-    (λ c κs. tt)
-    (λ c. let z = c .before .before .before .before .before .before .before .before .before .before .before .before .if1 .left in omega arith)
+    let whole = law.trace-node slabOf tri (a .way .ray) (a .padded .now) (a .nodes .now) (a .perm .now) (a .fuel) (a .i) (a .best) (c .before .before .before .before .before .before .before .before .before .if1 .left) hit none w (rw e at (c .before .before .before .before .before .order-at .ensures .0 ahead)) in
+    c .before .before .trace .ensures tri h ahead (c .before .before .before .before .before .order-at .ensures .1 .0 ahead (c .before .before .before .if3 .left)) ∙ law.turns-one w on (a .best) (c .before .before .before .if3 .left) (c .if4 .taken) ∙ whole)
+    (λ c.
+    let a = c .before .before .before .before .before .before .before .before .before .before .before .before .before .before .before .before .before .args in
+    let H = c .before .before .before .before .before .before .before .before .before .before .before .before .before .before .before .before .before .pre .1 .0 in
+    let here = c .before .before .before .before .before .before .before .before .before .before .before .before .before .before .before .before .before .pre .1 .1 .0 in
+    let e = c .before .before .before .before .before .before .before .before .before .before .before .links-at .ensures in
+    let none : linksAtOf (a .nodes .now) (a .i) .len ≡ 0 = sym (ap (λ (k : Links). k .len) e) ∙ c .before .before .before .before .before .before .before .before .before .if2 .taken in
+    λ tri h ahead hit.
+    let on : ℕ → Closest → Closest = λ j. traceOf slabOf tri (a .way .ray) (treeAtOf (a .padded .now) (a .nodes .now) (a .perm .now) (a .fuel - 1) j) in
+    let w = c .before .before .before .before .before .before .before .before .order-at .result in
+    let one = c .before .before .before .before .before .trace .result in
+    let two = c .before .before .before .before .before .before .if3 .left in
+    let whole = law.trace-node slabOf tri (a .way .ray) (a .padded .now) (a .nodes .now) (a .perm .now) (a .fuel) (a .i) (a .best) (c .before .before .before .before .before .before .before .before .before .before .before .before .if1 .left) hit none w (rw e at (c .before .before .before .before .before .before .before .before .order-at .ensures .0 ahead)) in
+    let found = c .before .before .before .before .before .trace .ensures tri h ahead (c .before .before .before .before .before .before .before .before .order-at .ensures .1 .0 ahead two) in
+    let box = boxAtOf (a .padded .now) (w .second) in
+    let test = test-since tri (a .way .ray) (treeAtOf (a .padded .now) (a .nodes .now) (a .perm .now) (a .fuel - 1) (w .first)) (a .best) one found ahead box (w .far) (c .before .before .before .before .before .before .before .before .order-at .ensures .1 .1 .0 ahead two (c .before .before .before .if4 .left)) in
+    law.trace-miss slabOf tri (a .way .ray) (a .padded .now) (a .nodes .now) (a .perm .now) (a .fuel - 1) (w .second) one (test ∙ ap not (c .if5 .taken))
+    ∙ ap (λ (x : Closest). on (w .second) x) found ∙ law.turns-two w on (a .best) two (c .before .before .before .if4 .left) ∙ whole)
     (λ c κs.
     let a = c .before .before .before .before .before .before .before .before .before .before .before .before .before .before .before .before .before .args in
     let H = c .before .before .before .before .before .before .before .before .before .before .before .before .before .before .before .before .before .pre .1 .0 in
     let here = c .before .before .before .before .before .before .before .before .before .before .before .before .before .before .before .before .before .pre .1 .1 .0 in
-    let hit = c .before .before .before .before .before .before .before .before .before .before .before .before .before .before .before .before .before .pre .1 .1 .1 in
     let e = c .before .before .before .before .before .before .before .before .before .before .before .links-at .ensures in
     let none : linksAtOf (a .nodes .now) (a .i) .len ≡ 0 = sym (ap (λ (k : Links). k .len) e) ∙ c .before .before .before .before .before .before .before .before .before .if2 .taken in
     let ch = law.children (a .nodes .now) (a .count) (a .i) (length (a .perm .now)) (H .sound) here none in
@@ -140,46 +134,29 @@ pub +trace-spec : {M : Type 1} → statement M
     let boxes = H .boxes-room in
     let m = c .before .before .before .before .before .before .before .before .before .before .before .before .before .before .before .before .before .pre .0 in
     let z = c .before .before .before .before .before .before .before .before .before .before .before .before .if1 .left in
-    let both = c .before .before .before .before .before .before .before .before .order-at .ensures .1 .1 (a .count) (omega arith) (omega arith) in
-    (omega arith, (H, (both .1, ap (λ (v : Aabb). entered (slabOf v (a .ray) (c .before .before .before .before .before .trace .result .distance))) (sym (c .before .before .box-at .ensures)) ∙ sym (c .before .enters .ensures) ∙ c .if5 .taken))))
+    let both = c .before .before .before .before .before .before .before .before .order-at .ensures .1 .1 .1 (a .count) (omega arith) (omega arith) in
+    (omega arith, (H, (both .1, c .before .before .before .before .before .before .before .before .before .before .before .before .before .before .before .before .before .pre .1 .1 .1))))
     (λ c.
     let a = c .before .before .before .before .before .before .before .before .before .before .before .before .before .before .before .before .before .before .args in
     let H = c .before .before .before .before .before .before .before .before .before .before .before .before .before .before .before .before .before .before .pre .1 .0 in
     let here = c .before .before .before .before .before .before .before .before .before .before .before .before .before .before .before .before .before .before .pre .1 .1 .0 in
-    let hit = c .before .before .before .before .before .before .before .before .before .before .before .before .before .before .before .before .before .before .pre .1 .1 .1 in
     let e = c .before .before .before .before .before .before .before .before .before .before .before .before .links-at .ensures in
     let none : linksAtOf (a .nodes .now) (a .i) .len ≡ 0 = sym (ap (λ (k : Links). k .len) e) ∙ c .before .before .before .before .before .before .before .before .before .before .if2 .taken in
-    let ch = law.children (a .nodes .now) (a .count) (a .i) (length (a .perm .now)) (H .sound) here none in
-    let el = ap (λ (k : Links). k .left) e in
-    let er = ap (λ (k : Links). k .right) e in
-    let boxes = H .boxes-room in
-    λ tri h.
-    let on : ℕ → Closest → Closest = λ j. traceOf slabOf tri (a .ray) (treeAtOf (a .padded .now) (a .nodes .now) (a .perm .now) (a .fuel - 1) j) in
+    λ tri h ahead hit.
+    let on : ℕ → Closest → Closest = λ j. traceOf slabOf tri (a .way .ray) (treeAtOf (a .padded .now) (a .nodes .now) (a .perm .now) (a .fuel - 1) j) in
     let w = c .before .before .before .before .before .before .before .before .before .order-at .result in
-    let whole = law.trace-node slabOf tri (a .ray) (a .padded .now) (a .nodes .now) (a .perm .now) (a .fuel) (a .i) (a .best) (c .before .before .before .before .before .before .before .before .before .before .before .before .before .if1 .left) hit none w (rw e at (c .before .before .before .before .before .before .before .before .before .order-at .ensures .0)) in
-    c .trace2 .ensures tri h ∙ ap (λ (x : Closest). on (w .second) x) (c .before .before .before .before .before .before .trace .ensures tri h) ∙ law.turns-two w on (a .best) (c .before .before .before .before .before .before .before .if3 .left) (c .before .before .before .before .if4 .left) ∙ whole)
-    (λ c.
-    let a = c .before .before .before .before .before .before .before .before .before .before .before .before .before .before .before .before .before .args in
-    let H = c .before .before .before .before .before .before .before .before .before .before .before .before .before .before .before .before .before .pre .1 .0 in
-    let here = c .before .before .before .before .before .before .before .before .before .before .before .before .before .before .before .before .before .pre .1 .1 .0 in
-    let hit = c .before .before .before .before .before .before .before .before .before .before .before .before .before .before .before .before .before .pre .1 .1 .1 in
-    let e = c .before .before .before .before .before .before .before .before .before .before .before .links-at .ensures in
-    let none : linksAtOf (a .nodes .now) (a .i) .len ≡ 0 = sym (ap (λ (k : Links). k .len) e) ∙ c .before .before .before .before .before .before .before .before .before .if2 .taken in
-    let ch = law.children (a .nodes .now) (a .count) (a .i) (length (a .perm .now)) (H .sound) here none in
-    let el = ap (λ (k : Links). k .left) e in
-    let er = ap (λ (k : Links). k .right) e in
-    let boxes = H .boxes-room in
-    λ tri h.
-    let on : ℕ → Closest → Closest = λ j. traceOf slabOf tri (a .ray) (treeAtOf (a .padded .now) (a .nodes .now) (a .perm .now) (a .fuel - 1) j) in
-    let w = c .before .before .before .before .before .before .before .before .order-at .result in
-    let whole = law.trace-node slabOf tri (a .ray) (a .padded .now) (a .nodes .now) (a .perm .now) (a .fuel) (a .i) (a .best) (c .before .before .before .before .before .before .before .before .before .before .before .before .if1 .left) hit none w (rw e at (c .before .before .before .before .before .before .before .before .order-at .ensures .0)) in
-    law.trace-miss slabOf tri (a .ray) (a .padded .now) (a .nodes .now) (a .perm .now) (a .fuel - 1) (w .second) (c .before .before .before .before .before .trace .result) (ap (λ (v : Aabb). entered (slabOf v (a .ray) (c .before .before .before .before .before .trace .result .distance))) (sym (c .before .before .box-at .ensures)) ∙ sym (c .before .enters .ensures) ∙ c .if5 .left)
-    ∙ ap (λ (x : Closest). on (w .second) x) (c .before .before .before .before .before .trace .ensures tri h) ∙ law.turns-two w on (a .best) (c .before .before .before .before .before .before .if3 .left) (c .before .before .before .if4 .left) ∙ whole)
+    let one = c .before .before .before .before .before .before .trace .result in
+    let two = c .before .before .before .before .before .before .before .if3 .left in
+    let whole = law.trace-node slabOf tri (a .way .ray) (a .padded .now) (a .nodes .now) (a .perm .now) (a .fuel) (a .i) (a .best) (c .before .before .before .before .before .before .before .before .before .before .before .before .before .if1 .left) hit none w (rw e at (c .before .before .before .before .before .before .before .before .before .order-at .ensures .0 ahead)) in
+    let found = c .before .before .before .before .before .before .trace .ensures tri h ahead (c .before .before .before .before .before .before .before .before .before .order-at .ensures .1 .0 ahead two) in
+    let box = boxAtOf (a .padded .now) (w .second) in
+    let test = test-since tri (a .way .ray) (treeAtOf (a .padded .now) (a .nodes .now) (a .perm .now) (a .fuel - 1) (w .first)) (a .best) one found ahead box (w .far) (c .before .before .before .before .before .before .before .before .before .order-at .ensures .1 .1 .0 ahead two (c .before .before .before .before .if4 .left)) in
+    let later = ahead-since tri (a .way .ray) (treeAtOf (a .padded .now) (a .nodes .now) (a .perm .now) (a .fuel - 1) (w .first)) (a .best) one found ahead in
+    c .trace2 .ensures tri h later (test ∙ ap not (c .before .if5 .left)) ∙ ap (λ (x : Closest). on (w .second) x) found ∙ law.turns-two w on (a .best) two (c .before .before .before .before .if4 .left) ∙ whole)
     (λ c κs.
     let a = c .before .before .before .before .before .before .before .before .args in
     let H = c .before .before .before .before .before .before .before .before .pre .1 .0 in
     let here = c .before .before .before .before .before .before .before .before .pre .1 .1 .0 in
-    let hit = c .before .before .before .before .before .before .before .before .pre .1 .1 .1 in
     let e = c .before .before .links-at .ensures in
     let some : linksAtOf (a .nodes .now) (a .i) .len ≡ 0 → ⊥ = rw e at (c .if2 .left) in
     (H .rows-room, rw e (law.triangles (a .nodes .now) (a .count) (a .i) (length (a .perm .now)) (H .sound) here some)))
@@ -187,7 +164,6 @@ pub +trace-spec : {M : Type 1} → statement M
     let a = c .before .before .before .before .before .before .before .before .before .args in
     let H = c .before .before .before .before .before .before .before .before .before .pre .1 .0 in
     let here = c .before .before .before .before .before .before .before .before .before .pre .1 .1 .0 in
-    let hit = c .before .before .before .before .before .before .before .before .before .pre .1 .1 .1 in
     let e = c .before .before .before .links-at .ensures in
     let some : linksAtOf (a .nodes .now) (a .i) .len ≡ 0 → ⊥ = rw e at (c .before .if2 .left) in
-    λ tri h. rw e at (c .visit-leaf .ensures tri h) ∙ law.trace-leaf slabOf tri (a .ray) (a .padded .now) (a .nodes .now) (a .perm .now) (a .fuel) (a .i) (a .best) (c .before .before .before .before .if1 .left) hit some)
+    λ tri h ahead hit. rw e at (c .visit-leaf .ensures tri h) ∙ law.trace-leaf slabOf tri (a .way .ray) (a .padded .now) (a .nodes .now) (a .perm .now) (a .fuel) (a .i) (a .best) (c .before .before .before .before .if1 .left) hit some)

@@ -1,39 +1,65 @@
--- `trace::closest_hit` meets its contract: the root's box is entered, or nothing is hit.
-use mathlib.Core.Path.{_≡_, sym, ap, _∙_}
-use mathlib.Core.Bool.{false}
+-- `trace::closest_hit` meets its contract: a ray that ends before it begins, the root's box entered, or nothing hit.
+use mathlib.Core.Path.{_≡_, sym, ap, subst, _∙_}
+use mathlib.Core.Bool.{true, false}
 use native.Mathlib.Omega.{arith}
+use lib.Dec.{T}
 use Rattle.geometry.specs.declared.Aabb.{Aabb}
 use Rattle.geometry.specs.Slab.{slabOf}
-use Rattle.build.specs.Areas.{boxAtOf}
+use Rattle.build.specs.Areas.{boxAtOf, treeAtOf}
+use Rattle.trace.specs.Slopes.{wayOf}
 use Rattle.trace.specs.Trace.{entered, none}
 use Rattle.trace.proofs.Laws as law
+use Rattle.trace.proofs.Since.{trace-lost}
 use Rattle.trace.proofs.closest_hit.Statement.{statement}
 use Rattle.trace.proofs.closest_hit.Tie as tie
 
+returns : tie.Need-returns
+returns c =
+    let a = c .before .before .before .before .before .before .args in
+    λ tri h. sym (trace-lost slabOf tri (a .ray) (none (a .ray)) (subst T (sym (c .if1 .taken)) tt) (treeAtOf (a .padded .now) (a .nodes .now) (a .perm .now) 33 0))
+
 box-at-requires : tie.Need-box-at-requires
-box-at-requires c κs = let H = c .before .before .before .before .pre .0 in let b = H .boxes-room in let z = c .before .before .before .before .pre .1 in omega arith
+box-at-requires c κs =
+    let H = c .before .before .before .before .before .before .before .pre .0 in
+    let b = H .boxes-room in
+    let z = c .before .before .before .before .before .before .before .pre .1 in
+    omega arith
+
+enters-requires : tie.Need-enters-requires
+unfolding wayOf
+enters-requires c κs = rw (c .before .way-of .ensures)
 
 trace-requires : tie.Need-trace-requires
-trace-requires c κs =
-    let a = c .before .before .before .before .before .before .before .args in
-    (c .before .before .before .before .before .before .before .pre .0, (c .before .before .before .before .before .before .before .pre .1, ap (λ (v : Aabb). entered (slabOf v (a .ray) (a .ray .«max_distance»))) (sym (c .before .before .box-at .ensures)) ∙ sym (c .before .enters .ensures) ∙ c .if1 .taken))
-
-returns : tie.Need-returns
-returns c = c .trace .ensures
+unfolding wayOf
+trace-requires c κs = (c .before .before .before .before .before .before .before .before .before .before .pre .0, (c .before .before .before .before .before .before .before .before .before .before .pre .1, rw (c .before .before .before .way-of .ensures)))
 
 returns-2 : tie.Need-returns-2
+unfolding wayOf
 returns-2 c =
-    let a = c .before .before .before .before .before .before .before .args in
+    let a = c .before .before .before .before .before .before .before .before .before .before .before .args in
+    let ahead = c .before .before .before .before .before .if1 .left in
+    let way = c .before .before .before .before .way-of .ensures in
+    let e : entered (slabOf (boxAtOf (a .padded .now) 0) (a .ray) (a .ray .«max_distance»)) ≡ true =
+    ap (λ (v : Aabb). entered (slabOf v (a .ray) (a .ray .«max_distance»))) (sym (c .before .before .before .box-at .ensures)) ∙ sym (rw way at (c .before .before .enters .ensures) ahead) ∙ c .before .if2 .taken in
+    λ tri h. rw way at (c .trace .ensures tri h) ahead e
+
+returns-3 : tie.Need-returns-3
+unfolding wayOf
+returns-3 c =
+    let a = c .before .before .before .before .before .before .before .before .before .before .args in
+    let way = c .before .before .before .way-of .ensures in
     let e : entered (slabOf (boxAtOf (a .padded .now) 0) (a .ray) (a .ray .«max_distance»)) ≡ false =
-    ap (λ (v : Aabb). entered (slabOf v (a .ray) (a .ray .«max_distance»))) (sym (c .before .before .box-at .ensures)) ∙ sym (c .before .enters .ensures) ∙ c .if1 .left in
+    ap (λ (v : Aabb). entered (slabOf v (a .ray) (a .ray .«max_distance»))) (sym (c .before .before .box-at .ensures)) ∙ sym (rw way at (c .before .enters .ensures) (c .before .before .before .before .if1 .left)) ∙ c .if2 .left in
     λ tri h. law.trace-miss slabOf tri (a .ray) (a .padded .now) (a .nodes .now) (a .perm .now) 33 0 (none (a .ray)) e
 
 pub closest-hit-spec : {M : Type 1} → statement M
 closest-hit-spec =
     tie.close
     (tie.spec
-    box-at-requires
-    (λ c κs. tt)
-    trace-requires
     returns
-    returns-2)
+    (λ c κs. tt)
+    box-at-requires
+    enters-requires
+    trace-requires
+    returns-2
+    returns-3)
