@@ -13,11 +13,17 @@ use Rattle.scene.specs.Scene.{Header, headers, vertexSum, indexSum, tripleSum, 
 use Rattle.scene.proofs.Cuts.{header-at, no-header, drop-one, vertex-step, index-step, triple-step}
 use Rattle.geometry.specs.Triangle.{isDegenerateOf}
 use Rattle.placing.specs.Corners.{Triple, triple, triples, wholeTriples, Corners, farIn, cornersIn, cornersOf, cornersAll, anyFar, trianglesOf, upToFar}
-use Rattle.placing.specs.Passing.{World, world, state, stepOf, run}
+use Rattle.placing.specs.Passing.{World, world, state, placing, stepOf, run}
 use Rattle.placing.specs.declared.State.{State}
+use Rattle.placing.specs.declared.Placing.{Placing}
+use Rattle.vector.specs.declared.Vec3.{Vec3}
 
 cond-is : {A : Type 0} (b : Bool) (x y : A) → b ≡ true → cond b x y ≡ x
 cond-is b x y e = rw (e)
+
+-- the point of a corner placed
+pub point-of : (r : Placing) (p : Vec3) (k : ℕ) → r ≡ placing p k → r .point ≡ p
+point-of r p k e = ap (λ (x : Placing). x .point) e
 
 pub run-none : (n : ℕ) (w : World) → run n w [] ≡ w
 unfolding run

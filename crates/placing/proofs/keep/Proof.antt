@@ -12,21 +12,21 @@ keep-spec =
     tie.close
     (tie.spec
     (λ c κs. tt)
-    (λ c. omega arith)
     (λ c.
-    let d = c .before .before in
+    let d = c .before in
+    let asked = d .before .before .before .pre in
     record {
-      made = rw (d .before .before .before .pre .1, ← d .far-corners .ensures, c .before .if1 .taken);
+      made = rw (asked .1 .0, asked .1 .1, ← d .far-corners .ensures, c .if1 .taken);
       kept = omega arith;
       placed = omega arith;
     })
     (λ c κs. tt)
-    (λ c. omega arith)
     (λ c.
-    let e = c .before .before in
+    let e = c .before in
     let d = e .before .before in
+    let asked = d .before .before .before .pre in
     record {
-      made = rw (d .before .before .before .pre .1, ← d .far-corners .ensures, e .before .if1 .left, ← e .is-degenerate .ensures, c .before .if2 .taken);
+      made = rw (asked .1 .0, asked .1 .1, ← d .far-corners .ensures, e .before .if1 .left, ← e .is-degenerate .ensures, c .if2 .taken);
       kept = omega arith;
       placed = omega arith;
     })
@@ -35,18 +35,19 @@ keep-spec =
     (λ c. omega arith)
     (λ c. omega arith)
     (λ c. omega arith)
-    (λ c. omega arith)
     (λ c. search needs)
     (λ c. search needs)
     (λ c.
-    let p = c .before .before .before in
+    let p = c .before .before in
     let m = p .before in
     let e = m .before .before .before in
     let d = e .before .before in
+    let asked = d .before .before .before .pre in
     record {
       made =
           rw (
-            d .before .before .before .pre .1,
+            asked .1 .0,
+            asked .1 .1,
             ← d .far-corners .ensures,
             e .before .if1 .left,
             ← e .is-degenerate .ensures,
