@@ -1,5 +1,6 @@
 // `triangles_from_scene`: one pass over the triples of a scene. Each corner of a triple whose indices are in range is placed and tested
 // (refusal 6), and the triangles that are not degenerate are kept in columns. Placings are counted.
+use geometry::Shape;
 use scene::Checked;
 use scene::Settings;
 use vector::Vec3;
@@ -116,15 +117,15 @@ fn keep(
             far: true,
         };
     }
-    if geometry::is_degenerate(a, b, c) {
+    let Shape::Proper(t) = geometry::triangle_of(a, b, c, handle) else {
         return State {
             kept: st.kept,
             placings: made,
             far: false,
         };
-    }
+    };
     let i = st.kept;
-    columns::put_triangle(columns, n, i, geometry::triangle_of(a, b, c, handle));
+    columns::put_triangle(columns, n, i, t);
     handles[i] = handle;
     State {
         kept: i + 1,
@@ -167,7 +168,17 @@ fn place_triple(
                 let a = corner(positions, transform, i, st.placings);
                 let b = corner(positions, transform, j, a.made);
                 let c = corner(positions, transform, k, b.made);
-                return keep(a.point, b.point, c.point, handle, n, c.made, st, columns, handles);
+                return keep(
+                    a.point,
+                    b.point,
+                    c.point,
+                    handle,
+                    n,
+                    c.made,
+                    st,
+                    columns,
+                    handles,
+                );
             }
         }
     }
