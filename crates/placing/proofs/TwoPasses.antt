@@ -7,7 +7,8 @@ use mathlib.Core.Bool.{Bool, true, false, cond, not, _&&_, _||_}
 use mathlib.Core.List.{List, [], _∷_, _++_, map}
 use native.Mathlib.Omega.{arith}
 use lib.Ieee.{Float}
-use lib.ListN.{length, getD}
+use lib.ListN.{length, getD, replicate, length-replicate}
+use Rattle.float.specs.Literals.{zero32}
 use Rattle.geometry.specs.declared.Triangle.{Triangle}
 use Rattle.geometry.specs.Triangle.{isDegenerateOf, triangleOf}
 use Rattle.columns.specs.Columns.{triangleAtOf}
@@ -15,12 +16,12 @@ use Rattle.scene.specs.Scene.{Scene, Mesh, meshesOf}
 use Rattle.scene.specs.declared.Settings.{Settings}
 use Rattle.scene.specs.Refusals.{refusal1, refusal2, refusal3, refusal4, refusal5, first, firstOfFive, triplesIn}
 use Rattle.placing.specs.Corners.{Triple, triples, Corners, farIn, cornersIn, cornersOf, cornersAll, corners, anyFar, trianglesOf, triangles, upToFar, placings, refusal6, inRange}
-use Rattle.placing.specs.Passing.{placedOf, Passed}
-use Rattle.placing.specs.Loading.{firstRefusal, answerOf, Loading}
+use Rattle.placing.specs.Passing.{putAll, putHandles, placedOf, Passed}
+use Rattle.placing.specs.Loading.{firstRefusal, answerOf, left, Loading}
 use Rattle.placing.specs.declared.Placed.{Placed}
 use Rattle.placing.specs.declared.Placed.the-variants.{Far, Kept}
 use Rattle.placing.specs.declared.Loaded.{Loaded}
-use Rattle.placing.specs.TwoPasses.{MeshTriple, meshTriple, meshTriples, sceneTriples, ranged, placed, testPass, keepPass, placingsFor, refuses, keptOf, placingsOf, AsTwoPasses, loadedBy, LoadsAsTwoPasses}
+use Rattle.placing.specs.TwoPasses.{MeshTriple, meshTriple, meshTriples, sceneTriples, ranged, placed, testPass, keepPass, placingsFor, refusalOf, keptOf, placingsOf, AsTwoPasses, loadedBy, LoadsAsTwoPasses}
 
 -- ---- the corners of the triples in range
 
@@ -100,9 +101,15 @@ module _ (ms : List Mesh) where
 
 -- ---- the pass
 
-refuses-is : (b : Bool) (p k : ℕ) → refuses (cond b (Far p) (Kept k p)) ≡ b
-refuses-is true p k = refl
-refuses-is false p k = refl
+refusal-is : (b : Bool) (p k : ℕ) → refusalOf (cond b (Far p) (Kept k p)) ≡ cond b 6 0
+refusal-is true p k = refl
+refusal-is false p k = refl
+
+-- zeros as long as another list are zeros as long as themselves
+zeros-own : {A : Type 0} (z : A) (n : ℕ) (l : List A) → l ≡ replicate n z → l ≡ replicate (length l) z
+zeros-own z n l e =
+    let same : length l ≡ n = ap length e ∙ length-replicate n z in
+    e ∙ ap (λ (k : ℕ). replicate k z) (sym same)
 
 placed-is : (b : Bool) (p k : ℕ) → placingsOf (cond b (Far p) (Kept k p)) ≡ p
 placed-is true p k = refl
@@ -122,14 +129,16 @@ module _ (ms : List Mesh) (n : ℕ) (columns : List Float) (handles : List ℕ) 
   -- for any answer that is as `placedOf` says, and areas that read as the triangles
   as-two :
       (r : Placed) → r ≡ placedOf (cornersAll ms) →
+      (anyFar (cornersAll ms) ≡ true → (columns ≡ replicate (length columns) zero32) × (handles ≡ replicate (length handles) 0)) →
       (anyFar (cornersAll ms) ≡ false → (i : ℕ) (d : Triangle) → i < length (trianglesOf (cornersAll ms)) → triangleAtOf columns handles n i ≡ getD (trianglesOf (cornersAll ms)) i d) →
       AsTwoPasses (meshTriples ms) n r columns handles
-  as-two r answer reads =
+  as-two r answer cleared reads =
       let far = anyFar (cornersAll ms) in
       let made = 3 * upToFar (cornersAll ms) in
       let count = length (trianglesOf (cornersAll ms)) in
       record {
-        refusal = ap refuses answer ∙ refuses-is far made count ∙ sym (test-all ms);
+        refusal = ap refusalOf answer ∙ refusal-is far made count ∙ ap (λ (b : Bool). cond b 6 0) (sym (test-all ms));
+        cleared = λ h. cleared (sym (test-all ms) ∙ h);
         kept = λ h. ap keptOf answer ∙ kept-is far made count (sym (test-all ms) ∙ h) ∙ ap length (sym (keep-all ms));
         triangles = λ h. read-as columns handles n (keepPass (meshTriples ms)) (trianglesOf (cornersAll ms)) (keep-all ms) (reads (sym (test-all ms) ∙ h));
         placings = ap placingsOf answer ∙ placed-is far made count ∙ sym (place-all ms);
@@ -137,7 +146,13 @@ module _ (ms : List Mesh) (n : ℕ) (columns : List Float) (handles : List ℕ) 
 
   pub two-passes :
       (columns₀ : List Float) (handles₀ : List ℕ) (r : Placed) → Passed (cornersAll ms) n columns₀ handles₀ r columns handles → AsTwoPasses (meshTriples ms) n r columns handles
-  two-passes columns₀ handles₀ r passed = as-two r (passed .answer) (λ h i d k. passed .reads h i d k .triangle)
+  two-passes columns₀ handles₀ r passed =
+      as-two r (passed .answer)
+      (λ h. (
+        zeros-own zero32 (length columns₀) columns (passed .filled ∙ ap (λ (b : Bool). cond b (replicate (length columns₀) zero32) (putAll columns₀ n 0 (trianglesOf (cornersAll ms)))) h),
+        zeros-own 0 (length handles₀) handles (passed .named ∙ ap (λ (b : Bool). cond b (replicate (length handles₀) 0) (putHandles handles₀ 0 (trianglesOf (cornersAll ms)))) h),
+      ))
+      (λ h i d k. passed .reads h i d k .triangle)
 
 -- ---- the front of a query
 
@@ -167,5 +182,9 @@ module _ (st : Settings) (c : ℕ) (s : Scene) (lens : List ℕ) where
         answer = loading .answer ∙ loaded-is (refusal6 s) s (length (triangles s)) (placings s) (firstRefusal st c s lens) refl refl k;
         passes =
             as-two (meshesOf s) (triplesIn s) columns handles (placedOf (corners s)) refl
+            (λ h. (
+              zeros-own zero32 (length columns₀) columns (loading .filled ∙ ap (λ (j : ℕ). left j zero32 columns₀ (putAll columns₀ (triplesIn s) 0 (triangles s))) (k ∙ ap (λ (x : Bool). cond x 6 0) h)),
+              zeros-own 0 (length handles₀) handles (loading .named ∙ ap (λ (j : ℕ). left j 0 handles₀ (putHandles handles₀ 0 (triangles s))) (k ∙ ap (λ (x : Bool). cond x 6 0) h)),
+            ))
             (λ h i d b. loading .reads (k ∙ ap (λ (x : Bool). cond x 6 0) h) i d b .triangle);
       }

@@ -1,10 +1,11 @@
 -- The one pass over the triples, held against two plain ones (document 02, note 6): a testing pass followed by a keeping pass; and its placings.
 use Prim.Native.Nat.{ℕ, _+_, _<_}
 use lib.Ieee.{Float}
-use lib.ListN.{length, getD}
+use lib.ListN.{length, getD, replicate}
 use mathlib.Core.Path.{_≡_}
 use mathlib.Core.Bool.{Bool, true, false, cond, not, _&&_, _||_}
 use mathlib.Core.List.{List, [], _∷_, _++_, map}
+use Rattle.float.specs.Literals.{zero32}
 use Rattle.geometry.specs.declared.Triangle.{Triangle}
 use Rattle.geometry.specs.Triangle.{isDegenerateOf, triangleOf}
 use Rattle.columns.specs.Columns.{triangleAtOf}
@@ -63,10 +64,10 @@ unfoldable pub placingsFor : List MeshTriple → ℕ
 placingsFor [] = 0
 placingsFor (x ∷ xs) = cond (ranged x) (3 + cond (farIn (placed x)) 0 (placingsFor xs)) (placingsFor xs)
 
--- an answer of the one pass: whether it refuses, what it kept, what it placed
-abbrev pub refuses : Placed → Bool
-refuses (Far p) = true
-refuses (Kept k p) = false
+-- an answer of the one pass: document 01's number of its refusal, what it kept, what it placed
+abbrev pub refusalOf : Placed → ℕ
+refusalOf (Far p) = 6
+refusalOf (Kept k p) = 0
 
 abbrev pub keptOf : Placed → ℕ
 keptOf (Far p) = 0
@@ -77,9 +78,11 @@ placingsOf (Far p) = p
 placingsOf (Kept k p) = p
 
 -- Of the triples of a scene, for the answer r of `triangles_from_scene` and its areas afterwards, whose columns have n floats each: "its refusal, or else
--- its triangles, are those of a testing pass followed by a keeping pass", and its placings are as many as the note says.
+-- its triangles, are those of a testing pass followed by a keeping pass", and its placings are as many as the note says. What else the areas hold is in `Passed`.
 pub record AsTwoPasses (xs : List MeshTriple) (n : ℕ) (r : Placed) (columns : List Float) (handles : List ℕ) : Type 0 where
-  pub refusal : refuses r ≡ testPass xs
+  pub refusal : refusalOf r ≡ cond (testPass xs) 6 0
+  -- after a refusal the areas are zero
+  pub cleared : testPass xs ≡ true → (columns ≡ replicate (length columns) zero32) × (handles ≡ replicate (length handles) 0)
   pub kept : testPass xs ≡ false → keptOf r ≡ length (keepPass xs)
   pub triangles : testPass xs ≡ false → (i : ℕ) (d : Triangle) → i < length (keepPass xs) → triangleAtOf columns handles n i ≡ getD (keepPass xs) i d
   pub placings : placingsOf r ≡ placingsFor xs
@@ -89,7 +92,8 @@ abbrev pub loadedBy : ℕ → Placed → Loaded
 loadedBy n (Far p) = Refused 6
 loadedBy n (Kept k p) = Triangles k p n
 
--- The same of `load_scene`, where none of the refusals 1 to 5 applies: it answers what the pass answered.
+-- The same of `load_scene`, where none of the refusals 1 to 5 applies: it answers what the pass answered. Its refusal 6 has no counts, as document 01 says, so that
+-- the placings of a refused scene are those of the pass alone.
 pub record LoadsAsTwoPasses (s : Scene) (r : Loaded) (columns : List Float) (handles : List ℕ) : Type 0 where
   pub pass : Placed
   pub answer : r ≡ loadedBy (triplesIn s) pass
