@@ -2,6 +2,7 @@
 --     prefix-answers    of two answers, for a and b, the taps for a are the first a of those for b, with equal images and rays; C and the lengths of the
 --                       areas may differ, as between two stations
 --     prefix-calls      the same of two calls with equal C and lengths, by their contract, and that both are refused alike or neither
+--     prefix-stations   the same of two calls that both gave a result, where C and lengths differ
 use Prim.Native.Nat.{ℕ, zero, suc, _≤_, _<_, min}
 use mathlib.Core.Path.{_≡_, refl, sym, ap, subst, _∙_}
 use mathlib.Core.Bool.{Bool, true, false, cond}
@@ -156,29 +157,40 @@ refused-alike a k out out′ =
       refusal = refl;
       images = refl;
       rays = refl;
-      count = omega arith;
       taps = [];
+      few = omega arith;
+      long-count = refl;
+      short-count = let z : 0 ≡ min a 0 = omega arith in z ∙ sym (length-take a []);
       long-packet = λ z. absurd (let n : ⊥ = omega arith in n);
       short-packet = λ z. absurd (let n : ⊥ = omega arith in n);
     }
 
 -- what two callers have who were given x and y
 given-both :
-    (a : ℕ) (x y : Answer) (out out′ : List ℕ) → FirstOf a x y →
+    (a : ℕ) (x y : Answer) (out out′ : List ℕ) → FirstOf a x y → length (y .taps) ≤ mostTaps →
     ShortAndLong a (answeredOf (given x)) (answeredOf (given y)) (outputOf (given x) out) (outputOf (given y) out′)
-given-both a x y out out′ f =
+given-both a x y out out′ f few =
     let short = packetOf (x .images) (x .rays) (x .taps) in
     let long = packetOf (y .images) (y .rays) (y .taps) in
     record {
       refusal = refl;
       images = f .images;
       rays = f .rays;
-      count = ap length (f .taps) ∙ length-take a (y .taps);
       taps = y .taps;
+      few = few;
+      long-count = refl;
+      short-count = ap length (f .taps);
       long-packet = λ z. take-at long (drop (length long) out′) (length long) refl;
       short-packet = λ z.
           take-at short (drop (length short) out) (length short) refl ∙ (λ i. packetOf (f .images i) (f .rays i) (f .taps i));
     }
+
+-- the same of calls that answer as these queries
+carried :
+    (a : ℕ) (q q′ : Query) (short long : Answered) (out out₁ out′ out₁′ : List ℕ) →
+    short ≡ answeredOf q → long ≡ answeredOf q′ → out₁ ≡ outputOf q out → out₁′ ≡ outputOf q′ out′ →
+    ShortAndLong a (answeredOf q) (answeredOf q′) (outputOf q out) (outputOf q′ out′) → ShortAndLong a short long out₁ out₁′
+carried a q q′ short long out out₁ out′ out₁′ e e′ o o′ all = rw (e, e′, o, o′) all
 
 -- two queries with lists of a and b: the refusal k for both, or 7 for both, or two answers
 module _ (on : List ℕ) (order : ℕ) (speed rate : Float) (room : ℕ) (path : List ℕ → Outcome) (a b : ℕ) (h : a ≤ b) (out out′ : List ℕ) where
@@ -197,7 +209,7 @@ module _ (on : List ℕ) (order : ℕ) (speed rate : Float) (room : ℕ) (path :
       go true = refused-alike a 6 out out′
       go false =
           given-both a (answerOf on order speed rate (min a mostTaps) path) (answerOf on order speed rate (min b mostTaps) path) out out′
-          (first-of on order speed rate path a b h)
+          (first-of on order speed rate path a b h) (few-ranked speed rate (min b mostTaps) (found path 1 (visited on order)) (omega arith))
 
 module _ (st : Settings) (a b : ℕ) (h : a ≤ b) (s : Scene) (source listener : Vec3) (separated : Bool) where
   -- of the definition: whatever the output areas held
@@ -218,15 +230,62 @@ module _ (st : Settings) (a b : ℕ) (h : a ≤ b) (s : Scene) (source listener 
       (sym (paths-same st a b (triangles s) (s .materials) source listener))
       (both-queries on order (st .«speed_of_sound») (st .«sample_rate») c (pathFor (withList st b) (triangles s) (s .materials) source listener) a b h out out′ k)
 
-  -- of two calls with areas of equal lengths, whatever the areas held
+  -- of two calls with equal C and areas of equal lengths, whatever the areas held
   pub prefix-calls :
-      (c : ℕ) (lens : List ℕ) (short long : Answered) (out₀ out out₀′ out′ : List ℕ) (found left found′ left′ : Work) →
-      Traced (withList st a) c s lens source listener separated short out₀ out found left →
-      Traced (withList st b) c s lens source listener separated long out₀′ out′ found′ left′ →
-      ShortAndLong a short long out out′
-  prefix-calls c lens short long out₀ out out₀′ out′ found left found′ left′ t t′ =
-      let all = both-answers c lens out₀ out₀′ in
-      subst (λ (x : Answered). ShortAndLong a x long out out′) (sym (t .answer))
-      (subst (λ (x : Answered). ShortAndLong a (answeredOf (traceOf (withList st a) c s lens source listener separated)) x out out′) (sym (t′ .answer))
-      (subst (λ (o : List ℕ). ShortAndLong a (answeredOf (traceOf (withList st a) c s lens source listener separated)) (answeredOf (traceOf (withList st b) c s lens source listener separated)) o out′) (sym (t .output))
-      (subst (λ (o : List ℕ). ShortAndLong a (answeredOf (traceOf (withList st a) c s lens source listener separated)) (answeredOf (traceOf (withList st b) c s lens source listener separated)) (outputOf (traceOf (withList st a) c s lens source listener separated) out₀) o) (sym (t′ .output)) all)))
+      (c : ℕ) (lens : List ℕ) (short long : Answered) (out out₁ out′ out₁′ : List ℕ) (found left found′ left′ : Work) →
+      Traced (withList st a) c s lens source listener separated short out out₁ found left →
+      Traced (withList st b) c s lens source listener separated long out′ out₁′ found′ left′ →
+      ShortAndLong a short long out₁ out₁′
+  prefix-calls c lens short long out out₁ out′ out₁′ found left found′ left′ t t′ =
+      carried a (traceOf (withList st a) c s lens source listener separated) (traceOf (withList st b) c s lens source listener separated) short long out out₁ out′ out₁′
+      (t .answer) (t′ .answer) (t .output) (t′ .output) (both-answers c lens out out′)
+
+-- a query's answer with no refusal is one that was given
+given-told :
+    (on : List ℕ) (order : ℕ) (speed rate : Float) (limit room : ℕ) (path : List ℕ → Outcome) (k : ℕ) →
+    answeredOf (byRefusal k (queryOf on order speed rate limit room path)) .refusal ≡ 0 →
+    byRefusal k (queryOf on order speed rate limit room path) ≡ given (answerOf on order speed rate limit path)
+unfolding queryOf
+given-told on order speed rate limit room path (suc k) e = absurd (omega arith)
+given-told on order speed rate limit room path zero e = go (ltb room (length (found path 1 (visited on order)))) e
+  where
+    go :
+        (b : Bool) →
+        answeredOf (elim b as (λ _. Query) [ true ↦ refused 7 | false ↦ given (answerOf on order speed rate limit path) ]) .refusal ≡ 0 →
+        _≡_ {A = Query} (elim b [ true ↦ refused 7 | false ↦ given (answerOf on order speed rate limit path) ]) (given (answerOf on order speed rate limit path))
+    go true e = absurd (let z : _≡_ {A = ℕ} 7 0 = e in omega arith)
+    go false e = refl
+
+module _ (st : Settings) (a b : ℕ) (h : a ≤ b) (s : Scene) (source listener : Vec3) (separated : Bool) where
+  -- the answer of a list of k, where there is one
+  abbrev answer : ℕ → Answer
+  answer k =
+      answerOf (onOf (planesFor (withList st k) (triangles s)) source) (orderOf st s source listener separated) (st .«speed_of_sound») (st .«sample_rate»)
+      (min k mostTaps) (pathFor (withList st k) (triangles s) (s .materials) source listener)
+
+  abbrev candidates : ℕ → List Candidate
+  candidates k =
+      found (pathFor (withList st k) (triangles s) (s .materials) source listener) 1
+      (visited (onOf (planesFor (withList st k) (triangles s)) source) (orderOf st s source listener separated))
+
+  answer-told :
+      (k c : ℕ) (lens : List ℕ) (r : Answered) → r ≡ answeredOf (traceOf (withList st k) c s lens source listener separated) → r .refusal ≡ 0 →
+      traceOf (withList st k) c s lens source listener separated ≡ given (answer k)
+  answer-told k c lens r e z =
+      given-told (onOf (planesFor (withList st k) (triangles s)) source) (orderOf st s source listener separated) (st .«speed_of_sound») (st .«sample_rate»)
+      (min k mostTaps) c (pathFor (withList st k) (triangles s) (s .materials) source listener) (firstRefusal (withList st k) c s lens)
+      (sym (ap (λ (x : Answered). x .refusal) e) ∙ z)
+
+  -- of two stations: C and the lengths of the areas may differ, where both calls give a result
+  pub prefix-stations :
+      (c c′ : ℕ) (lens lens′ : List ℕ) (short long : Answered) (out out₁ out′ out₁′ : List ℕ) (found left found′ left′ : Work) →
+      Traced (withList st a) c s lens source listener separated short out out₁ found left →
+      Traced (withList st b) c′ s lens′ source listener separated long out′ out₁′ found′ left′ →
+      short .refusal ≡ 0 → long .refusal ≡ 0 → ShortAndLong a short long out₁ out₁′
+  prefix-stations c c′ lens lens′ short long out out₁ out′ out₁′ found left found′ left′ t t′ z z′ =
+      let e = answer-told a c lens short (t .answer) z in
+      let e′ = answer-told b c′ lens′ long (t′ .answer) z′ in
+      let first = prefix-answers st a b h s source listener separated c c′ lens lens′ (answer a) (answer b) e e′ in
+      carried a (given (answer a)) (given (answer b)) short long out out₁ out′ out₁′ (t .answer ∙ ap answeredOf e) (t′ .answer ∙ ap answeredOf e′)
+      (t .output ∙ ap (λ (q : Query). outputOf q out) e) (t′ .output ∙ ap (λ (q : Query). outputOf q out′) e′)
+      (given-both a (answer a) (answer b) out out′ first (few-ranked (st .«speed_of_sound») (st .«sample_rate») (min b mostTaps) (candidates b) (omega arith)))

@@ -1,10 +1,11 @@
 -- Two calls that differ in the length of their lists alone (document 02, note 13): what two operators who compare their printouts may rely on.
-use Prim.Native.Nat.{ℕ, min}
+use Prim.Native.Nat.{ℕ, _≤_}
 use mathlib.Core.Path.{_≡_}
 use mathlib.Core.List.{List}
-use lib.ListN.{take}
+use lib.ListN.{length, take}
 use Rattle.scene.specs.declared.Settings.{Settings}
 use Rattle.ranking.specs.declared.Candidate.{Candidate}
+use Rattle.packet.specs.Limits.{mostTaps}
 use Rattle.claim.specs.Answer.{Answer}
 use Rattle.taps.specs.Tap.{packetOf}
 use Rattle.answer.specs.declared.Answered.{Answered}
@@ -27,7 +28,8 @@ withList st k =
       «distance_model» = st .«distance_model»;
     }
 
--- "the taps for a are the first a of the taps for b, or all where there are fewer, .. with equal images and rays": of two answers
+-- "the taps for a are the first a of the taps for b, or all where there are fewer, zeros of either sign alike, with equal images and rays": of two answers,
+-- and here the floats are equal, zeros with their signs
 pub record FirstOf (a : ℕ) (short long : Answer) : Type 0 where
   pub images : short .images ≡ long .images
   pub rays : short .rays ≡ long .rays
@@ -39,9 +41,10 @@ pub record ShortAndLong (a : ℕ) (short long : Answered) (short-out long-out : 
   pub refusal : short .refusal ≡ long .refusal
   pub images : short .images ≡ long .images
   pub rays : short .rays ≡ long .rays
-  -- as many taps as the long list has, a at most
-  pub count : short .count ≡ min a (long .count)
-  -- the long list's packet is that of these taps, and the short list's that of the first a of them
+  -- the taps of the long list, and of the short one the first a of them: as many are counted, and the packets are theirs
   pub taps : List Candidate
+  pub few : length taps ≤ mostTaps
+  pub long-count : long .count ≡ length taps
+  pub short-count : short .count ≡ length (take a taps)
   pub long-packet : long .refusal ≡ 0 → take (long .bytes) long-out ≡ packetOf (long .images) (long .rays) taps
   pub short-packet : short .refusal ≡ 0 → take (short .bytes) short-out ≡ packetOf (long .images) (long .rays) (take a taps)

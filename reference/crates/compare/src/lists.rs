@@ -1,13 +1,16 @@
 //! Lists of one scene at different lengths (document 02, note 13): the taps for a are the first a of the taps for b, with equal images and rays, and both
 //! calls are refused alike or neither is.
 use crate::calls;
-use crate::front;
+use crate::front::{self, Damage};
 use crate::scenes::{self, KINDS};
 use oracle::Case;
 use port::{Traced, Work, OUTPUT, TAPS};
 
 /// Lengths beyond the list's limit.
 const BEYOND: [u32; 5] = [TAPS as u32 + 1, TAPS as u32 + 2, 1024, 65_536, u32::MAX];
+
+/// The place of the columns among the areas.
+const COLUMNS: usize = 0;
 
 /// Bytes of a packet before its taps: count, images and rays.
 const HEAD: usize = 9;
@@ -33,9 +36,10 @@ fn pattern(k: usize) -> u8 {
     1 + (k % 251) as u8
 }
 
-fn call(c: &Case, room: u32, length: u32, work: &mut Work) -> Printout {
+fn call(c: &Case, room: u32, d: Damage, length: u32, work: &mut Work) -> Printout {
     let mut lent = front::lent(c);
     (lent.counts[1], lent.room) = (length, room);
+    front::cut_part(&mut lent, d);
     let mut out: Vec<u8> = (0..OUTPUT).map(pattern).collect();
     let answer = port::trace(&lent, work, &mut out, &c.source, &c.listener, c.separated);
     Printout { answer, out }
@@ -68,8 +72,8 @@ fn slipped(c: &Case, room: u32, a: u32, long: &Printout, work: &mut Work) -> Opt
     if a as usize >= long.answer.count || a == 0 {
         return None;
     }
-    let more = call(c, room, a + 1, work);
-    let one = call(c, room, 1, work);
+    let more = call(c, room, Damage::None, a + 1, work);
+    let one = call(c, room, Damage::None, 1, work);
     let mut out = more.out.clone();
     out.drain(HEAD..one.answer.bytes);
     out[0] = a as u8;
@@ -77,11 +81,15 @@ fn slipped(c: &Case, room: u32, a: u32, long: &Printout, work: &mut Work) -> Opt
     Some(Printout { answer, out })
 }
 
-fn check(c: &Case, room: u32, held: &mut Held) -> Result<(), String> {
+/// All lengths of a call, damaged or not, against each other.
+fn check(c: &Case, room: u32, d: Damage, held: &mut Held) -> Result<(), String> {
     let t = c.meshes.iter().map(|m| m.indices.len() / 3).sum::<usize>();
     let mut work = Work::new(t, room.min(250_000) as usize);
+    if let Damage::Area(i) = d {
+        work.cut(i);
+    }
     let lengths: Vec<u32> = (0..=TAPS as u32).chain(BEYOND).collect();
-    let all: Vec<Printout> = lengths.iter().map(|&a| call(c, room, a, &mut work)).collect();
+    let all: Vec<Printout> = lengths.iter().map(|&a| call(c, room, d, a, &mut work)).collect();
     let long = all.last().expect("a list");
     for (j, (&a, short)) in lengths.iter().zip(&all).enumerate() {
         // against the longest, and against the next
@@ -105,10 +113,10 @@ fn check(c: &Case, room: u32, held: &mut Held) -> Result<(), String> {
     Ok(())
 }
 
-/// A scene at several list lengths: with room for its candidates, and with room for one less.
+/// A scene at several list lengths: with room for its candidates, with room for one less, with a scene part too long and an area too short.
 fn scene(c: &Case, held: &mut Held) -> Result<(), String> {
     if oracle::refusal_before_search(c) != 0 {
-        return check(c, c.settings.room.min(250_001), held);
+        return check(c, c.settings.room.min(250_001), Damage::None, held);
     }
     let backend = oracle::built(c, false);
     if calls::too_many_images(c, backend.oracle_planes().len()) {
@@ -116,9 +124,11 @@ fn scene(c: &Case, held: &mut Held) -> Result<(), String> {
         return Ok(());
     }
     let candidates = oracle::run_built(c, &backend).candidates;
-    check(c, candidates, held)?;
+    for d in [Damage::None, Damage::Part(1, true), Damage::Area(COLUMNS)] {
+        check(c, candidates, d, held)?;
+    }
     if candidates > 0 {
-        check(c, candidates - 1, held)?;
+        check(c, candidates - 1, Damage::None, held)?;
     }
     Ok(())
 }
