@@ -1,3 +1,4 @@
 -- The laws of the query.
 pub mod Zero
 pub mod Call
+pub mod Prefix

@@ -187,6 +187,11 @@ fn images(planes: usize, order: usize) -> usize {
     (0..order).try_fold((planes, 0usize), |(level, sum), _| Some((level.checked_mul(planes.saturating_sub(1))?, sum + level))).map_or(usize::MAX, |x| x.1)
 }
 
+/// Whether a scene is left out: the Rust takes seconds.
+pub fn too_many_images(c: &Case, planes: usize) -> bool {
+    planes > FEW_PLANES && images(planes, (c.settings.order as usize).min(port::ORDER)) > MOST_IMAGES
+}
+
 /// A call that ends before the search: the refusal is known beforehand.
 fn refused(c: &Case, d: Damage, planted: Option<usize>, refusal: u32) -> Option<Result<Called, String>> {
     let (mut lent, mut called) = (front::lent(c), Called::default());
@@ -220,7 +225,7 @@ pub fn run(c: &Case, d: Damage, backend: Option<&CpuSimdComputeBackend>, planted
         return refused(c, d, planted, refusal);
     };
     let planes = backend.oracle_planes().len();
-    if planes > FEW_PLANES && images(planes, (c.settings.order as usize).min(port::ORDER)) > MOST_IMAGES {
+    if too_many_images(c, planes) {
         return planted.is_none().then(|| Ok(Called { left_out: 1, ..Called::default() }));
     }
     let (theirs, mut lent, mut called) = (oracle::run_built(c, backend), front::lent(c), Called::default());

@@ -3,6 +3,7 @@ pub mod calls;
 pub mod cases;
 pub mod differences;
 pub mod front;
+pub mod lists;
 pub mod numbers;
 pub mod paths;
 pub mod planes;

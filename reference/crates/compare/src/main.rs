@@ -1,9 +1,10 @@
 //! The port against the Rust. Stops at the first difference with what shows it and exit status 1.
-use compare::{cases, differences, numbers, ranking, record};
+use compare::{cases, differences, lists, numbers, ranking, record};
 
 const USAGE: &str = "\
   compare numbers [SEED]         floats: sqrt, abs, round on all 2^32 patterns, the others on many millions of values
   compare scenes [COUNT [SEED]]  generated scenes, 2,000 unless said: refusals, triangles, areas, tree, hits, planes, single paths, searches, whole calls
+  compare lists [COUNT [SEED]]   lists of generated scenes, 2,000 unless said, at all lengths from 0 to 64 and beyond, each against the longer ones
   compare ranking [COUNT [SEED]] generated lists of candidates, 2,000 unless said: which are kept, and their order
   compare file FILE ..           the cases of files (FORMAT.md)
   compare differences            the smallest input of each intended difference, against the table of docs/DIFFERENCES.md
@@ -17,6 +18,7 @@ fn main() {
     match words[..] {
         ["numbers", ref rest @ ..] => numbers::run(number(rest.first(), 1)),
         ["scenes", ref rest @ ..] => cases::generated(number(rest.first(), 2000), number(rest.get(1), 1)),
+        ["lists", ref rest @ ..] => lists::run(number(rest.first(), 2000), number(rest.get(1), 1)),
         ["ranking", ref rest @ ..] => ranking::run(number(rest.first(), 2000), number(rest.get(1), 1)),
         ["file", ref names @ ..] if !names.is_empty() => cases::files(names),
         ["differences"] => differences::run(),
