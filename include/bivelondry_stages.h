@@ -48,6 +48,15 @@ uint32_t biv_load_scene(const uint32_t *counts, size_t counts_len, const float *
                         const size_t *lens, size_t lens_len,
                         float *columns, size_t columns_len, uint32_t *handles, size_t handles_len, size_t *found, size_t found_len);
 
+/* placing/specs/TwoPasses.antt. The pass over the triples alone, of parts that fit each other: meshes has three words a mesh (vertices, indices,
+ * handle), transforms 16 floats a mesh, positions three floats a vertex, indices the indices; n are the whole triples, at most 4,096. Answers 6 where a
+ * placed corner is not finite or exceeds 10,000, and then leaves columns and handles zero; else 0. found[0] gets the triangles kept and found[1] the
+ * placings made, three for each triple in range up to and with the first that is too far, in both cases. columns has 23 n floats or more, handles n words, found 2. The
+ * caller keeps all this. */
+uint32_t biv_triangles_from_scene(const uint32_t *meshes, size_t meshes_len, const float *transforms, size_t transforms_len,
+                                  const float *positions, size_t positions_len, const uint32_t *indices, size_t indices_len, size_t n,
+                                  float *columns, size_t columns_len, uint32_t *handles, size_t handles_len, size_t *found, size_t found_len);
+
 /* ---- the tree */
 
 /* bvh/specs/Bvh.antt. The tree over the first perm_len triangles of columns of n floats (what biv_load_scene left); 0 < perm_len <= n and

@@ -6,6 +6,8 @@ use Rattle.float.specs.Literals.{zero32, one32}
 use Rattle.vector.specs.declared.Vec3.{Vec3}
 use Rattle.vector.specs.Vector.{vec, sub3Of, cross3Of, length3Of, tiny}
 use Rattle.geometry.specs.declared.Triangle.{Triangle}
+use Rattle.geometry.specs.declared.Shape.{Shape}
+use Rattle.geometry.specs.declared.Shape.the-variants.{Degenerate, Proper}
 
 abbrev pub half : Float
 half = ofBits binary32 0x3f00_0000
@@ -30,6 +32,10 @@ normalOf n =
 -- `Triangle::new`
 unfoldable pub triangleOf : Vec3 → Vec3 → Vec3 → ℕ → Triangle
 triangleOf p q r h = record { a = p; b = q; c = r; normal = normalOf (crossOf p q r); «material_handle» = h }
+
+-- three corners: degenerate, or a triangle
+abbrev pub shapeOf : Vec3 → Vec3 → Vec3 → ℕ → Shape
+shapeOf p q r h = cond (isDegenerateOf p q r) Degenerate (Proper (triangleOf p q r h))
 
 -- `triangle_area`
 unfoldable pub triangleAreaOf : Triangle → Float

@@ -5,7 +5,7 @@ use vector::Vec3;
 ghost use mathlib.Core.Path.{_≡_};
 ghost use Rattle.geometry.specs.Aabb.{lowOf, highOf, newEmptyOf, unionOf, growOf, fromPointOf, fromCornersOf, extentOf, surfaceAreaOf};
 ghost use Rattle.geometry.specs.Slab.{padOf, paddedOf, narrowOf, axisOf, slabOf, intersectTOf};
-ghost use Rattle.geometry.specs.Triangle.{crossOf, isDegenerateOf, normalOf, triangleOf, triangleAreaOf, thirdOf, centroidOf};
+ghost use Rattle.geometry.specs.Triangle.{crossOf, shapeOf, triangleAreaOf, thirdOf, centroidOf};
 ghost use Rattle.geometry.specs.Intersect.{edgesOf, parallelOf, outsideOf, withinOf, solveOf, crossingOf, intersectMaxOf};
 ghost use Rattle.geometry.specs.Contains.{dotsOf, insideOf, containsOf, containsPointOf};
 
@@ -23,6 +23,12 @@ pub struct Triangle {
     pub c: Vec3,
     pub normal: Vec3,
     pub material_handle: u32,
+}
+
+// Three corners: next to no area, which has no normal and cannot be hit, or a triangle.
+pub enum Shape {
+    Degenerate,
+    Proper(Triangle),
 }
 
 // What the test of a ray needs of a triangle beside its first corner: the edges from that corner, and the least determinant of a ray
@@ -245,43 +251,26 @@ fn cross(a: Vec3, b: Vec3, c: Vec3) -> Vec3
     vector::cross3(vector::sub3(b, a), vector::sub3(c, a))
 }
 
-// True for a triangle of next to no area: it has no normal and cannot be hit.
-pub fn is_degenerate(a: Vec3, b: Vec3, c: Vec3) -> bool
-    ensures { λ r. ⌜ r ≡ isDegenerateOf a b c ⌝ }
+// `Triangle::is_degenerate` and `Triangle::new` in one, since both take the root of the same product.
+pub fn triangle_of(a: Vec3, b: Vec3, c: Vec3, material_handle: u32) -> Shape
+    ensures { λ r. ⌜ r ≡ shapeOf a b c «material_handle» ⌝ }
 {
     let n = cross(a, b, c);
-    !(vector::length3(n) > 1e-12)
-}
-
-fn normal(n: Vec3) -> Vec3
-    ensures { λ r. ⌜ r ≡ normalOf n ⌝ }
-{
     let len = vector::length3(n);
     if len > 1e-12 {
-        return Vec3 {
-            x: n.x / len,
-            y: n.y / len,
-            z: n.z / len,
-        };
+        return Shape::Proper(Triangle {
+            a,
+            b,
+            c,
+            normal: Vec3 {
+                x: n.x / len,
+                y: n.y / len,
+                z: n.z / len,
+            },
+            material_handle,
+        });
     }
-    Vec3 {
-        x: 0.0,
-        y: 1.0,
-        z: 0.0,
-    }
-}
-
-// The Rust's `Triangle::new`.
-pub fn triangle_of(a: Vec3, b: Vec3, c: Vec3, material_handle: u32) -> Triangle
-    ensures { λ r. ⌜ r ≡ triangleOf a b c «material_handle» ⌝ }
-{
-    Triangle {
-        a,
-        b,
-        c,
-        normal: normal(cross(a, b, c)),
-        material_handle,
-    }
+    Shape::Degenerate
 }
 
 pub fn triangle_area(t: Triangle) -> f32

@@ -1,7 +1,7 @@
 -- The floor of document 01's case A, computed: its triangles, what is skipped, placings, and corners at 10,000 and just above.
 use mathlib.Core.Path.{_≡_, refl}
 use mathlib.Core.Bool.{Bool, true, false}
-use mathlib.Core.List.{List, [], _∷_}
+use mathlib.Core.List.{List, [], _∷_, _++_}
 use Prim.Native.Nat.{ℕ}
 use lib.Ieee.{Float, nan, binary32, add, sub, mul, div, neg, lt, le, eq, ofBits, round}
 use lib.ListN.{length, getD}
@@ -14,6 +14,7 @@ use Rattle.geometry.specs.declared.Triangle.{Triangle}
 use Rattle.geometry.specs.Triangle.{crossOf, isDegenerateOf, normalOf, triangleOf}
 use Rattle.scene.specs.Scene.{Scene, scene, headers, cut}
 use Rattle.placing.specs.Corners.{triples, cornerOf, cornersIn, cornersOf, cornersAll, corners, triangles, trianglesOf, farOf, farCorner, farCorners, anyFar, upToFar, refusal6, placings}
+use Rattle.placing.specs.TwoPasses.{meshTriples, sceneTriples, testPass, placingsFor}
 
 abbrev f : ℕ → Float
 f b = ofBits binary32 b
@@ -60,3 +61,15 @@ over = refl
 first-stops : placings (moved 0x461c_3400) ≡ 3
 unfolding headers cut triples cornersIn cornersOf cornersAll cornerOf transformPointOf rowOf upToFar farCorners farCorner farOf isFinite absOf ofBits add sub mul lt le eq neg
 first-stops = refl
+
+-- a near triple, one with an index out of range, one with a far corner, a near one: the testing pass refuses, and six corners were placed
+abbrev late : Scene
+late = scene (5 ∷ 12 ∷ 0 ∷ []) identity (points ++ f 0x461c_4400 ∷ f 0 ∷ f 0 ∷ []) (0 ∷ 1 ∷ 2 ∷ 0 ∷ 1 ∷ 9 ∷ 0 ∷ 1 ∷ 4 ∷ 0 ∷ 2 ∷ 3 ∷ []) [] 1
+
+late-refused : testPass (sceneTriples late) ≡ true
+unfolding headers cut triples meshTriples testPass cornerOf transformPointOf rowOf farCorners farCorner farOf isFinite absOf ofBits add sub mul lt le eq neg
+late-refused = refl
+
+late-placings : placingsFor (sceneTriples late) ≡ 6
+unfolding headers cut triples meshTriples placingsFor cornerOf transformPointOf rowOf farCorners farCorner farOf isFinite absOf ofBits add sub mul lt le eq neg
+late-placings = refl

@@ -12,12 +12,34 @@ use lib.Seq.{drop-cons, drop-drop, length-take-le}
 use Rattle.scene.specs.Scene.{Header, headers, vertexSum, indexSum, tripleSum, cut}
 use Rattle.scene.proofs.Cuts.{header-at, no-header, drop-one, vertex-step, index-step, triple-step}
 use Rattle.geometry.specs.Triangle.{isDegenerateOf}
+use Rattle.geometry.specs.declared.Triangle.{Triangle}
+use Rattle.geometry.specs.declared.Shape.{Shape}
+use Rattle.geometry.specs.declared.Shape.the-variants.{Degenerate, Proper}
 use Rattle.placing.specs.Corners.{Triple, triple, triples, wholeTriples, Corners, farIn, cornersIn, cornersOf, cornersAll, anyFar, trianglesOf, upToFar}
-use Rattle.placing.specs.Passing.{World, world, state, stepOf, run}
+use Rattle.placing.specs.Passing.{World, world, state, placing, stepOf, run}
 use Rattle.placing.specs.declared.State.{State}
+use Rattle.placing.specs.declared.Placing.{Placing}
+use Rattle.vector.specs.declared.Vec3.{Vec3}
 
 cond-is : {A : Type 0} (b : Bool) (x y : A) → b ≡ true → cond b x y ≡ x
 cond-is b x y e = rw (e)
+
+-- the point of a corner placed
+pub point-of : (r : Placing) (p : Vec3) (k : ℕ) → r ≡ placing p k → r .point ≡ p
+point-of r p k e = ap (λ (x : Placing). x .point) e
+
+-- what an answer of `triangle_of` says of the corners
+pub record Proper-as (b : Bool) (t u : Triangle) : Type 0 where
+  pub proper : b ≡ false
+  pub same : u ≡ t
+
+pub told-degenerate : (b : Bool) (t : Triangle) (r : Shape) → r ≡ cond b Degenerate (Proper t) → r ≡ Degenerate → b ≡ true
+told-degenerate true t r e f = refl
+told-degenerate false t r e f = absurd (let z : _≡_ {A = ℕ} 0 1 = cc in omega arith)
+
+pub told-proper : (b : Bool) (t u : Triangle) (r : Shape) → r ≡ cond b Degenerate (Proper t) → r ≡ Proper u → Proper-as b t u
+told-proper true t u r e f = absurd (let z : _≡_ {A = ℕ} 0 1 = cc in omega arith)
+told-proper false t u r e f = record { proper = refl; same = cc }
 
 pub run-none : (n : ℕ) (w : World) → run n w [] ≡ w
 unfolding run

@@ -2,3 +2,4 @@
 pub mod Corners
 pub mod Passing
 pub mod Loading
+pub mod TwoPasses

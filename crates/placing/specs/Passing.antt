@@ -8,7 +8,9 @@ use mathlib.Core.List.{List, [], _∷_}
 use Rattle.geometry.specs.declared.Triangle.{Triangle}
 use Rattle.geometry.specs.Triangle.{isDegenerateOf, triangleOf}
 use Rattle.scene.specs.Scene.{headers, vertexSum, indexSum, tripleSum}
+use Rattle.vector.specs.declared.Vec3.{Vec3}
 use Rattle.placing.specs.declared.State.{State}
+use Rattle.placing.specs.declared.Placing.{Placing}
 use Rattle.placing.specs.declared.Placed.{Placed}
 use Rattle.placing.specs.declared.Placed.the-variants.{Far, Kept}
 use Rattle.placing.specs.Corners.{Corners, farIn, anyFar, trianglesOf, upToFar}
@@ -28,6 +30,10 @@ world cs hs st = record { columns = cs; handles = hs; state = st }
 
 abbrev pub state : ℕ → ℕ → Bool → State
 state k p f = record { kept = k; placings = p; far = f }
+
+-- a corner placed, and the placings made up to and with it
+abbrev pub placing : Vec3 → ℕ → Placing
+placing p k = record { point = p; made = k }
 
 -- triangles, and their handles, stored from place i on
 unfoldable pub putAll : List Float → ℕ → ℕ → List Triangle → List Float

@@ -1,5 +1,6 @@
 // `triangles_from_scene`: one pass over the triples of a scene. Each corner of a triple whose indices are in range is placed and tested
 // (refusal 6), and the triangles that are not degenerate are kept in columns. Placings are counted.
+use geometry::Shape;
 use scene::Checked;
 use scene::Settings;
 use vector::Vec3;
@@ -12,7 +13,7 @@ ghost use Rattle.placing.specs.Corners.{farOf, farCorner, farCorners, co
 ghost use Rattle.columns.specs.Columns.{columnCount};
 ghost use Rattle.scene.specs.Limits.{mostTriples};
 ghost use Rattle.placing.specs.Loading.{firstRefusal, Loading};
-ghost use Rattle.placing.specs.Passing.{world, state, stepOf, run, Room, Did, Fits, Passed};
+ghost use Rattle.placing.specs.Passing.{world, state, placing, stepOf, run, Room, Did, Fits, Passed};
 
 const FARTHEST: f32 = 10000.0;
 
@@ -21,6 +22,12 @@ pub struct State {
     pub kept: usize,
     pub placings: usize,
     pub far: bool,
+}
+
+// A corner placed, and the placings made up to and with it.
+struct Placing {
+    point: Vec3,
+    made: usize,
 }
 
 // Refusal 6 with the placings made, or how many triangles were kept and placings made.
@@ -68,55 +75,61 @@ fn far_corners(a: Vec3, b: Vec3, c: Vec3) -> bool
     far_corner(c)
 }
 
-// Vertex i, placed.
-fn corner(positions: &[f32], transform: &[f32], i: usize) -> Vec3
+// Vertex i, placed. Each placing counts itself, so that no corner is had without its count.
+fn corner(positions: &[f32], transform: &[f32], i: usize, made: usize) -> Placing
     requires { ⌜ 3 * i + 2 < length (now positions) ⌝ }
     requires { ⌜ 16 ≤ length (now transform) ⌝ }
-    ensures { λ r. ⌜ r ≡ cornerOf (now (positions .entry)) (now (transform .entry)) i ⌝ }
+    requires { ⌜ made < 4294967296 ⌝ }
+    ensures { λ r. ⌜ r ≡ placing (cornerOf (now (positions .entry)) (now (transform .entry)) i) (made + 1) ⌝ }
 {
     let p = Vec3 {
         x: positions[3 * i],
         y: positions[3 * i + 1],
         z: positions[3 * i + 2],
     };
-    vector::transform_point4x4(p, transform, 0)
+    Placing {
+        point: vector::transform_point4x4(p, transform, 0),
+        made: made + 1,
+    }
 }
 
-// One step of the pass, the corners placed and none far before them.
+// One step of the pass, the corners placed and none far before them; `made` are the placings with these three.
 fn keep(
     a: Vec3,
     b: Vec3,
     c: Vec3,
     handle: u32,
     n: usize,
+    made: usize,
     st: State,
     columns: &mut [f32],
     handles: &mut [u32],
 ) -> State
     requires { ⌜ Room n 1 (world (now columns) (now handles) st) ⌝ }
     requires { ⌜ st .far ≡ false ⌝ }
+    requires { ⌜ made ≡ st .placings + 3 ⌝ }
     ensures { λ r. ⌜ Did 1 (world (now (columns .entry)) (now (handles .entry)) st) (world (now (columns .exit)) (now (handles .exit)) r) (stepOf n (world (now (columns .entry)) (now (handles .entry)) st) (corners3 a b c handle)) ⌝ }
 {
     if far_corners(a, b, c) {
         return State {
             kept: st.kept,
-            placings: st.placings + 3,
+            placings: made,
             far: true,
         };
     }
-    if geometry::is_degenerate(a, b, c) {
+    let Shape::Proper(t) = geometry::triangle_of(a, b, c, handle) else {
         return State {
             kept: st.kept,
-            placings: st.placings + 3,
+            placings: made,
             far: false,
         };
-    }
+    };
     let i = st.kept;
-    columns::put_triangle(columns, n, i, geometry::triangle_of(a, b, c, handle));
+    columns::put_triangle(columns, n, i, t);
     handles[i] = handle;
     State {
         kept: i + 1,
-        placings: st.placings + 3,
+        placings: made,
         far: false,
     }
 }
@@ -152,10 +165,20 @@ fn place_triple(
     if i < vertices {
         if j < vertices {
             if k < vertices {
-                let a = corner(positions, transform, i);
-                let b = corner(positions, transform, j);
-                let c = corner(positions, transform, k);
-                return keep(a, b, c, handle, n, st, columns, handles);
+                let a = corner(positions, transform, i, st.placings);
+                let b = corner(positions, transform, j, a.made);
+                let c = corner(positions, transform, k, b.made);
+                return keep(
+                    a.point,
+                    b.point,
+                    c.point,
+                    handle,
+                    n,
+                    c.made,
+                    st,
+                    columns,
+                    handles,
+                );
             }
         }
     }

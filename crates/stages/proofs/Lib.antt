@@ -2,3 +2,4 @@
 mod Loaded
 mod Courses
 mod Three
+pub mod Passing

@@ -4,7 +4,7 @@ use native.Mathlib.Omega.{arith}
 use borrow.Author.Tests.{lt-ltb, le-ltb}
 use borrow.Author.Needs.{needs}
 use Rattle.placing.specs.Corners.{cornersIn}
-use Rattle.placing.proofs.Passes.{run-none, run-one, run-far}
+use Rattle.placing.proofs.Passes.{point-of, run-none, run-one, run-far}
 use Rattle.placing.proofs.place_triple.Statement.{statement}
 use Rattle.placing.proofs.place_triple.Tie as tie
 
@@ -14,10 +14,18 @@ place-triple-spec =
     tie.close
     (tie.spec
     (λ c. record { made = sym (run-far _ _ _ (c .if1 .taken)); kept = omega arith; placed = omega arith })
-    (λ c κs. omega arith)
-    (λ c κs. omega arith)
-    (λ c κs. omega arith)
-    (λ c κs. (omega arith, c .before .before .before .before .before .before .before .before .if1 .left))
+    (λ c κs. let room = c .before .before .before .before .before .before .before .before .pre .1 .1 in omega arith)
+    (λ c κs. let room = c .before .before .before .before .before .before .before .before .before .pre .1 .1 in (omega arith, (omega arith, rw (c .corner .ensures) (omega arith))))
+    (λ c κs.
+    let room = c .before .before .before .before .before .before .before .before .before .before .pre .1 .1 in
+    (omega arith, (omega arith, rw (c .corner2 .ensures, c .before .corner .ensures) (omega arith))))
+    (λ c κs.
+    let three = c .before .before in
+    let two = three .before in
+    let one = two .before in
+    let none = one .before .before .before .before in
+    let room = none .before .before .before .before .before .pre .1 .1 in
+    (room, (none .if1 .left, rw (three .corner3 .ensures, two .corner2 .ensures, one .corner .ensures) (omega arith))))
     (λ c. search needs)
     (λ c. search needs)
     (λ c.
@@ -33,9 +41,9 @@ place-triple-spec =
             lt-ltb _ _ (at-if4 .before .before .if2 .taken),
             lt-ltb _ _ (at-if4 .before .if3 .taken),
             lt-ltb _ _ (at-if4 .if4 .taken),
-            ← one .corner .ensures,
-            ← two .corner2 .ensures,
-            ← three .corner3 .ensures,
+            ← point-of _ _ _ (one .corner .ensures),
+            ← point-of _ _ _ (two .corner2 .ensures),
+            ← point-of _ _ _ (three .corner3 .ensures),
           )
           (done .made ∙ sym (run-one _ _ _));
       kept = done .kept;

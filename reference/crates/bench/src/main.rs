@@ -112,16 +112,30 @@ fn soup(n: usize) -> Case {
     Case { name: format!("soup-{n}"), settings: Settings { room: 0, ..Settings::default() }, materials: vec![row], meshes: vec![m], source: [0.0; 3], listener: [1.0; 3], separated: false }
 }
 
+/// Triples over so many points: each has points of its own, or they share a few.
+fn listed(triples: usize, points: usize) -> Case {
+    let mut c = soup(points.div_ceil(3));
+    let (m, mut r) = (&mut c.meshes[0], Random::new(21));
+    m.positions.truncate(points);
+    if points < 3 * triples {
+        m.indices = (0..triples).flat_map(|_| { let k = r.below(points); let step = 1 + r.below(points / 2 - 1); [k, (k + step) % points, (k + 2 * step) % points] }).map(|i| i as u32).collect();
+    }
+    c
+}
+
+/// Scenes with few and with many points, from settings to triangles, and the pass over the triples alone.
 fn fronts() {
-    for n in [12, 500, 4096] {
-        let c = soup(n);
+    for (n, points) in [(12, 36), (500, 1500), (4000, 12_000), (4096, 12_288), (4096, 100)] {
+        let c = listed(n, points);
         let l = lent(&c);
         let mut a = areas(n, 0);
-        assert!(matches!(port::load_scene(&l, &mut a), Loaded::Triangles { .. }));
         let backend = oracle::unbuilt(&c, false, &oracle::Overrides::default());
+        assert!(matches!(port::load_scene(&l, &mut a), Loaded::Triangles { kept, .. } if kept == backend.oracle_place()));
         let sets = (8192 / n).max(1);
         let (p, q) = both(|| (), |_| (0..sets).for_each(|_| { black_box(port::load_scene(&l, &mut a)); }), |_| (0..sets).for_each(|_| { black_box(backend.oracle_place()); }));
-        line(&format!("load_scene against triangles_from_scene, {n}"), p / sets as f64, q / sets as f64);
+        line(&format!("load_scene, {n} triples over {points} points"), p / sets as f64, q / sets as f64);
+        let (p, q) = both(|| (), |_| (0..sets).for_each(|_| { black_box(port::triangles_from_scene(&l, &mut a)); }), |_| (0..sets).for_each(|_| { black_box(backend.oracle_place()); }));
+        line(&format!("triangles_from_scene, {n} over {points}"), p / sets as f64, q / sets as f64);
     }
 }
 

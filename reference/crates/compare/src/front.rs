@@ -132,9 +132,9 @@ fn difference(c: &Case, d: Damage, found: &Areas, left: &Left) -> Option<String>
     let Loaded::Triangles { kept, placings, triples } = left.answer else {
         return Some(format!("the port answers {:?}, the Rust {} triangles", left.answer, tris.len()));
     };
-    let placed: usize = c.meshes.iter().map(|m| m.indices.chunks_exact(3).filter(|t| t.iter().all(|&i| (i as usize) < m.positions.len())).count() * 3).sum();
-    if (kept, placings, triples) != (tris.len(), placed, n) {
-        return Some(format!("triangles, placings and triples are {:?}, not {:?}", (kept, placings, triples), (tris.len(), placed, n)));
+    let made = oracle::placings(c).made;
+    if (kept, placings, triples) != (tris.len(), made, n) {
+        return Some(format!("triangles, placings and triples are {:?}, not {:?}", (kept, placings, triples), (tris.len(), made, n)));
     }
     let mut floats = found.columns.clone();
     let mut words = found.handles.clone();
@@ -163,8 +163,21 @@ fn row(a: [f32; 3], b: [f32; 3], c: [f32; 3], normal: [f32; 3]) -> Vec<f32> {
     [a, b, c, normal, e1, e2].into_iter().flatten().chain([1e-9 * scale, d00, d01, d11, d00 * d11 - d01 * d01]).collect()
 }
 
-/// Planted slips: the port's answer changed as a fault would.
-pub const SLIPS: usize = 6;
+/// The pass alone, where no setting is in its way: its refusal and its placings, also where a corner is too far.
+fn pass_differs(c: &Case, planted: Option<usize>) -> Option<String> {
+    let (expected, mut a) = (oracle::placings(c), areas(triples(c), 0));
+    let mut placed = port::triangles_from_scene(&lent(c), &mut a)?;
+    if planted == Some(PLACED_ON) {
+        placed.placings += 3;
+    }
+    let kept = if expected.far { 0 } else { oracle::built(c, false).oracle_triangles().len() };
+    let theirs = port::Placed { far: expected.far, kept, placings: expected.made };
+    (placed != theirs).then(|| format!("the pass answers {placed:?}, not {theirs:?}"))
+}
+
+/// Planted slips: the port's answer changed as a fault would. The last is a pass that goes on after a far corner.
+pub const SLIPS: usize = 7;
+const PLACED_ON: usize = 6;
 
 fn slip(left: &mut Left, kind: usize) -> bool {
     let a = &mut left.areas;
@@ -179,6 +192,7 @@ fn slip(left: &mut Left, kind: usize) -> bool {
             if a.columns[x].to_bits() == a.columns[y].to_bits() { return false; }
             a.columns.swap(x, y) // first x of the first and the second corner
         }
+        (PLACED_ON, Loaded::Refused(6)) => {}
         _ => return false,
     }
     true
@@ -198,7 +212,8 @@ pub fn run(c: &Case, d: Damage, planted: Option<usize>) -> Option<Result<Left, S
             return None;
         }
     }
-    Some(match difference(c, d, &found, &left) {
+    let pass = if d == Damage::None { pass_differs(c, planted) } else { None };
+    Some(match difference(c, d, &found, &left).or(pass) {
         None => Ok(left),
         Some(words) => Err(words),
     })

@@ -27,6 +27,12 @@ mod ffi {
             columns: *mut f32, columns_len: usize, handles: *mut u32, handles_len: usize, found: *mut usize, found_len: usize,
         ) -> u32;
         #[rustfmt::skip]
+        pub fn biv_triangles_from_scene(
+            meshes: *const u32, meshes_len: usize, transforms: *const f32, transforms_len: usize,
+            positions: *const f32, positions_len: usize, indices: *const u32, indices_len: usize, n: usize,
+            columns: *mut f32, columns_len: usize, handles: *mut u32, handles_len: usize, found: *mut usize, found_len: usize,
+        ) -> u32;
+        #[rustfmt::skip]
         pub fn biv_build_flat_bvh(
             columns: *const f32, columns_len: usize, handles: *const u32, handles_len: usize, n: usize, extents: *mut f32, extents_len: usize,
             keys: *mut u64, keys_len: usize, perm: *mut u32, perm_len: usize, words: *mut u64, words_len: usize,
@@ -251,6 +257,9 @@ pub const CANDIDATE_FLOATS: usize = 13;
 pub const CANDIDATE_WORDS: usize = 2;
 pub const OUTPUT: usize = 3465;
 
+/// Whole triples of a scene, at most.
+pub const MOST_TRIPLES: usize = 4096;
+
 /// What `load_scene` answers.
 #[derive(Clone, Copy, Debug, PartialEq, Eq)]
 pub enum Loaded {
@@ -278,6 +287,36 @@ pub fn load_scene(l: &Lent, a: &mut Areas) -> Loaded {
         0 => Loaded::Triangles { kept: found[0], placings: found[1], triples: found[2] },
         k => Loaded::Refused(k),
     }
+}
+
+/// What the pass over the triples answers: whether a corner was too far, the triangles kept and the placings made.
+#[derive(Clone, Copy, Debug, PartialEq, Eq)]
+pub struct Placed {
+    pub far: bool,
+    pub kept: usize,
+    pub placings: usize,
+}
+
+/// `triangles_from_scene`, the pass alone. None where the parts do not fit each other or the areas, or where there are too many triples.
+pub fn triangles_from_scene(l: &Lent, a: &mut Areas) -> Option<Placed> {
+    let counts = || l.meshes.chunks_exact(3).map(|m| (m[0] as usize, m[1] as usize));
+    let (meshes, n) = (l.meshes.len() / 3, counts().map(|(_, k)| k / 3).sum::<usize>());
+    let fits = l.meshes.len() == 3 * meshes && l.transforms.len() == 16 * meshes
+        && l.positions.len() == 3 * counts().map(|(v, _)| v).sum::<usize>() && l.indices.len() == counts().map(|(_, k)| k).sum::<usize>();
+    if !fits || n > MOST_TRIPLES || a.columns.len() < COLUMNS * n || a.handles.len() < n {
+        return None;
+    }
+    let mut found = [0usize; 2];
+    // SAFETY: each pointer goes with its own length, the `&mut` areas are distinct, and what the function asks was just tested.
+    #[rustfmt::skip]
+    let refusal = unsafe {
+        ffi::biv_triangles_from_scene(
+            l.meshes.as_ptr(), l.meshes.len(), l.transforms.as_ptr(), l.transforms.len(),
+            l.positions.as_ptr(), l.positions.len(), l.indices.as_ptr(), l.indices.len(), n,
+            a.columns.as_mut_ptr(), a.columns.len(), a.handles.as_mut_ptr(), a.handles.len(), found.as_mut_ptr(), found.len(),
+        )
+    };
+    Some(Placed { far: refusal == 6, kept: found[0], placings: found[1] })
 }
 
 /// The tree over the first `m` triangles of columns, with the areas it was built in.
