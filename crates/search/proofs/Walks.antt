@@ -273,35 +273,31 @@ module _ (S : Scene) (q : Task) where
         (sound-visit (d + 1) seq₁ images₁ t (withNodes t (t .nodes + 1)) fs fs ws ws v k) (omega (arith, last)) in
         record { ran = w .ran; stays = refl; sound = sound-count d (t .nodes + 1) seq images t (omega arith) (r .sound) }
 
-    pub skips-none : (p n : ℕ) → Skips S q d seq images p n p n
-    skips-none p n = record {
-      walked =
-          λ s₀ fs₀ ws₀ t fs ws r last e w.
-          subst (λ (m : ℕ). Walked S q d (upto (at on more (take d (s₀ .seq))) p) s₀ fs₀ ws₀ (state seq images (withNodes t m)) fs ws) e w;
-    }
+    pub skips-none : (p : ℕ) (t : Tally) → Skips S q d seq images p t p t
+    skips-none p t = record { walked = λ s₀ fs₀ ws₀ fs ws r last w. w }
 
     skips-step :
-        (p n p₁ n₁ n₂ : ℕ) → Skips S q d seq images p n p₁ n₁ →
-        ((t : Tally) (fs : List Float) (ws : List ℕ) → Ready S q d (state seq images (withNodes t n₁)) fs ws → d + 1 ≡ q .order →
-        Walked S q d (at on more (take d seq) p₁) (state seq images (withNodes t n₁)) fs ws (state seq images (withNodes t n₂)) fs ws) →
-        Skips S q d seq images p n (p₁ + 1) n₂
-    skips-step p n p₁ n₁ n₂ k one = record {
+        (p : ℕ) (t : Tally) (p₁ : ℕ) (t₁ t₂ : Tally) → Skips S q d seq images p t p₁ t₁ →
+        ((fs : List Float) (ws : List ℕ) → Ready S q d (state seq images t₁) fs ws → d + 1 ≡ q .order →
+        Walked S q d (at on more (take d seq) p₁) (state seq images t₁) fs ws (state seq images t₂) fs ws) →
+        Skips S q d seq images p t (p₁ + 1) t₂
+    skips-step p t p₁ t₁ t₂ k one = record {
       walked =
-          λ s₀ fs₀ ws₀ t fs ws r last e w.
-          let v : Walked S q d (upto (at on more (take d (s₀ .seq))) p₁) s₀ fs₀ ws₀ (state seq images (withNodes t n₁)) fs ws = k .walked s₀ fs₀ ws₀ t fs ws r last e w in
+          λ s₀ fs₀ ws₀ fs ws r last w.
+          let v : Walked S q d (upto (at on more (take d (s₀ .seq))) p₁) s₀ fs₀ ws₀ (state seq images t₁) fs ws = k .walked s₀ fs₀ ws₀ fs ws r last w in
           walked-more d more p₁ v
-          (one t fs ws (ready-same d d (state seq images t) (state seq images (withNodes t n₁)) fs fs ws ws r (r .deep) refl refl (v .sound)) last);
+          (one fs ws (ready-same d d (state seq images t) (state seq images t₁) fs fs ws ws r (r .deep) refl refl (v .sound)) last);
     }
 
-    module _ (p n p₁ n₁ : ℕ) (k : Skips S q d seq images p n p₁ n₁) where
-      pub skips-full : q .limit ≤ n₁ → Skips S q d seq images p n (p₁ + 1) n₁
-      skips-full h = skips-step p n p₁ n₁ n₁ k (λ t fs ws r last. walked-full d (at on more (take d seq) p₁) (state seq images (withNodes t n₁)) fs ws h (r .sound))
+    module _ (p : ℕ) (t : Tally) (p₁ : ℕ) (t₁ : Tally) (k : Skips S q d seq images p t p₁ t₁) where
+      pub skips-full : q .limit ≤ t₁ .nodes → Skips S q d seq images p t (p₁ + 1) t₁
+      skips-full h = skips-step p t p₁ t₁ t₁ k (λ fs ws r last. walked-full d (at on more (take d seq) p₁) (state seq images t₁) fs ws h (r .sound))
 
-      pub skips-not : may on (take d seq) p₁ ≡ false → Skips S q d seq images p n (p₁ + 1) n₁
-      skips-not e = skips-step p n p₁ n₁ n₁ k (λ t fs ws r last. walked-not d more p₁ (state seq images (withNodes t n₁)) fs ws e (r .sound))
+      pub skips-not : may on (take d seq) p₁ ≡ false → Skips S q d seq images p t (p₁ + 1) t₁
+      skips-not e = skips-step p t p₁ t₁ t₁ k (λ fs ws r last. walked-not d more p₁ (state seq images t₁) fs ws e (r .sound))
 
       pub skips-far :
-          p₁ < q .count → n₁ < q .limit → may on (take d seq) p₁ ≡ true →
+          p₁ < q .count → t₁ .nodes < q .limit → may on (take d seq) p₁ ≡ true →
           lt (q .beyond) (squareOf (q .listener) (mirrorOf (planeAt (planesOf S q) p₁) (pointIn images d))) ≡ true →
-          Skips S q d seq images p n (p₁ + 1) (n₁ + 1)
-      skips-far l room ok far = skips-step p n p₁ n₁ (n₁ + 1) k (λ t fs ws r last. walked-far p₁ (withNodes t n₁) fs ws r last l room ok far)
+          Skips S q d seq images p t (p₁ + 1) (withNodes t₁ (t₁ .nodes + 1))
+      skips-far l room ok far = skips-step p t p₁ t₁ (withNodes t₁ (t₁ .nodes + 1)) k (λ fs ws r last. walked-far p₁ t₁ fs ws r last l room ok far)

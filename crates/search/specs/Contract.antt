@@ -153,39 +153,43 @@ pub record Walked (S : Scene) (q : Task) (depth : ℕ) (qs : List (List ℕ)) (s
   pub stays : take depth (r .seq) ≡ take depth (s .seq)
   pub sound : Sound S q depth r
 
+-- one image more: the rays of its path, and after it the candidates held and the flag
+abbrev pub countedOf : Tally → ℕ → ℕ → ℕ → Tally
+countedOf t rays found over = record { nodes = t .nodes + 1; rays = t .rays + rays; found = found; over = over }
+
 -- a tally with so many images
 abbrev pub withNodes : Tally → ℕ → Tally
 withNodes t n = record { nodes = n; rays = t .rays; found = t .found; over = t .over }
 
--- at the last place, whatever was run over before: the planes from p up to p′ come to no more than that n images are n′
-pub record Skips (S : Scene) (q : Task) (depth : ℕ) (seq : List ℕ) (images : List Float) (p n p′ n′ : ℕ) : Type 0 where
+-- at the last place, whatever was run over before: the planes from p up to p′ come to no more than that the tally t is t′
+pub record Skips (S : Scene) (q : Task) (depth : ℕ) (seq : List ℕ) (images : List Float) (p : ℕ) (t : Tally) (p′ : ℕ) (t′ : Tally) : Type 0 where
   pub walked :
-      (s₀ : State) (fs₀ : List Float) (ws₀ : List ℕ) (t : Tally) (fs : List Float) (ws : List ℕ) → Ready S q depth (state seq images t) fs ws →
-      depth + 1 ≡ q .order → t .nodes ≡ n →
+      (s₀ : State) (fs₀ : List Float) (ws₀ : List ℕ) (fs : List Float) (ws : List ℕ) → Ready S q depth (state seq images t) fs ws →
+      depth + 1 ≡ q .order →
       Walked S q depth (upto (at (firstsOf S q) (q .order - (depth + 1)) (take depth (s₀ .seq))) p) s₀ fs₀ ws₀ (state seq images t) fs ws →
-      Walked S q depth (upto (at (firstsOf S q) (q .order - (depth + 1)) (take depth (s₀ .seq))) p′) s₀ fs₀ ws₀ (state seq images (withNodes t n′)) fs ws
+      Walked S q depth (upto (at (firstsOf S q) (q .order - (depth + 1)) (take depth (s₀ .seq))) p′) s₀ fs₀ ws₀ (state seq images t′) fs ws
 
 -- the same, up to a plane that may stand there and has not been run over, or all planes
-pub record Skipped (S : Scene) (q : Task) (depth : ℕ) (seq : List ℕ) (images : List Float) (p n p′ n′ : ℕ) : Type 0 where
+pub record Skipped (S : Scene) (q : Task) (depth : ℕ) (seq : List ℕ) (images : List Float) (p : ℕ) (t : Tally) (p′ : ℕ) (t′ : Tally) : Type 0 where
   pub from : p ≤ p′
   pub within : p′ ≤ q .count
-  pub next : p′ < q .count → (n′ < q .limit) × (may (firstsOf S q) (take depth seq) p′ ≡ true)
-  pub skips : Skips S q depth seq images p n p′ n′
+  pub next : p′ < q .count → (t′ .nodes < q .limit) × (may (firstsOf S q) (take depth seq) p′ ≡ true)
+  pub skips : Skips S q depth seq images p t p′ t′
 
 -- what a tally says with its rows
 abbrev pub tallied : Tally → List Float → List ℕ → Search
 tallied t fs ws = search (t .nodes) (t .rays) (candidatesIn (t .found) fs ws) (not (eqb (t .over) 0))
 
--- the path c of `len` planes, which passes, is a candidate with that number, where there is room
-pub record Kept (room len number : ℕ) (c : PathCandidate) (s : Tally) (fs : List Float) (ws : List ℕ) (r : Tally) (fs′ : List Float) (ws′ : List ℕ) : Type 0 where
-  pub same-nodes : r .nodes ≡ s .nodes
-  pub same-rays : r .rays ≡ s .rays
+-- the image of the path c of `len` planes, which passes after that many rays, is counted, and the path is a candidate with its number, where there is room
+pub record Kept (room len rays : ℕ) (c : PathCandidate) (s : Tally) (fs : List Float) (ws : List ℕ) (r : Tally) (fs′ : List Float) (ws′ : List ℕ) : Type 0 where
+  pub counted : r .nodes ≡ s .nodes + 1
+  pub traced : r .rays ≡ s .rays + rays
   pub few : r .found ≤ room
   pub held :
       (seq : List ℕ) → length seq ≡ len →
       tallied r fs′ ws′
-      ≡ search (s .nodes) (s .rays)
-      (cond (ltb (s .found) room) (candidatesIn (s .found) fs ws ++ tapOf number seq (foundOf c) ∷ []) (candidatesIn (s .found) fs ws))
+      ≡ search (s .nodes + 1) (s .rays + rays)
+      (cond (ltb (s .found) room) (candidatesIn (s .found) fs ws ++ tapOf (s .nodes + 1) seq (foundOf c) ∷ []) (candidatesIn (s .found) fs ws))
       (cond (ltb (s .found) room) (not (eqb (s .over) 0)) true)
 
 -- the first `len` planes of the sequence were visited

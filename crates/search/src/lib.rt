@@ -22,7 +22,7 @@ ghost use Rattle.ranking.specs.Rows.{Rows, candidatesIn};
 ghost use Rattle.paths.specs.Areas.{Lent, ReadAs};
 ghost use Rattle.claim.specs.Query.{search, searched};
 ghost use Rattle.search.specs.Outcome.{onOf, outcomesOf};
-ghost use Rattle.search.specs.Contract.{scene, state, pointPut, firstsOf, squareOf, Beyond, Lost, Ready, Visitable, Walked, Kept, Visited, Skipped};
+ghost use Rattle.search.specs.Contract.{scene, state, countedOf, withNodes, pointPut, firstsOf, squareOf, Beyond, Lost, Ready, Visitable, Walked, Kept, Visited, Skipped};
 
 // Floats of a point in an area.
 const POINT_FLOATS: usize = 3;
@@ -41,7 +41,8 @@ struct Task {
     settings: Settings,
 }
 
-// What the search has counted and found, and 1 where a candidate found no room. (A bool's padding would be copied along, byte by byte.)
+// The state, which each visit changes by one thin step: what is counted and found, and 1 where a candidate found no room. (A bool's padding would
+// be copied along, byte by byte.)
 struct Tally {
     nodes: u32,
     rays: u32,
@@ -49,10 +50,10 @@ struct Tally {
     over: usize,
 }
 
-// The next plane whose image is not too far, or the count of planes, and the images counted before it.
+// The next plane whose image is not too far, or the count of planes, and the tally with the images before it.
 struct Near {
     plane: usize,
-    nodes: u32,
+    tally: Tally,
 }
 
 // The end of a search: images visited, rays traced, candidates held, and whether one found no room.
@@ -112,24 +113,65 @@ fn push(
     );
 }
 
+// ---- the state
+
+// One image more: the rays of its path are added, and it leaves so many candidates, and the flag.
+fn count(t: Tally, rays: u32, found: usize, over: usize) -> Tally
+    requires { ⌜ (t .nodes < spec.most) × (t .rays + rays < 4294967296) ⌝ }
+    ensures { λ r. ⌜ r ≡ countedOf t rays found over ⌝ }
+{
+    Tally {
+        nodes: t.nodes + 1,
+        rays: t.rays + rays,
+        found,
+        over,
+    }
+}
+
+// The thin step, by which every visit changes the state, in place.
+fn count_in_place(t: &mut Tally, rays: u32, found: usize, over: usize)
+    requires { ⌜ (now t .nodes < spec.most) × (now t .rays + rays < 4294967296) ⌝ }
+    ensures { λ _. ⌜ now (t .exit) ≡ countedOf (now (t .entry)) rays found over ⌝ }
+{
+    *t = count(*t, rays, found, over);
+}
+
+// The thin step as a visit calls it: by value, over a local that is lent to it.
+fn counted(t: Tally, rays: u32, found: usize, over: usize) -> Tally
+    requires { ⌜ (t .nodes < spec.most) × (t .rays + rays < 4294967296) ⌝ }
+    ensures { λ r. ⌜ r ≡ countedOf t rays found over ⌝ }
+{
+    let mut s = t;
+    count_in_place(&mut s, rays, found, over);
+    s
+}
+
+// A visit that ends before a ray is traced: the image is too far, or a bounce fails.
+fn passed_over(t: Tally) -> Tally
+    requires { ⌜ t .nodes < spec.most ⌝ }
+    ensures { λ r. ⌜ r ≡ withNodes t (t .nodes + 1) ⌝ }
+{
+    counted(t, 0, t.found, t.over)
+}
+
 // ---- a visit
 
-// The path of `len` planes passes: it is a candidate, if there is room.
+// The path of `len` planes passes: its image is counted, and it is a candidate, if there is room.
 fn keep(
     room: usize,
     len: usize,
-    number: u32,
+    rays: u32,
     c: PathCandidate,
     t: Tally,
     fs: &mut [f32],
     ws: &mut [u32],
 ) -> Tally
     requires { ⌜ (len ≤ maxOrder) × (t .found ≤ room) ⌝ }
+    requires { ⌜ (t .nodes < spec.most) × (t .rays + rays < 4294967296) ⌝ }
     requires { ⌜ Rows room (now fs) (now ws) ⌝ }
-    ensures { λ r. ⌜ Kept room len number c t (now (fs .entry)) (now (ws .entry)) r (now (fs .exit)) (now (ws .exit)) ⌝ }
+    ensures { λ r. ⌜ Kept room len rays c t (now (fs .entry)) (now (ws .entry)) r (now (fs .exit)) (now (ws .exit)) ⌝ }
 {
-    let mut s = t;
-    if s.found < room {
+    if t.found < room {
         let direction = c.direction;
         let gains = c.gains;
         let tap = Candidate {
@@ -138,14 +180,12 @@ fn keep(
             delay: c.delay,
             direction,
             gains,
-            number,
+            number: t.nodes + 1,
         };
-        ranking::put_candidate(fs, ws, s.found, tap);
-        s.found = s.found + 1;
-        return s;
+        ranking::put_candidate(fs, ws, t.found, tap);
+        return counted(t, rays, t.found + 1, t.over);
     }
-    s.over = 1;
-    s
+    counted(t, rays, t.found, 1)
 }
 
 // The sequence and the images as arrays, for the few paths that are traced.
@@ -227,15 +267,11 @@ fn judge(
         q.source,
         q.listener,
     );
-    let mut s = t;
-    s.nodes = s.nodes + 1;
-    let number = s.nodes;
-    s.rays = s.rays + v.rays;
     let fate = v.fate;
     let Fate::Passed(c) = fate else {
-        return s;
+        return counted(t, v.rays, t.found, t.over);
     };
-    keep(q.room, len, number, c, s, fs, ws)
+    keep(q.room, len, v.rays, c, t, fs, ws)
 }
 
 // Whether the square of the distance from the listener to an image is above `beyond`: no root is taken.
@@ -350,15 +386,13 @@ fn visit(
             ws,
         );
     }
-    let mut s = t;
-    s.nodes = s.nodes + 1;
-    s
+    passed_over(t)
 }
 
 // ---- the last place
 
-// From plane `from` on to the first whose image at the last place is not too far; the images too far are counted. Nearly all images of a search may
-// be such: so nothing is stored, and no function is handed more than it reads.
+// From plane `from` on to the first whose image at the last place is not too far; those too far are visited here. Nearly all images of a search may
+// be such: so no plane and no image is stored, and no function is handed more than it reads.
 fn next_near(
     floats: &[f32],
     words: &[u32],
@@ -367,34 +401,34 @@ fn next_near(
     images: &[f32],
     depth: usize,
     from: usize,
-    nodes: u32,
+    t: Tally,
 ) -> Near
     requires { ⌜ (depth < length (now seq)) × (pointFloats * (depth + 1) ≤ length (now images)) × (from ≤ q .count) × (q .limit ≤ spec.most) ⌝ }
     requires { ⌜ (planeFloats * q .count ≤ length (now floats)) × (planeWords * q .count ≤ length (now words)) ⌝ }
-    ensures { λ r. ⌜ ((padded : List Float) (nodes₁ : List ℕ) (perm : List ℕ) (rows : List Float) (handles : List ℕ) (materials : List Float) (columns : List Float) (members : List ℕ) (edges : List Float) → Skipped (scene padded nodes₁ perm rows handles materials columns (now (floats .entry)) (now (words .entry)) members edges) q depth (now (seq .entry)) (now (images .entry)) from nodes (r .plane) (r .nodes)) ⌝ }
+    ensures { λ r. ⌜ ((padded : List Float) (nodes₁ : List ℕ) (perm : List ℕ) (rows : List Float) (handles : List ℕ) (materials : List Float) (columns : List Float) (members : List ℕ) (edges : List Float) → Skipped (scene padded nodes₁ perm rows handles materials columns (now (floats .entry)) (now (words .entry)) members edges) q depth (now (seq .entry)) (now (images .entry)) from t (r .plane) (r .tally)) ⌝ }
 {
     let image = mirror::vec_in(images, POINT_FLOATS * depth);
-    let mut n = nodes;
+    let mut s = t;
     let mut p = from;
     while p < q.count {
         let at = p;
         p += 1;
-        if q.limit <= n {
+        if q.limit <= s.nodes {
             continue;
         }
         if may(floats, words, q, seq, depth, at) {
             let next = bounces::next_image(floats, words, at, image);
             if far(q.listener, next, q.beyond) {
-                n += 1;
+                s = passed_over(s);
                 continue;
             }
             return Near {
                 plane: at,
-                nodes: n,
+                tally: s,
             };
         }
     }
-    Near { plane: p, nodes: n }
+    Near { plane: p, tally: s }
 }
 
 // Each plane in turn at the last place, where nothing goes on.
@@ -425,15 +459,9 @@ fn last_planes(
     let mut s = t;
     let mut p = 0;
     while p < q.count {
-        let next = next_near(floats, words, q, seq, images, depth, p, s.nodes);
+        let next = next_near(floats, words, q, seq, images, depth, p, s);
         let at = next.plane;
-        // tallies field by field, so that the compiler keeps them in registers
-        let u = Tally {
-            nodes: next.nodes,
-            rays: s.rays,
-            found: s.found,
-            over: s.over,
-        };
+        let u = next.tally;
         if at == q.count {
             return u;
         }
@@ -472,6 +500,7 @@ fn last_planes(
                 fs,
                 ws,
             );
+            // field by field: a call answers into memory, where the tally of the loop would then stay
             s = Tally {
                 nodes: v.nodes,
                 rays: v.rays,
@@ -480,13 +509,7 @@ fn last_planes(
             };
             continue;
         }
-        let counted = next.nodes + 1;
-        s = Tally {
-            nodes: counted,
-            rays: u.rays,
-            found: u.found,
-            over: u.over,
-        };
+        s = passed_over(u);
     }
     s
 }
@@ -494,7 +517,7 @@ fn last_planes(
 // ---- the search
 
 // Each plane in turn at place `depth`, with all that goes on from it. The sequence and the image of each of its beginnings stand in `seq` and
-// `images`. An image too far is tested and counted here: a function that visits is handed all areas and the task, which the compiler copies first.
+// `images`. An image too far is tested and visited here: a function that visits is handed all areas and the task, which the compiler copies first.
 fn expand_images(
     padded: &[f32],
     nodes: &[u32],
@@ -529,7 +552,7 @@ fn expand_images(
         if may(floats, words, q, seq, depth, at) {
             push(floats, words, q.count, depth, at, seq, images);
             if too_far(images, depth + 1, q.listener, q.beyond) {
-                s.nodes = s.nodes + 1;
+                s = passed_over(s);
             } else {
                 s = visit(
                     padded,

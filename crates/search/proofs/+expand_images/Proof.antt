@@ -16,6 +16,7 @@ use Rattle.search.proofs.+expand_images.Lts-expand_images as lts
 use Rattle.search.proofs.may.Reads as may
 use Rattle.search.proofs.push.Reads as push
 use Rattle.search.proofs.too_far.Reads as too-far
+use Rattle.search.proofs.passed_over.Reads as passed
 use Rattle.search.proofs.visit.Reads as visit
 use Rattle.search.proofs.last_planes.Reads as last
 use Rattle.search.proofs.+expand_images.{statement}
@@ -44,7 +45,7 @@ abbrev μ-loop : lts.MeasureT-loop
 
 -- too far or not, the image was visited
 joined :
-    (t : ℕ) (c : lts.Joined4 (may.Asked, may.Learnt, push.Asked, push.Learnt, too-far.Asked, too-far.Learnt, visit.Asked, visit.Learnt, last.Asked, last.Learnt, expand-below t, expand.Post) (expand-at t) expand.Post Inv-loop μ-loop) →
+    (t : ℕ) (c : lts.Joined4 (may.Asked, may.Learnt, push.Asked, push.Learnt, too-far.Asked, too-far.Learnt, passed.Asked, passed.Learnt, visit.Asked, visit.Learnt, last.Asked, last.Learnt, expand-below t, expand.Post) (expand-at t) expand.Post Inv-loop μ-loop) →
     let a = c .before .before .before .before .before .before .before .before .before .before .before .before .before .before .before .before .before .before .before .before .before .before .before .before .before .before .before .before .before .before .before .before .before .before .args in
     Visited (scene (a .padded .now) (a .nodes .now) (a .perm .now) (a .rows .now) (a .handles .now) (a .materials .now) (a .columns .now) (a .floats .now) (a .words .now) (a .members .now) (a .edges .now)) (a .q) (a .depth + 1) (c .before .before .before .before .before .before .before .push .last .1 .1 .1 .1 .1 .0) (c .before .before .before .before .before .before .before .before .before .before .before .before .before .before .before .before .before .before .loop .s) (c .before .before .before .before .before .before .before .before .before .before .before .before .before .before .before .before .before .before .loop .fs) (c .before .before .before .before .before .before .before .before .before .before .before .before .before .before .before .before .before .before .loop .ws) (c .if4 .s) (c .if4 .fs) (c .if4 .ws)
     × (length (c .if4 .fs) ≡ length (c .before .before .before .before .before .before .before .before .before .before .before .before .before .before .before .before .before .before .loop .fs))
@@ -58,26 +59,26 @@ joined t c =
     law.ready-same S (a .q) (a .depth) (a .depth) (state (a .seq .now) (a .images .now) (a .t)) (state (l .seq) (l .images) (l .s)) (a .fs .now) (l .fs) (a .ws .now) (l .ws) pre (pre .deep) (l .inv .3) (l .inv .4) (l .inv .5 .sound) in
     let v : Visitable S (a .q) (a .depth + 1) (state (c .before .before .before .before .before .before .before .push .last .1 .1 .1 .1 .1 .0) (c .before .before .before .before .before .before .before .push .last .1 .1 .1 .1 .1 .1 .0) (l .s)) (l .fs) (l .ws) = law.visitable-push S (a .q) (a .depth) (l .p) (l .seq) (c .before .before .before .before .before .before .before .push .last .1 .1 .1 .1 .1 .0) (l .images) (c .before .before .before .before .before .before .before .push .last .1 .1 .1 .1 .1 .1 .0) (l .s) (c .before .before .before .before .before .before .before .push .ensures .0) (c .before .before .before .before .before .before .before .push .ensures .1 (a .members .now) (a .edges .now)) (l .fs) (l .ws) r (c .before .before .before .before .before .before .before .before .before .before .before .before .before .before .before .before .if1 .taken) (c .before .before .before .before .before .before .before .before .before .before .before .before .before .if2 .left) in
     ⊎-elim
-    (λ w. rw (w .2, w .3, w .4)
+    (λ w. rw (w .2, w .3, w .4, w .1 .ensures)
     (law.visited-far S (a .q) (a .depth + 1) (c .before .before .before .before .before .before .before .push .last .1 .1 .1 .1 .1 .0) (c .before .before .before .before .before .before .before .push .last .1 .1 .1 .1 .1 .1 .0) (l .s) (l .fs) (l .ws) (v .within) (v .sound) (v .far) (sym (c .before .too-far .ensures) ∙ w .0 .taken), refl, refl))
     (λ w. rw (w .10, w .11, w .12) (w .5 .ensures, w .5 .kept .1 .1 .1 .1 .1 .1 .1 .1 .1 .1 .1 .1 .1 .1 .1 .1 .0, w .5 .kept .1 .1 .1 .1 .1 .1 .1 .1 .1 .1 .1 .1 .1 .1 .1 .1 .1 .0))
     (c .if4 .came)
 
-loop-holds : (t : ℕ) → lts.Need-loop-holds (may.Asked, may.Learnt, push.Asked, push.Learnt, too-far.Asked, too-far.Learnt, visit.Asked, visit.Learnt, last.Asked, last.Learnt, expand-below t, expand.Post) (expand-at t) expand.Post Inv-loop μ-loop
+loop-holds : (t : ℕ) → lts.Need-loop-holds (may.Asked, may.Learnt, push.Asked, push.Learnt, too-far.Asked, too-far.Learnt, passed.Asked, passed.Learnt, visit.Asked, visit.Learnt, last.Asked, last.Learnt, expand-below t, expand.Post) (expand-at t) expand.Post Inv-loop μ-loop
 unfolding upto
 loop-holds t c =
     let a = c .before .before .before .before .before .before .before .before .before .before .before .before .before .before .before .args in
     (omega arith, refl, refl, refl, refl, law.walked-none (scene (a .padded .now) (a .nodes .now) (a .perm .now) (a .rows .now) (a .handles .now) (a .materials .now) (a .columns .now) (a .floats .now) (a .words .now) (a .members .now) (a .edges .now)) (a .q) (a .depth) (state (a .seq .now) (a .images .now) (a .t)) (a .fs .now) (a .ws .now) (c .before .before .before .before .before .before .before .before .before .before .before .before .before .before .before .pre .1 .sound))
 
-add-p : (t : ℕ) → lts.Need-add-p (may.Asked, may.Learnt, push.Asked, push.Learnt, too-far.Asked, too-far.Learnt, visit.Asked, visit.Learnt, last.Asked, last.Learnt, expand-below t, expand.Post) (expand-at t) expand.Post Inv-loop μ-loop
+add-p : (t : ℕ) → lts.Need-add-p (may.Asked, may.Learnt, push.Asked, push.Learnt, too-far.Asked, too-far.Learnt, passed.Asked, passed.Learnt, visit.Asked, visit.Learnt, last.Asked, last.Learnt, expand-below t, expand.Post) (expand-at t) expand.Post Inv-loop μ-loop
 add-p t c =
     omega (arith, c .if1 .taken, c .before .before .before .before .before .before .before .before .before .before .before .before .before .before .before .before .before .before .pre .1 .small)
 
-loop-less : (t : ℕ) → lts.Need-loop-less (may.Asked, may.Learnt, push.Asked, push.Learnt, too-far.Asked, too-far.Learnt, visit.Asked, visit.Learnt, last.Asked, last.Learnt, expand-below t, expand.Post) (expand-at t) expand.Post Inv-loop μ-loop
+loop-less : (t : ℕ) → lts.Need-loop-less (may.Asked, may.Learnt, push.Asked, push.Learnt, too-far.Asked, too-far.Learnt, passed.Asked, passed.Learnt, visit.Asked, visit.Learnt, last.Asked, last.Learnt, expand-below t, expand.Post) (expand-at t) expand.Post Inv-loop μ-loop
 loop-less t c =
     omega (arith, c .before .before .before .if1 .taken)
 
-loop-again : (t : ℕ) → lts.Need-loop-again (may.Asked, may.Learnt, push.Asked, push.Learnt, too-far.Asked, too-far.Learnt, visit.Asked, visit.Learnt, last.Asked, last.Learnt, expand-below t, expand.Post) (expand-at t) expand.Post Inv-loop μ-loop
+loop-again : (t : ℕ) → lts.Need-loop-again (may.Asked, may.Learnt, push.Asked, push.Learnt, too-far.Asked, too-far.Learnt, passed.Asked, passed.Learnt, visit.Asked, visit.Learnt, last.Asked, last.Learnt, expand-below t, expand.Post) (expand-at t) expand.Post Inv-loop μ-loop
 loop-again t c =
     let a = c .before .before .before .before .before .before .before .before .before .before .before .before .before .before .before .before .before .before .before .before .before .args in
     let pre = c .before .before .before .before .before .before .before .before .before .before .before .before .before .before .before .before .before .before .before .before .before .pre .1 in
@@ -92,7 +93,7 @@ loop-again t c =
           (law.walked-full S (a .q) (a .depth) _ (state (l .seq) (l .images) (l .s)) (l .fs) (l .ws) (c .if2 .taken) (l .inv .5 .sound)),
     )
 
-may-requires : (t : ℕ) → lts.Need-may-requires (may.Asked, may.Learnt, push.Asked, push.Learnt, too-far.Asked, too-far.Learnt, visit.Asked, visit.Learnt, last.Asked, last.Learnt, expand-below t, expand.Post) (expand-at t) expand.Post Inv-loop μ-loop
+may-requires : (t : ℕ) → lts.Need-may-requires (may.Asked, may.Learnt, push.Asked, push.Learnt, too-far.Asked, too-far.Learnt, passed.Asked, passed.Learnt, visit.Asked, visit.Learnt, last.Asked, last.Learnt, expand-below t, expand.Post) (expand-at t) expand.Post Inv-loop μ-loop
 may-requires t c κs =
     let a = c .before .before .before .before .before .before .before .before .before .before .before .before .before .before .before .before .before .before .before .before .before .before .args in
     let pre = c .before .before .before .before .before .before .before .before .before .before .before .before .before .before .before .before .before .before .before .before .before .before .pre .1 in
@@ -101,7 +102,7 @@ may-requires t c κs =
     let h = pre .lent .planes .held in
     ((omega (arith, pre .deep, pre .within, l .inv .5 .sound .seq-room), c .before .before .before .before .if1 .taken), (h .floats-room, h .words-room))
 
-push-requires : (t : ℕ) → lts.Need-push-requires (may.Asked, may.Learnt, push.Asked, push.Learnt, too-far.Asked, too-far.Learnt, visit.Asked, visit.Learnt, last.Asked, last.Learnt, expand-below t, expand.Post) (expand-at t) expand.Post Inv-loop μ-loop
+push-requires : (t : ℕ) → lts.Need-push-requires (may.Asked, may.Learnt, push.Asked, push.Learnt, too-far.Asked, too-far.Learnt, passed.Asked, passed.Learnt, visit.Asked, visit.Learnt, last.Asked, last.Learnt, expand-below t, expand.Post) (expand-at t) expand.Post Inv-loop μ-loop
 push-requires t c κs =
     let a = c .before .before .before .before .before .before .before .before .before .before .before .before .before .before .before .before .before .before .before .before .before .before .before .before .before .before .args in
     let pre = c .before .before .before .before .before .before .before .before .before .before .before .before .before .before .before .before .before .before .before .before .before .before .before .before .before .before .pre .1 in
@@ -110,24 +111,24 @@ push-requires t c κs =
     let h = pre .lent .planes .held in
     ((omega (arith, pre .deep, pre .within, l .inv .5 .sound .seq-room), omega (arith, pre .deep, pre .within, l .inv .5 .sound .images-room), c .before .before .before .before .before .before .before .before .if1 .taken, pre .small), (h .floats-room, h .words-room))
 
-add-too-far : (t : ℕ) → lts.Need-add-too-far (may.Asked, may.Learnt, push.Asked, push.Learnt, too-far.Asked, too-far.Learnt, visit.Asked, visit.Learnt, last.Asked, last.Learnt, expand-below t, expand.Post) (expand-at t) expand.Post Inv-loop μ-loop
+add-too-far : (t : ℕ) → lts.Need-add-too-far (may.Asked, may.Learnt, push.Asked, push.Learnt, too-far.Asked, too-far.Learnt, passed.Asked, passed.Learnt, visit.Asked, visit.Learnt, last.Asked, last.Learnt, expand-below t, expand.Post) (expand-at t) expand.Post Inv-loop μ-loop
 add-too-far t c =
     omega (arith, c .before .before .before .before .before .before .before .before .before .before .before .before .before .before .before .before .before .before .before .before .before .before .before .before .before .before .before .before .before .before .before .before .pre .1 .deep, c .before .before .before .before .before .before .before .before .before .before .before .before .before .before .before .before .before .before .before .before .before .before .before .before .before .before .before .before .before .before .before .before .pre .1 .within)
 
-too-far-requires : (t : ℕ) → lts.Need-too-far-requires (may.Asked, may.Learnt, push.Asked, push.Learnt, too-far.Asked, too-far.Learnt, visit.Asked, visit.Learnt, last.Asked, last.Learnt, expand-below t, expand.Post) (expand-at t) expand.Post Inv-loop μ-loop
+too-far-requires : (t : ℕ) → lts.Need-too-far-requires (may.Asked, may.Learnt, push.Asked, push.Learnt, too-far.Asked, too-far.Learnt, passed.Asked, passed.Learnt, visit.Asked, visit.Learnt, last.Asked, last.Learnt, expand-below t, expand.Post) (expand-at t) expand.Post Inv-loop μ-loop
 too-far-requires t c κs =
     let pre = c .before .before .before .before .before .before .before .before .before .before .before .before .before .before .before .before .before .before .before .before .before .before .before .before .before .before .before .before .before .before .before .before .pre .1 in
     omega (arith, pre .deep, pre .within, c .before .before .before .before .before .before .before .before .before .before .before .before .before .before .before .before .loop .inv .5 .sound .images-room, c .before .before .before .before .before .push .kept .1 .1 .1 .1 .1 .1 .0)
 
-add-s : (t : ℕ) → lts.Need-add-s (may.Asked, may.Learnt, push.Asked, push.Learnt, too-far.Asked, too-far.Learnt, visit.Asked, visit.Learnt, last.Asked, last.Learnt, expand-below t, expand.Post) (expand-at t) expand.Post Inv-loop μ-loop
-add-s t c =
-    omega (arith, c .before .before .before .before .before .before .before .before .before .before .before .before .before .before .if2 .left, c .before .before .before .before .before .before .before .before .before .before .before .before .before .before .before .before .before .before .before .before .before .before .before .before .before .before .before .before .before .before .before .before .before .before .before .pre .1 .bound)
+passed-over-requires : (t : ℕ) → lts.Need-passed-over-requires (may.Asked, may.Learnt, push.Asked, push.Learnt, too-far.Asked, too-far.Learnt, passed.Asked, passed.Learnt, visit.Asked, visit.Learnt, last.Asked, last.Learnt, expand-below t, expand.Post) (expand-at t) expand.Post Inv-loop μ-loop
+passed-over-requires t c κs =
+    omega (arith, c .before .before .before .before .before .before .before .before .before .before .before .before .before .if2 .left, c .before .before .before .before .before .before .before .before .before .before .before .before .before .before .before .before .before .before .before .before .before .before .before .before .before .before .before .before .before .before .before .before .before .before .pre .1 .bound)
 
-add-visit : (t : ℕ) → lts.Need-add-visit (may.Asked, may.Learnt, push.Asked, push.Learnt, too-far.Asked, too-far.Learnt, visit.Asked, visit.Learnt, last.Asked, last.Learnt, expand-below t, expand.Post) (expand-at t) expand.Post Inv-loop μ-loop
+add-visit : (t : ℕ) → lts.Need-add-visit (may.Asked, may.Learnt, push.Asked, push.Learnt, too-far.Asked, too-far.Learnt, passed.Asked, passed.Learnt, visit.Asked, visit.Learnt, last.Asked, last.Learnt, expand-below t, expand.Post) (expand-at t) expand.Post Inv-loop μ-loop
 add-visit t c =
     omega (arith, c .before .before .before .before .before .before .before .before .before .before .before .before .before .before .before .before .before .before .before .before .before .before .before .before .before .before .before .before .before .before .before .before .before .before .pre .1 .deep, c .before .before .before .before .before .before .before .before .before .before .before .before .before .before .before .before .before .before .before .before .before .before .before .before .before .before .before .before .before .before .before .before .before .before .pre .1 .within)
 
-visit-requires : (t : ℕ) → lts.Need-visit-requires (may.Asked, may.Learnt, push.Asked, push.Learnt, too-far.Asked, too-far.Learnt, visit.Asked, visit.Learnt, last.Asked, last.Learnt, expand-below t, expand.Post) (expand-at t) expand.Post Inv-loop μ-loop
+visit-requires : (t : ℕ) → lts.Need-visit-requires (may.Asked, may.Learnt, push.Asked, push.Learnt, too-far.Asked, too-far.Learnt, passed.Asked, passed.Learnt, visit.Asked, visit.Learnt, last.Asked, last.Learnt, expand-below t, expand.Post) (expand-at t) expand.Post Inv-loop μ-loop
 visit-requires t c κs =
     let a = c .before .before .before .before .before .before .before .before .before .before .before .before .before .before .before .before .before .before .before .before .before .before .before .before .before .before .before .before .before .before .before .before .before .before .before .before .before .before .args in
     let pre = c .before .before .before .before .before .before .before .before .before .before .before .before .before .before .before .before .before .before .before .before .before .before .before .before .before .before .before .before .before .before .before .before .before .before .before .before .before .before .pre .1 in
@@ -137,15 +138,15 @@ visit-requires t c κs =
     law.ready-same S (a .q) (a .depth) (a .depth) (state (a .seq .now) (a .images .now) (a .t)) (state (l .seq) (l .images) (l .s)) (a .fs .now) (l .fs) (a .ws .now) (l .ws) pre (pre .deep) (l .inv .3) (l .inv .4) (l .inv .5 .sound) in
     law.visitable-push S (a .q) (a .depth) (l .p) (l .seq) (c .before .before .before .before .before .before .before .before .before .before .before .push .last .1 .1 .1 .1 .1 .0) (l .images) (c .before .before .before .before .before .before .before .before .before .before .before .push .last .1 .1 .1 .1 .1 .1 .0) (l .s) (c .before .before .before .before .before .before .before .before .before .before .before .push .ensures .0) (c .before .before .before .before .before .before .before .before .before .before .before .push .ensures .1 (a .members .now) (a .edges .now)) (l .fs) (l .ws) r (c .before .before .before .before .before .before .before .before .before .before .before .before .before .before .before .before .before .before .before .before .if1 .taken) (c .before .before .before .before .before .before .before .before .before .before .before .before .before .before .before .before .before .if2 .left)
 
-add-if5 : (t : ℕ) → lts.Need-add-if5 (may.Asked, may.Learnt, push.Asked, push.Learnt, too-far.Asked, too-far.Learnt, visit.Asked, visit.Learnt, last.Asked, last.Learnt, expand-below t, expand.Post) (expand-at t) expand.Post Inv-loop μ-loop
+add-if5 : (t : ℕ) → lts.Need-add-if5 (may.Asked, may.Learnt, push.Asked, push.Learnt, too-far.Asked, too-far.Learnt, passed.Asked, passed.Learnt, visit.Asked, visit.Learnt, last.Asked, last.Learnt, expand-below t, expand.Post) (expand-at t) expand.Post Inv-loop μ-loop
 add-if5 t c =
     omega (arith, c .before .before .before .before .before .before .before .before .before .before .before .before .before .before .before .before .before .before .before .before .before .before .before .before .before .before .before .before .before .before .before .before .before .before .pre .1 .deep, c .before .before .before .before .before .before .before .before .before .before .before .before .before .before .before .before .before .before .before .before .before .before .before .before .before .before .before .before .before .before .before .before .before .before .pre .1 .within)
 
-loop-less-2 : (t : ℕ) → lts.Need-loop-less-2 (may.Asked, may.Learnt, push.Asked, push.Learnt, too-far.Asked, too-far.Learnt, visit.Asked, visit.Learnt, last.Asked, last.Learnt, expand-below t, expand.Post) (expand-at t) expand.Post Inv-loop μ-loop
+loop-less-2 : (t : ℕ) → lts.Need-loop-less-2 (may.Asked, may.Learnt, push.Asked, push.Learnt, too-far.Asked, too-far.Learnt, passed.Asked, passed.Learnt, visit.Asked, visit.Learnt, last.Asked, last.Learnt, expand-below t, expand.Post) (expand-at t) expand.Post Inv-loop μ-loop
 loop-less-2 t c =
     omega (arith, c .before .before .before .before .before .before .before .before .before .before .before .before .before .before .before .before .before .before .if1 .taken)
 
-loop-again-2 : (t : ℕ) → lts.Need-loop-again-2 (may.Asked, may.Learnt, push.Asked, push.Learnt, too-far.Asked, too-far.Learnt, visit.Asked, visit.Learnt, last.Asked, last.Learnt, expand-below t, expand.Post) (expand-at t) expand.Post Inv-loop μ-loop
+loop-again-2 : (t : ℕ) → lts.Need-loop-again-2 (may.Asked, may.Learnt, push.Asked, push.Learnt, too-far.Asked, too-far.Learnt, passed.Asked, passed.Learnt, visit.Asked, visit.Learnt, last.Asked, last.Learnt, expand-below t, expand.Post) (expand-at t) expand.Post Inv-loop μ-loop
 loop-again-2 t c =
     let a = c .before .before .before .before .before .before .before .before .before .before .before .before .before .before .before .before .before .before .before .before .before .before .before .before .before .before .before .before .before .before .before .before .before .before .before .before .args in
     let pre = c .before .before .before .before .before .before .before .before .before .before .before .before .before .before .before .before .before .before .before .before .before .before .before .before .before .before .before .before .before .before .before .before .before .before .before .before .pre .1 in
@@ -166,15 +167,15 @@ loop-again-2 t c =
           (law.walked-last S (a .q) (a .depth) (a .q .order - (a .depth + 1)) (l .p) (l .seq) (c .before .before .before .before .before .before .before .before .before .push .last .1 .1 .1 .1 .1 .0) (l .images) (c .before .before .before .before .before .before .before .before .before .push .last .1 .1 .1 .1 .1 .1 .0) (l .s) (c .before .before .if4 .s) (l .fs) (c .before .before .if4 .fs) (l .ws) (c .before .before .if4 .ws) (c .before .before .before .before .before .before .before .before .before .before .before .before .before .before .before .if2 .left) (omega (arith, pre .deep, pre .within)) (r .sound .seq-room) (sym (c .before .before .before .before .before .before .before .before .before .before .before .before .before .may .ensures (a .members .now) (a .edges .now)) ∙ c .before .before .before .before .before .before .before .before .before .before .before .before .if3 .taken) (c .before .before .before .before .before .before .before .before .before .push .ensures .0) (j .0) sound (omega (arith, c .if5 .taken))),
     )
 
-add-if6 : (t : ℕ) → lts.Need-add-if6 (may.Asked, may.Learnt, push.Asked, push.Learnt, too-far.Asked, too-far.Learnt, visit.Asked, visit.Learnt, last.Asked, last.Learnt, expand-below t, expand.Post) (expand-at t) expand.Post Inv-loop μ-loop
+add-if6 : (t : ℕ) → lts.Need-add-if6 (may.Asked, may.Learnt, push.Asked, push.Learnt, too-far.Asked, too-far.Learnt, passed.Asked, passed.Learnt, visit.Asked, visit.Learnt, last.Asked, last.Learnt, expand-below t, expand.Post) (expand-at t) expand.Post Inv-loop μ-loop
 add-if6 t c =
     omega (arith, c .before .before .before .before .before .before .before .before .before .before .before .before .before .before .before .before .before .before .before .before .before .before .before .before .before .before .before .before .before .before .before .before .before .before .before .before .pre .1 .deep, c .before .before .before .before .before .before .before .before .before .before .before .before .before .before .before .before .before .before .before .before .before .before .before .before .before .before .before .before .before .before .before .before .before .before .before .before .pre .1 .within)
 
-add-last-planes : (t : ℕ) → lts.Need-add-last-planes (may.Asked, may.Learnt, push.Asked, push.Learnt, too-far.Asked, too-far.Learnt, visit.Asked, visit.Learnt, last.Asked, last.Learnt, expand-below t, expand.Post) (expand-at t) expand.Post Inv-loop μ-loop
+add-last-planes : (t : ℕ) → lts.Need-add-last-planes (may.Asked, may.Learnt, push.Asked, push.Learnt, too-far.Asked, too-far.Learnt, passed.Asked, passed.Learnt, visit.Asked, visit.Learnt, last.Asked, last.Learnt, expand-below t, expand.Post) (expand-at t) expand.Post Inv-loop μ-loop
 add-last-planes t c =
     omega (arith, c .before .before .before .before .before .before .before .before .before .before .before .before .before .before .before .before .before .before .before .before .before .before .before .before .before .before .before .before .before .before .before .before .before .before .before .before .before .before .pre .1 .deep, c .before .before .before .before .before .before .before .before .before .before .before .before .before .before .before .before .before .before .before .before .before .before .before .before .before .before .before .before .before .before .before .before .before .before .before .before .before .before .pre .1 .within)
 
-last-planes-requires : (t : ℕ) → lts.Need-last-planes-requires (may.Asked, may.Learnt, push.Asked, push.Learnt, too-far.Asked, too-far.Learnt, visit.Asked, visit.Learnt, last.Asked, last.Learnt, expand-below t, expand.Post) (expand-at t) expand.Post Inv-loop μ-loop
+last-planes-requires : (t : ℕ) → lts.Need-last-planes-requires (may.Asked, may.Learnt, push.Asked, push.Learnt, too-far.Asked, too-far.Learnt, passed.Asked, passed.Learnt, visit.Asked, visit.Learnt, last.Asked, last.Learnt, expand-below t, expand.Post) (expand-at t) expand.Post Inv-loop μ-loop
 last-planes-requires t c κs =
     let a = c .before .before .before .before .before .before .before .before .before .before .before .before .before .before .before .before .before .before .before .before .before .before .before .before .before .before .before .before .before .before .before .before .before .before .before .before .before .before .before .before .before .before .args in
     let pre = c .before .before .before .before .before .before .before .before .before .before .before .before .before .before .before .before .before .before .before .before .before .before .before .before .before .before .before .before .before .before .before .before .before .before .before .before .before .before .before .before .before .before .pre .1 in
@@ -188,11 +189,11 @@ last-planes-requires t c κs =
     law.sound-visit S (a .q) (a .depth + 1) (c .before .before .before .before .before .before .before .before .before .before .before .before .before .before .before .push .last .1 .1 .1 .1 .1 .0) (c .before .before .before .before .before .before .before .before .before .before .before .before .before .before .before .push .last .1 .1 .1 .1 .1 .1 .0) (l .s) (c .before .before .before .before .before .before .before .before .if4 .s) (l .fs) (c .before .before .before .before .before .before .before .before .if4 .fs) (l .ws) (c .before .before .before .before .before .before .before .before .if4 .ws) (j .0) (v .sound) in
     (omega (arith, c .before .before .before .before .if6 .taken), law.ready-same S (a .q) (a .depth) (a .depth + 1) (state (l .seq) (l .images) (l .s)) (state (c .before .before .before .before .before .before .before .before .before .before .before .before .before .before .before .push .last .1 .1 .1 .1 .1 .0) (c .before .before .before .before .before .before .before .before .before .before .before .before .before .before .before .push .last .1 .1 .1 .1 .1 .1 .0) (c .before .before .before .before .before .before .before .before .if4 .s)) (l .fs) (c .before .before .before .before .before .before .before .before .if4 .fs) (l .ws) (c .before .before .before .before .before .before .before .before .if4 .ws) r (omega (arith, c .before .before .before .before .if6 .taken)) (j .1) (j .2) sound)
 
-loop-less-3 : (t : ℕ) → lts.Need-loop-less-3 (may.Asked, may.Learnt, push.Asked, push.Learnt, too-far.Asked, too-far.Learnt, visit.Asked, visit.Learnt, last.Asked, last.Learnt, expand-below t, expand.Post) (expand-at t) expand.Post Inv-loop μ-loop
+loop-less-3 : (t : ℕ) → lts.Need-loop-less-3 (may.Asked, may.Learnt, push.Asked, push.Learnt, too-far.Asked, too-far.Learnt, passed.Asked, passed.Learnt, visit.Asked, visit.Learnt, last.Asked, last.Learnt, expand-below t, expand.Post) (expand-at t) expand.Post Inv-loop μ-loop
 loop-less-3 t c =
     omega (arith, c .before .before .before .before .before .before .before .before .before .before .before .before .before .before .before .before .before .before .before .before .before .before .before .before .before .before .before .before .before .before .before .before .before .if1 .taken)
 
-loop-again-3 : (t : ℕ) → lts.Need-loop-again-3 (may.Asked, may.Learnt, push.Asked, push.Learnt, too-far.Asked, too-far.Learnt, visit.Asked, visit.Learnt, last.Asked, last.Learnt, expand-below t, expand.Post) (expand-at t) expand.Post Inv-loop μ-loop
+loop-again-3 : (t : ℕ) → lts.Need-loop-again-3 (may.Asked, may.Learnt, push.Asked, push.Learnt, too-far.Asked, too-far.Learnt, passed.Asked, passed.Learnt, visit.Asked, visit.Learnt, last.Asked, last.Learnt, expand-below t, expand.Post) (expand-at t) expand.Post Inv-loop μ-loop
 loop-again-3 t c =
     let a = c .before .before .before .before .before .before .before .before .before .before .before .before .before .before .before .before .before .before .before .before .before .before .before .before .before .before .before .before .before .before .before .before .before .before .before .before .before .before .before .before .before .before .before .before .before .before .before .before .before .before .before .args in
     let pre = c .before .before .before .before .before .before .before .before .before .before .before .before .before .before .before .before .before .before .before .before .before .before .before .before .before .before .before .before .before .before .before .before .before .before .before .before .before .before .before .before .before .before .before .before .before .before .before .before .before .before .before .pre .1 in
@@ -210,11 +211,11 @@ loop-again-3 t c =
           (law.walked-visit S (a .q) (a .depth) (a .q .order - (a .depth + 1)) (l .p) (l .seq) (c .before .before .before .before .before .before .before .before .before .before .before .before .before .before .before .before .before .before .before .before .before .before .before .before .push .last .1 .1 .1 .1 .1 .0) (l .images) (c .before .before .before .before .before .before .before .before .before .before .before .before .before .before .before .before .before .before .before .before .before .before .before .before .push .last .1 .1 .1 .1 .1 .1 .0) (l .s) (c .before .before .before .before .before .before .before .before .before .before .before .before .before .before .before .before .before .if4 .s) (state (c .before .before .before .before .before .before .before .before .last-planes .last .1 .1 .1 .1 .1 .1 .1 .1 .1 .1 .1 .1 .1 .1 .0) (c .before .before .before .before .before .before .before .before .last-planes .last .1 .1 .1 .1 .1 .1 .1 .1 .1 .1 .1 .1 .1 .1 .1 .0) (c .before .before .before .before .before .before .before .before .last-planes .result)) (l .fs) (c .before .before .before .before .before .before .before .before .before .before .before .before .before .before .before .before .before .if4 .fs) (c .before .before .before .before .before .before .before .before .last-planes .last .1 .1 .1 .1 .1 .1 .1 .1 .1 .1 .1 .1 .1 .1 .1 .1 .0) (l .ws) (c .before .before .before .before .before .before .before .before .before .before .before .before .before .before .before .before .before .if4 .ws) (c .before .before .before .before .before .before .before .before .last-planes .last .1 .1 .1 .1 .1 .1 .1 .1 .1 .1 .1 .1 .1 .1 .1 .1 .1 .0) (c .before .before .before .before .before .before .before .before .before .before .before .before .before .before .before .before .before .before .before .before .before .before .before .before .before .before .before .before .before .before .if2 .left) (omega (arith, pre .deep, pre .within)) (r .sound .seq-room) (sym (c .before .before .before .before .before .before .before .before .before .before .before .before .before .before .before .before .before .before .before .before .before .before .before .before .before .before .before .before .may .ensures (a .members .now) (a .edges .now)) ∙ c .before .before .before .before .before .before .before .before .before .before .before .before .before .before .before .before .before .before .before .before .before .before .before .before .before .before .before .if3 .taken) (c .before .before .before .before .before .before .before .before .before .before .before .before .before .before .before .before .before .before .before .before .before .before .before .before .push .ensures .0) (j .0) (c .before .before .before .before .before .before .before .before .last-planes .ensures)),
     )
 
-add-expand-images : (t : ℕ) → lts.Need-add-expand-images (may.Asked, may.Learnt, push.Asked, push.Learnt, too-far.Asked, too-far.Learnt, visit.Asked, visit.Learnt, last.Asked, last.Learnt, expand-below t, expand.Post) (expand-at t) expand.Post Inv-loop μ-loop
+add-expand-images : (t : ℕ) → lts.Need-add-expand-images (may.Asked, may.Learnt, push.Asked, push.Learnt, too-far.Asked, too-far.Learnt, passed.Asked, passed.Learnt, visit.Asked, visit.Learnt, last.Asked, last.Learnt, expand-below t, expand.Post) (expand-at t) expand.Post Inv-loop μ-loop
 add-expand-images t c =
     omega (arith, c .before .before .before .before .before .before .before .before .before .before .before .before .before .before .before .before .before .before .before .before .before .before .before .before .before .before .before .before .before .before .before .before .before .before .before .before .before .before .pre .1 .deep, c .before .before .before .before .before .before .before .before .before .before .before .before .before .before .before .before .before .before .before .before .before .before .before .before .before .before .before .before .before .before .before .before .before .before .before .before .before .before .pre .1 .within)
 
-expand-images-requires : (t : ℕ) → lts.Need-expand-images-requires (may.Asked, may.Learnt, push.Asked, push.Learnt, too-far.Asked, too-far.Learnt, visit.Asked, visit.Learnt, last.Asked, last.Learnt, expand-below t, expand.Post) (expand-at t) expand.Post Inv-loop μ-loop
+expand-images-requires : (t : ℕ) → lts.Need-expand-images-requires (may.Asked, may.Learnt, push.Asked, push.Learnt, too-far.Asked, too-far.Learnt, passed.Asked, passed.Learnt, visit.Asked, visit.Learnt, last.Asked, last.Learnt, expand-below t, expand.Post) (expand-at t) expand.Post Inv-loop μ-loop
 expand-images-requires t c κs =
     let a = c .before .before .before .before .before .before .before .before .before .before .before .before .before .before .before .before .before .before .before .before .before .before .before .before .before .before .before .before .before .before .before .before .before .before .before .before .before .before .before .before .before .before .args in
     let pre = c .before .before .before .before .before .before .before .before .before .before .before .before .before .before .before .before .before .before .before .before .before .before .before .before .before .before .before .before .before .before .before .before .before .before .before .before .before .before .before .before .before .before .pre .1 in
@@ -228,11 +229,11 @@ expand-images-requires t c κs =
     law.sound-visit S (a .q) (a .depth + 1) (c .before .before .before .before .before .before .before .before .before .before .before .before .before .before .before .push .last .1 .1 .1 .1 .1 .0) (c .before .before .before .before .before .before .before .before .before .before .before .before .before .before .before .push .last .1 .1 .1 .1 .1 .1 .0) (l .s) (c .before .before .before .before .before .before .before .before .if4 .s) (l .fs) (c .before .before .before .before .before .before .before .before .if4 .fs) (l .ws) (c .before .before .before .before .before .before .before .before .if4 .ws) (j .0) (v .sound) in
     (omega (arith, c .before .before .before .before .before .before .before .before .before .before .before .before .before .before .before .before .before .before .before .before .before .before .before .before .before .before .before .before .before .before .before .before .before .before .before .before .before .before .before .before .before .before .pre .0, pre .deep), law.ready-same S (a .q) (a .depth) (a .depth + 1) (state (l .seq) (l .images) (l .s)) (state (c .before .before .before .before .before .before .before .before .before .before .before .before .before .before .before .push .last .1 .1 .1 .1 .1 .0) (c .before .before .before .before .before .before .before .before .before .before .before .before .before .before .before .push .last .1 .1 .1 .1 .1 .1 .0) (c .before .before .before .before .before .before .before .before .if4 .s)) (l .fs) (c .before .before .before .before .before .before .before .before .if4 .fs) (l .ws) (c .before .before .before .before .before .before .before .before .if4 .ws) r (omega (arith, pre .deep, c .before .before .before .before .before .before .if5 .left)) (j .1) (j .2) sound)
 
-loop-less-4 : (t : ℕ) → lts.Need-loop-less-4 (may.Asked, may.Learnt, push.Asked, push.Learnt, too-far.Asked, too-far.Learnt, visit.Asked, visit.Learnt, last.Asked, last.Learnt, expand-below t, expand.Post) (expand-at t) expand.Post Inv-loop μ-loop
+loop-less-4 : (t : ℕ) → lts.Need-loop-less-4 (may.Asked, may.Learnt, push.Asked, push.Learnt, too-far.Asked, too-far.Learnt, passed.Asked, passed.Learnt, visit.Asked, visit.Learnt, last.Asked, last.Learnt, expand-below t, expand.Post) (expand-at t) expand.Post Inv-loop μ-loop
 loop-less-4 t c =
     omega (arith, c .before .before .before .before .before .before .before .before .before .before .before .before .before .before .before .before .before .before .before .before .before .before .before .before .before .before .before .before .before .before .before .before .before .if1 .taken)
 
-loop-again-4 : (t : ℕ) → lts.Need-loop-again-4 (may.Asked, may.Learnt, push.Asked, push.Learnt, too-far.Asked, too-far.Learnt, visit.Asked, visit.Learnt, last.Asked, last.Learnt, expand-below t, expand.Post) (expand-at t) expand.Post Inv-loop μ-loop
+loop-again-4 : (t : ℕ) → lts.Need-loop-again-4 (may.Asked, may.Learnt, push.Asked, push.Learnt, too-far.Asked, too-far.Learnt, passed.Asked, passed.Learnt, visit.Asked, visit.Learnt, last.Asked, last.Learnt, expand-below t, expand.Post) (expand-at t) expand.Post Inv-loop μ-loop
 loop-again-4 t c =
     let a = c .before .before .before .before .before .before .before .before .before .before .before .before .before .before .before .before .before .before .before .before .before .before .before .before .before .before .before .before .before .before .before .before .before .before .before .before .before .before .before .before .before .before .before .before .before .before .before .before .before .before .before .args in
     let pre = c .before .before .before .before .before .before .before .before .before .before .before .before .before .before .before .before .before .before .before .before .before .before .before .before .before .before .before .before .before .before .before .before .before .before .before .before .before .before .before .before .before .before .before .before .before .before .before .before .before .before .before .pre .1 in
@@ -250,11 +251,11 @@ loop-again-4 t c =
           (law.walked-visit S (a .q) (a .depth) (a .q .order - (a .depth + 1)) (l .p) (l .seq) (c .before .before .before .before .before .before .before .before .before .before .before .before .before .before .before .before .before .before .before .before .before .before .before .before .push .last .1 .1 .1 .1 .1 .0) (l .images) (c .before .before .before .before .before .before .before .before .before .before .before .before .before .before .before .before .before .before .before .before .before .before .before .before .push .last .1 .1 .1 .1 .1 .1 .0) (l .s) (c .before .before .before .before .before .before .before .before .before .before .before .before .before .before .before .before .before .if4 .s) (state (c .before .before .before .before .before .before .before .before .expand-images .last .1 .1 .1 .1 .1 .1 .1 .1 .1 .1 .1 .1 .1 .1 .0) (c .before .before .before .before .before .before .before .before .expand-images .last .1 .1 .1 .1 .1 .1 .1 .1 .1 .1 .1 .1 .1 .1 .1 .0) (c .before .before .before .before .before .before .before .before .expand-images .result)) (l .fs) (c .before .before .before .before .before .before .before .before .before .before .before .before .before .before .before .before .before .if4 .fs) (c .before .before .before .before .before .before .before .before .expand-images .last .1 .1 .1 .1 .1 .1 .1 .1 .1 .1 .1 .1 .1 .1 .1 .1 .0) (l .ws) (c .before .before .before .before .before .before .before .before .before .before .before .before .before .before .before .before .before .if4 .ws) (c .before .before .before .before .before .before .before .before .expand-images .last .1 .1 .1 .1 .1 .1 .1 .1 .1 .1 .1 .1 .1 .1 .1 .1 .1 .0) (c .before .before .before .before .before .before .before .before .before .before .before .before .before .before .before .before .before .before .before .before .before .before .before .before .before .before .before .before .before .before .if2 .left) (omega (arith, pre .deep, pre .within)) (r .sound .seq-room) (sym (c .before .before .before .before .before .before .before .before .before .before .before .before .before .before .before .before .before .before .before .before .before .before .before .before .before .before .before .before .may .ensures (a .members .now) (a .edges .now)) ∙ c .before .before .before .before .before .before .before .before .before .before .before .before .before .before .before .before .before .before .before .before .before .before .before .before .before .before .before .if3 .taken) (c .before .before .before .before .before .before .before .before .before .before .before .before .before .before .before .before .before .before .before .before .before .before .before .before .push .ensures .0) (j .0) (c .before .before .before .before .before .before .before .before .expand-images .ensures)),
     )
 
-loop-less-5 : (t : ℕ) → lts.Need-loop-less-5 (may.Asked, may.Learnt, push.Asked, push.Learnt, too-far.Asked, too-far.Learnt, visit.Asked, visit.Learnt, last.Asked, last.Learnt, expand-below t, expand.Post) (expand-at t) expand.Post Inv-loop μ-loop
+loop-less-5 : (t : ℕ) → lts.Need-loop-less-5 (may.Asked, may.Learnt, push.Asked, push.Learnt, too-far.Asked, too-far.Learnt, passed.Asked, passed.Learnt, visit.Asked, visit.Learnt, last.Asked, last.Learnt, expand-below t, expand.Post) (expand-at t) expand.Post Inv-loop μ-loop
 loop-less-5 t c =
     omega (arith, c .before .before .before .before .before .before .if1 .taken)
 
-loop-again-5 : (t : ℕ) → lts.Need-loop-again-5 (may.Asked, may.Learnt, push.Asked, push.Learnt, too-far.Asked, too-far.Learnt, visit.Asked, visit.Learnt, last.Asked, last.Learnt, expand-below t, expand.Post) (expand-at t) expand.Post Inv-loop μ-loop
+loop-again-5 : (t : ℕ) → lts.Need-loop-again-5 (may.Asked, may.Learnt, push.Asked, push.Learnt, too-far.Asked, too-far.Learnt, passed.Asked, passed.Learnt, visit.Asked, visit.Learnt, last.Asked, last.Learnt, expand-below t, expand.Post) (expand-at t) expand.Post Inv-loop μ-loop
 loop-again-5 t c =
     let a = c .before .before .before .before .before .before .before .before .before .before .before .before .before .before .before .before .before .before .before .before .before .before .before .before .args in
     let pre = c .before .before .before .before .before .before .before .before .before .before .before .before .before .before .before .before .before .before .before .before .before .before .before .before .pre .1 in
@@ -269,23 +270,23 @@ loop-again-5 t c =
           (law.walked-not S (a .q) (a .depth) (a .q .order - (a .depth + 1)) (l .p) (state (l .seq) (l .images) (l .s)) (l .fs) (l .ws) (sym (c .before .may .ensures (a .members .now) (a .edges .now)) ∙ c .if3 .left) (l .inv .5 .sound)),
     )
 
-same-length : (t : ℕ) → lts.Need-same-length (may.Asked, may.Learnt, push.Asked, push.Learnt, too-far.Asked, too-far.Learnt, visit.Asked, visit.Learnt, last.Asked, last.Learnt, expand-below t, expand.Post) (expand-at t) expand.Post Inv-loop μ-loop
+same-length : (t : ℕ) → lts.Need-same-length (may.Asked, may.Learnt, push.Asked, push.Learnt, too-far.Asked, too-far.Learnt, passed.Asked, passed.Learnt, visit.Asked, visit.Learnt, last.Asked, last.Learnt, expand-below t, expand.Post) (expand-at t) expand.Post Inv-loop μ-loop
 same-length t c =
     c .before .before .loop .inv .1
 
-same-length-2 : (t : ℕ) → lts.Need-same-length-2 (may.Asked, may.Learnt, push.Asked, push.Learnt, too-far.Asked, too-far.Learnt, visit.Asked, visit.Learnt, last.Asked, last.Learnt, expand-below t, expand.Post) (expand-at t) expand.Post Inv-loop μ-loop
+same-length-2 : (t : ℕ) → lts.Need-same-length-2 (may.Asked, may.Learnt, push.Asked, push.Learnt, too-far.Asked, too-far.Learnt, passed.Asked, passed.Learnt, visit.Asked, visit.Learnt, last.Asked, last.Learnt, expand-below t, expand.Post) (expand-at t) expand.Post Inv-loop μ-loop
 same-length-2 t c =
     c .before .before .loop .inv .2
 
-same-length-3 : (t : ℕ) → lts.Need-same-length-3 (may.Asked, may.Learnt, push.Asked, push.Learnt, too-far.Asked, too-far.Learnt, visit.Asked, visit.Learnt, last.Asked, last.Learnt, expand-below t, expand.Post) (expand-at t) expand.Post Inv-loop μ-loop
+same-length-3 : (t : ℕ) → lts.Need-same-length-3 (may.Asked, may.Learnt, push.Asked, push.Learnt, too-far.Asked, too-far.Learnt, passed.Asked, passed.Learnt, visit.Asked, visit.Learnt, last.Asked, last.Learnt, expand-below t, expand.Post) (expand-at t) expand.Post Inv-loop μ-loop
 same-length-3 t c =
     c .before .before .loop .inv .3
 
-same-length-4 : (t : ℕ) → lts.Need-same-length-4 (may.Asked, may.Learnt, push.Asked, push.Learnt, too-far.Asked, too-far.Learnt, visit.Asked, visit.Learnt, last.Asked, last.Learnt, expand-below t, expand.Post) (expand-at t) expand.Post Inv-loop μ-loop
+same-length-4 : (t : ℕ) → lts.Need-same-length-4 (may.Asked, may.Learnt, push.Asked, push.Learnt, too-far.Asked, too-far.Learnt, passed.Asked, passed.Learnt, visit.Asked, visit.Learnt, last.Asked, last.Learnt, expand-below t, expand.Post) (expand-at t) expand.Post Inv-loop μ-loop
 same-length-4 t c =
     c .before .before .loop .inv .4
 
-returns : (t : ℕ) → lts.Need-returns (may.Asked, may.Learnt, push.Asked, push.Learnt, too-far.Asked, too-far.Learnt, visit.Asked, visit.Learnt, last.Asked, last.Learnt, expand-below t, expand.Post) (expand-at t) expand.Post Inv-loop μ-loop
+returns : (t : ℕ) → lts.Need-returns (may.Asked, may.Learnt, push.Asked, push.Learnt, too-far.Asked, too-far.Learnt, passed.Asked, passed.Learnt, visit.Asked, visit.Learnt, last.Asked, last.Learnt, expand-below t, expand.Post) (expand-at t) expand.Post Inv-loop μ-loop
 returns t c =
     let a = c .before .before .before .before .before .before .before .before .before .before .before .before .before .before .before .before .before .before .args in
     let pre = c .before .before .before .before .before .before .before .before .before .before .before .before .before .before .before .before .before .before .pre .1 in
@@ -297,7 +298,7 @@ returns t c =
 pub +expand-images-spec : {M : Type 1} → statement M
 +expand-images-spec =
     close μ-expand λ t. lts.spec
-    (may.Asked, may.Learnt, push.Asked, push.Learnt, too-far.Asked, too-far.Learnt, visit.Asked, visit.Learnt, last.Asked, last.Learnt, expand-below t, expand.Post)
+    (may.Asked, may.Learnt, push.Asked, push.Learnt, too-far.Asked, too-far.Learnt, passed.Asked, passed.Learnt, visit.Asked, visit.Learnt, last.Asked, last.Learnt, expand-below t, expand.Post)
     (expand-at t)
     expand.Post
     Inv-loop
@@ -310,7 +311,7 @@ pub +expand-images-spec : {M : Type 1} → statement M
     (push-requires t)
     (add-too-far t)
     (too-far-requires t)
-    (add-s t)
+    (passed-over-requires t)
     (add-visit t)
     (visit-requires t)
     (add-if5 t)

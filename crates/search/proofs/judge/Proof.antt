@@ -24,32 +24,30 @@ validate-image-path-requires : tie.Need-validate-image-path-requires
 validate-image-path-requires c κs = let pre = c .before .before .before .before .before .before .before .before .before .before .before .before .before .before .before .before .before .pre in let k = pre .sound in
     (pre .lent, ((pre .some, pre .within, ap length (c .before .all-planes .ensures) ∙ k .seq-room), (rw (c .before .all-planes .ensures) (k .planes), rw (c .before .all-planes .ensures) (λ j h. c .all-points .ensures j (omega (arith, h, pre .within)) ∙ k .are j h))))
 
-add-s : tie.Need-add-s
-add-s c = omega (arith, c .before .before .before .before .before .before .before .before .before .before .before .before .before .before .before .before .before .before .before .pre .under)
-
-add-s-2 : tie.Need-add-s-2
-add-s-2 c = let k = c .before .before .before .before .before .before .before .before .before .before .before .before .before .before .before .before .before .before .before .before .before .pre .sound .cost in let m = c .before .before .before .before .before .before .before .before .before .before .before .before .before .before .before .before .before .before .before .before .before .pre .under in let l = c .before .before .before .before .before .before .before .before .before .before .before .before .before .before .before .before .before .before .before .before .before .pre .within in let b = c .before .before .before .validate-image-path .ensures .1 in omega (arith, k, m, l, b)
-
 enum-known-fate : tie.Need-enum-known-fate
 enum-known-fate c = c .match .keys1
 
+counted-requires : tie.Need-counted-requires
+counted-requires c κs = let k = c .before .before .before .before .before .before .before .before .before .before .before .before .before .before .before .before .before .before .before .pre .sound .cost in let m = c .before .before .before .before .before .before .before .before .before .before .before .before .before .before .before .before .before .before .before .pre .under in let l = c .before .before .before .before .before .before .before .before .before .before .before .before .before .before .before .before .before .before .before .pre .within in let b = c .before .validate-image-path .ensures .1 in (omega (arith, m), omega (arith, k, m, l, b))
+
 returns : tie.Need-returns
 unfolding visitPath outcomeOf
-returns c = let a = c .before .before .before .before .before .before .before .before .before .before .before .before .before .before .before .before .before .before .before .before .before .before .args in
-    let pre = c .before .before .before .before .before .before .before .before .before .before .before .before .before .before .before .before .before .before .before .before .before .before .pre in
-    let v = c .before .before .before .before .validate-image-path in
-    record {
+returns c = let a = c .before .before .before .before .before .before .before .before .before .before .before .before .before .before .before .before .before .before .before .before .args in
+    let pre = c .before .before .before .before .before .before .before .before .before .before .before .before .before .before .before .before .before .before .before .before .pre in
+    let v = c .before .before .validate-image-path in
+    rw (c .counted .ensures)
+    (record {
       counted = refl;
       cost = let b = v .ensures .1 in omega (arith, b, pre .within);
       few = pre .sound .few;
       seen =
           λ tri t h.
           judged-fails (a .q .room) (a .t .found) (a .t .nodes) (a .t .rays) (v .result .rays) (a .fs .now) (a .ws .now) (not (eqb (a .t .over) 0)) (take (a .len) (a .seq .now)) _
-          (ap outcomeOf (sym (rw (c .before .before .before .before .before .before .all-planes .ensures) at (v .ensures .0 tri t h))) ∙ not-passed (v .result .fate) (v .result .rays) (c .match .keys2));
-    }
+          (ap outcomeOf (sym (rw (c .before .before .before .before .all-planes .ensures) at (v .ensures .0 tri t h))) ∙ not-passed (v .result .fate) (v .result .rays) (c .before .match .keys2));
+    })
 
 keep-requires : tie.Need-keep-requires
-keep-requires c κs = let pre = c .before .before .before .before .before .before .before .before .before .before .before .before .before .before .before .before .before .before .before .before .before .before .before .before .before .before .pre in ((pre .within, pre .sound .few), pre .room)
+keep-requires c κs = let pre = c .before .before .before .before .before .before .before .before .before .before .before .before .before .before .before .before .before .before .before .before .before .before .before .pre in let k = pre .sound .cost in let m = pre .under in let l = pre .within in let b = c .before .before .before .before .before .validate-image-path .ensures .1 in ((l, pre .sound .few), ((omega (arith, m), omega (arith, k, m, l, b)), pre .room))
 
 same-length : tie.Need-same-length
 same-length c = c .before .before .before .before .keep .kept .1 .1 .1 .1 .1 .0
@@ -59,20 +57,20 @@ same-length-2 c = c .before .before .before .before .keep .kept .1 .1 .1 .1 .1 .
 
 returns-2 : tie.Need-returns-2
 unfolding visitPath outcomeOf
-returns-2 c = let a = c .before .before .before .before .before .before .before .before .before .before .before .before .before .before .before .before .before .before .before .before .before .before .before .before .before .before .before .before .before .before .before .args in
-    let pre = c .before .before .before .before .before .before .before .before .before .before .before .before .before .before .before .before .before .before .before .before .before .before .before .before .before .before .before .before .before .before .before .pre in
-    let v = c .before .before .before .before .before .before .before .before .before .before .before .before .before .validate-image-path in
+returns-2 c = let a = c .before .before .before .before .before .before .before .before .before .before .before .before .before .before .before .before .before .before .before .before .before .before .before .before .before .before .before .before .args in
+    let pre = c .before .before .before .before .before .before .before .before .before .before .before .before .before .before .before .before .before .before .before .before .before .before .before .before .before .before .before .before .pre in
+    let v = c .before .before .before .before .before .before .before .before .before .before .validate-image-path in
     let k = c .before .before .before .before .keep .ensures in
     let long : length (take (a .len) (a .seq .now)) ≡ a .len = length-take-le (a .len) (a .seq .now) (omega (arith, pre .sound .seq-room, pre .within)) in
     record {
-      counted = k .same-nodes;
-      cost = let b = v .ensures .1 in let e = k .same-rays in omega (arith, b, e, pre .within);
+      counted = k .counted;
+      cost = let b = v .ensures .1 in let e = k .traced in omega (arith, b, e, pre .within);
       few = k .few;
       seen =
           λ tri t h.
           k .held (take (a .len) (a .seq .now)) long
           ∙ judged-passes (a .q .room) (a .t .found) (a .t .nodes) (a .t .rays) (v .result .rays) (a .fs .now) (a .ws .now) (not (eqb (a .t .over) 0)) (take (a .len) (a .seq .now)) _ _
-          (ap outcomeOf (sym (rw (c .before .before .before .before .before .before .before .before .before .before .before .before .before .before .before .all-planes .ensures) at (v .ensures .0 tri t h))) ∙ passed (v .result .fate) (v .result .rays) _ (c .before .before .before .before .before .before .before .before .fate .given .1));
+          (ap outcomeOf (sym (rw (c .before .before .before .before .before .before .before .before .before .before .before .before .all-planes .ensures) at (v .ensures .0 tri t h))) ∙ passed (v .result .fate) (v .result .rays) _ (c .before .before .before .before .before .before .before .before .fate .given .1));
     }
 
 pub judge-spec : {M : Type 1} → statement M
@@ -82,9 +80,8 @@ judge-spec =
     all-planes-requires
     all-points-requires
     validate-image-path-requires
-    add-s
-    add-s-2
     enum-known-fate
+    counted-requires
     returns
     keep-requires
     same-length

@@ -22,13 +22,13 @@ same-length-2 c = c .before .before .before .before .judge .kept .1 .1 .1 .1 .1 
 returns : tie.Need-returns
 returns c = c .before .before .before .before .judge .ensures
 
-add-s : tie.Need-add-s
-add-s c = omega (arith, c .before .before .before .before .before .before .before .before .before .before .before .before .before .before .before .before .before .before .pre .under)
+passed-over-requires : tie.Need-passed-over-requires
+passed-over-requires c κs = c .before .before .before .before .before .before .before .before .before .before .before .before .before .before .before .before .before .pre .under
 
 returns-2 : tie.Need-returns-2
 returns-2 c = let a = c .before .before .before .before .before .before .before .before .before .before .before .before .before .before .before .before .before .before .args in
     let pre = c .before .before .before .before .before .before .before .before .before .before .before .before .before .before .before .before .before .before .pre in
-    law.visited-lost (scene (a .padded .now) (a .nodes .now) (a .perm .now) (a .rows .now) (a .handles .now) (a .materials .now) (a .columns .now) (a .floats .now) (a .words .now) (a .members .now) (a .edges .now)) (a .q) (a .len) (a .seq .now) (a .images .now) (a .t) (a .fs .now) (a .ws .now) (pre .within) (pre .sound) (c .before .before .made .ensures (c .before .if1 .left))
+    rw (c .passed-over .ensures) (law.visited-lost (scene (a .padded .now) (a .nodes .now) (a .perm .now) (a .rows .now) (a .handles .now) (a .materials .now) (a .columns .now) (a .floats .now) (a .words .now) (a .members .now) (a .edges .now)) (a .q) (a .len) (a .seq .now) (a .images .now) (a .t) (a .fs .now) (a .ws .now) (pre .within) (pre .sound) (c .before .before .made .ensures (c .before .if1 .left)))
 
 pub visit-spec : {M : Type 1} → statement M
 visit-spec =
@@ -39,5 +39,5 @@ visit-spec =
     same-length
     same-length-2
     returns
-    add-s
+    passed-over-requires
     returns-2)
