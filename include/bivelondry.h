@@ -171,7 +171,7 @@ typedef char biv_tap_is_14_words[sizeof(struct biv_tap) == 14 * sizeof(uint32_t)
 
 typedef char biv_size_is_64_bits[sizeof(size_t) == 8 ? 1 : -1];
 
-#define BIV_AREAS_LENT 23 /* 22 work areas and the output */
+#define BIV_AREAS_LENT 20 /* 19 work areas and the output */
 
 /* exports/specs/Lengths.antt. The least lengths of all areas, in elements, for so many triples and candidates; false for more than 4,096 triples. */
 bool biv_area_lengths(size_t triples, uint32_t c, size_t *lens, size_t lens_len);
@@ -184,7 +184,7 @@ uint32_t biv_packet_write(size_t count, uint32_t images, uint32_t rays, const ui
                           size_t *found, size_t found_len);
 
 /* query/specs/Trace.antt, Traced. From settings, scene parts and positions to the packet of taps in out. Answers the refusal, or 0. found (4 words
- * or more) gets count, images, rays and the packet's length, zeros after a refusal. The 22 work areas come first, in the order of docs/AREAS.md,
+ * or more) gets count, images, rays and the packet's length, zeros after a refusal. The 19 work areas come first, in the order of docs/AREAS.md,
  * which has their least lengths in whole triples T and c; short ones are refused. What they hold does not matter. After the refusals 1 to 5 they are
  * as they were, after 6, 7 and a result all zero. out (3,465 bytes or more) gets the packet, and is as it was past it and after a refusal. counts has 5
  * words: max_reflection_order, max_reflections, max_reflection_planes, plane_merge (0 or not), curve (0 is Inverse). setting_floats has 11:
@@ -195,8 +195,7 @@ uint32_t biv_packet_write(size_t count, uint32_t images, uint32_t rays, const ui
 uint32_t biv_trace_early_reflections(float *columns, size_t columns_len, uint32_t *handles, size_t handles_len, float *tree, size_t tree_len,
                                      uint32_t *nodes, size_t nodes_len, uint32_t *perm, size_t perm_len, uint64_t *hi, size_t hi_len,
                                      uint64_t *lo, size_t lo_len, uint64_t *words, size_t words_len, uint64_t *scratch, size_t scratch_len,
-                                     uint32_t *index, size_t index_len, uint32_t *id, size_t id_len, uint32_t *first, size_t first_len,
-                                     uint32_t *next, size_t next_len, uint32_t *of, size_t of_len, uint32_t *linked, size_t linked_len,
+                                     uint32_t *index, size_t index_len, uint32_t *id, size_t id_len, uint32_t *linked, size_t linked_len,
                                      uint32_t *queue, size_t queue_len, uint32_t *starts, size_t starts_len, float *gfloats, size_t gfloats_len,
                                      uint32_t *members, size_t members_len, float *rows, size_t rows_len, uint32_t *kept, size_t kept_len,
                                      float *edges, size_t edges_len, uint8_t *out, size_t out_len, size_t *found, size_t found_len,
@@ -212,9 +211,8 @@ uint32_t biv_trace_early_reflections(float *columns, size_t columns_len, uint32_
 #define BIV_WORK(AREA) \
     AREA(0, columns, float) AREA(1, handles, uint32_t) AREA(2, tree, float) AREA(3, nodes, uint32_t) AREA(4, perm, uint32_t) \
     AREA(5, hi, uint64_t) AREA(6, lo, uint64_t) AREA(7, words, uint64_t) AREA(8, scratch, uint64_t) AREA(9, index, uint32_t) \
-    AREA(10, id, uint32_t) AREA(11, first, uint32_t) AREA(12, next, uint32_t) AREA(13, of, uint32_t) AREA(14, linked, uint32_t) \
-    AREA(15, queue, uint32_t) AREA(16, starts, uint32_t) AREA(17, gfloats, float) AREA(18, members, uint32_t) AREA(19, rows, float) \
-    AREA(20, kept, uint32_t) AREA(21, edges, float)
+    AREA(10, id, uint32_t) AREA(11, linked, uint32_t) AREA(12, queue, uint32_t) AREA(13, starts, uint32_t) AREA(14, gfloats, float) \
+    AREA(15, members, uint32_t) AREA(16, rows, float) AREA(17, kept, uint32_t) AREA(18, edges, float)
 
 #define BIV_FIELD(i, name, type) type *name;
 struct biv_work {
@@ -291,9 +289,9 @@ static inline uint32_t biv_trace(const struct biv_settings *settings, uint32_t c
     if (m->curve <= BIV_LINEAR)
         refusal = biv_trace_early_reflections(
             w.columns, w.lens[0], w.handles, w.lens[1], w.tree, w.lens[2], w.nodes, w.lens[3], w.perm, w.lens[4], w.hi, w.lens[5], w.lo, w.lens[6],
-            w.words, w.lens[7], w.scratch, w.lens[8], w.index, w.lens[9], w.id, w.lens[10], w.first, w.lens[11], w.next, w.lens[12],
-            w.of, w.lens[13], w.linked, w.lens[14], w.queue, w.lens[15], w.starts, w.lens[16], w.gfloats, w.lens[17], w.members, w.lens[18],
-            w.rows, w.lens[19], w.kept, w.lens[20], w.edges, w.lens[21], out, out_len, found, 4, counts, 5, floats, 11, c,
+            w.words, w.lens[7], w.scratch, w.lens[8], w.index, w.lens[9], w.id, w.lens[10], w.linked, w.lens[11], w.queue, w.lens[12],
+            w.starts, w.lens[13], w.gfloats, w.lens[14], w.members, w.lens[15], w.rows, w.lens[16], w.kept, w.lens[17], w.edges, w.lens[18],
+            out, out_len, found, 4, counts, 5, floats, 11, c,
             (const uint32_t *)biv_part(scene->meshes), scene->meshes_len, (const float *)biv_part(scene->transforms), scene->transforms_len,
             (const float *)biv_part(scene->positions), scene->positions_len, (const uint32_t *)biv_part(scene->indices), scene->indices_len,
             (const float *)biv_part(scene->materials), scene->materials_len, scene->rows, source, 3, listener, 3, separated);

@@ -38,7 +38,7 @@ void biv_sort_by_key(const uint64_t *keys, size_t keys_len, uint32_t *index, siz
 /* placing/specs/Loading.antt. Answers the first refusal of 1 to 6 that applies; or 0, with found[0..3] the triangles kept, the placings
  * made and the whole triples. counts has 5 words: max_reflection_order, max_reflections, max_reflection_planes, plane_merge (0 or not),
  * curve (0 is Inverse). floats has 11: reflection_edge_fade, max_reflection_distance, speed_of_sound, sample_rate, plane_merge_cos,
- * plane_merge_offset, plane_buried_distance, reference_distance, rolloff_factor, min_distance, max_distance. lens has 23: the lengths of
+ * plane_merge_offset, plane_buried_distance, reference_distance, rolloff_factor, min_distance, max_distance. lens has 20: the lengths of
  * all areas that a query is lent, in the order of docs/AREAS.md, the first two columns_len and handles_len. found has 3 or more. The
  * lengths of counts, floats, lens and found, and those two, are the caller's to keep; every other length is tested. */
 uint32_t biv_load_scene(const uint32_t *counts, size_t counts_len, const float *floats, size_t floats_len, uint32_t c,
@@ -83,7 +83,7 @@ bool biv_intersect(const float *padded, size_t padded_len, const uint32_t *nodes
  * handles; m <= n <= 4,096), over their tree of nodes_count above 0 nodes in padded, nodes, perm and leaves (rows of biv_build_flat_bvh), by
  * the settings counts and setting_floats (as for biv_load_scene). Answers how many planes there are; they stand in rows (12 floats each),
  * kept (5 words each), members and edges, as biv_path takes them. Lengths: hi, lo and index 3 n exactly; at least words and scratch 24 n, id
- * and queue 3 n, first and of n, next and members n + 1, starts 3 n + 1, linked 24 n and 4,096, kept 5 n, rows and gfloats 12 n, edges 18 n.
+ * and queue 3 n, members n + 1, starts 3 n + 1, linked 24 n, kept 5 n, rows and gfloats 12 n, edges 18 n.
  * The caller keeps them. */
 size_t biv_build_planes(const float *columns, size_t columns_len, const uint32_t *handles, size_t handles_len, size_t n, size_t m,
                         const uint32_t *counts, size_t counts_len, const float *setting_floats, size_t setting_floats_len,
@@ -91,7 +91,6 @@ size_t biv_build_planes(const float *columns, size_t columns_len, const uint32_t
                         const float *leaves, size_t leaves_len, size_t nodes_count,
                         uint64_t *hi, size_t hi_len, uint64_t *lo, size_t lo_len, uint64_t *words, size_t words_len,
                         uint64_t *scratch, size_t scratch_len, uint32_t *index, size_t index_len, uint32_t *id, size_t id_len,
-                        uint32_t *first, size_t first_len, uint32_t *next, size_t next_len, uint32_t *of, size_t of_len,
                         uint32_t *linked, size_t linked_len, uint32_t *queue, size_t queue_len, uint32_t *starts, size_t starts_len,
                         float *gfloats, size_t gfloats_len, uint32_t *members, size_t members_len, float *rows, size_t rows_len,
                         uint32_t *kept, size_t kept_len, float *edges, size_t edges_len);

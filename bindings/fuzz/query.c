@@ -82,7 +82,7 @@ static size_t lent(size_t k, const uint32_t *meshes, size_t words, uint32_t rows
 int LLVMFuzzerTestOneInput(const uint8_t *data, size_t size)
 {
     static struct guard parts[5], areas[BIV_AREAS_LENT], first;
-    static const size_t element[22] = {4, 4, 4, 4, 4, 8, 8, 8, 8, 4, 4, 4, 4, 4, 4, 4, 4, 4, 4, 4, 4, 4};
+    static const size_t element[19] = {4, 4, 4, 4, 4, 8, 8, 8, 8, 4, 4, 4, 4, 4, 4, 4, 4, 4, 4};
     size_t n = size / 4, at = HEADER, lens[5], room[BIV_AREAS_LENT], triples = 0;
     void *part[5], *area[BIV_AREAS_LENT];
     if (n < HEADER)
@@ -118,28 +118,27 @@ int LLVMFuzzerTestOneInput(const uint8_t *data, size_t size)
         size_t found[4] = {7, 7, 7, 7};
         uint8_t fill = turn == 0 ? 0x5a : 0xff; /* the second are NaN */
         for (int i = 0; i < BIV_AREAS_LENT; i++)
-            area[i] = filled(&areas[i], fill, room[i] * (i < 22 ? element[i] : 1));
-        uint8_t *out = (uint8_t *)area[22];
+            area[i] = filled(&areas[i], fill, room[i] * (i < 19 ? element[i] : 1));
+        uint8_t *out = (uint8_t *)area[19];
         uint32_t refusal = biv_trace_early_reflections(
             (float *)area[0], room[0], (uint32_t *)area[1], room[1], (float *)area[2], room[2], (uint32_t *)area[3], room[3], (uint32_t *)area[4],
             room[4], (uint64_t *)area[5], room[5], (uint64_t *)area[6], room[6], (uint64_t *)area[7], room[7], (uint64_t *)area[8], room[8],
             (uint32_t *)area[9], room[9], (uint32_t *)area[10], room[10], (uint32_t *)area[11], room[11], (uint32_t *)area[12], room[12],
-            (uint32_t *)area[13], room[13], (uint32_t *)area[14], room[14], (uint32_t *)area[15], room[15], (uint32_t *)area[16], room[16],
-            (float *)area[17], room[17], (uint32_t *)area[18], room[18], (float *)area[19], room[19], (uint32_t *)area[20], room[20],
-            (float *)area[21], room[21], out, room[22], found, 4, counts, 5, floats, 11, c, (const uint32_t *)part[0], lens[0],
+            (uint32_t *)area[13], room[13], (float *)area[14], room[14], (uint32_t *)area[15], room[15], (float *)area[16], room[16],
+            (uint32_t *)area[17], room[17], (float *)area[18], room[18], out, room[19], found, 4, counts, 5, floats, 11, c, (const uint32_t *)part[0], lens[0],
             (const float *)part[1], lens[1], (const float *)part[2], lens[2], (const uint32_t *)part[3], lens[3], (const float *)part[4], lens[4],
             word(data, 22), source, 3, listener, 3, (word(data, 23) & 1) != 0);
         must(refusal <= BIV_CANDIDATES, "a refusal of the query");
         count(refusal);
-        for (int i = 0; i < 22; i++)
+        for (int i = 0; i < 19; i++)
             must(all_are(area[i], 0, room[i] * element[i], refusal >= 1 && refusal <= 5 ? fill : 0), "areas as they were after 1 to 5, else zero");
         if (refusal != BIV_NO_REFUSAL) {
             must(found[0] == 0 && found[1] == 0 && found[2] == 0 && found[3] == 0, "no counts after a refusal");
-            must(all_are(out, 0, room[22], fill), "the output as it was after a refusal");
+            must(all_are(out, 0, room[19], fill), "the output as it was after a refusal");
         } else {
             struct biv_tap taps[BIV_MOST_TAPS];
             struct biv_answer a;
-            must(found[3] <= room[22] && all_are(out, found[3], room[22], fill), "nothing past the packet");
+            must(found[3] <= room[19] && all_are(out, found[3], room[19], fill), "nothing past the packet");
             must(biv_read(out, found[3], taps, &a) == BIV_NO_REFUSAL, "a packet that the reader takes");
             must(a.count == found[0] && a.images == found[1] && a.rays == found[2], "its counts");
             must(a.count <= counts[1] && a.images <= 250000 && a.rays <= 162u * (counts[0] + 1) * a.images, "counts within their bounds");

@@ -3,7 +3,7 @@
 use crate::Scene;
 
 /// Areas that a query is lent, and how many of them are work areas; the last is the output.
-pub const AREAS: usize = 23;
+pub const AREAS: usize = 20;
 pub const WORK: usize = AREAS - 1;
 
 /// Words of a tap: order, number, direction, delay, gains.
@@ -21,8 +21,7 @@ extern "C" {
         columns: *mut f32, columns_len: usize, handles: *mut u32, handles_len: usize, tree: *mut f32, tree_len: usize,
         nodes: *mut u32, nodes_len: usize, perm: *mut u32, perm_len: usize, hi: *mut u64, hi_len: usize, lo: *mut u64, lo_len: usize,
         words: *mut u64, words_len: usize, scratch: *mut u64, scratch_len: usize, index: *mut u32, index_len: usize,
-        id: *mut u32, id_len: usize, first: *mut u32, first_len: usize, next: *mut u32, next_len: usize, of: *mut u32, of_len: usize,
-        linked: *mut u32, linked_len: usize, queue: *mut u32, queue_len: usize, starts: *mut u32, starts_len: usize,
+        id: *mut u32, id_len: usize, linked: *mut u32, linked_len: usize, queue: *mut u32, queue_len: usize, starts: *mut u32, starts_len: usize,
         gfloats: *mut f32, gfloats_len: usize, members: *mut u32, members_len: usize, rows: *mut f32, rows_len: usize,
         kept: *mut u32, kept_len: usize, edges: *mut f32, edges_len: usize, out: *mut u8, out_len: usize,
         found: *mut usize, found_len: usize, counts: *const u32, counts_len: usize,
@@ -47,8 +46,8 @@ pub unsafe fn trace(
     let n = |i| at(i).1;
     biv_trace_early_reflections(
         f(0), n(0), w(1), n(1), f(2), n(2), w(3), n(3), w(4), n(4), at(5).0, n(5), at(6).0, n(6), at(7).0, n(7), at(8).0, n(8), w(9), n(9),
-        w(10), n(10), w(11), n(11), w(12), n(12), w(13), n(13), w(14), n(14), w(15), n(15), w(16), n(16), f(17), n(17), w(18), n(18),
-        f(19), n(19), w(20), n(20), f(21), n(21), out, out_len, found.as_mut_ptr(), found.len(), counts.as_ptr(), counts.len(),
+        w(10), n(10), w(11), n(11), w(12), n(12), w(13), n(13), f(14), n(14), w(15), n(15), f(16), n(16), w(17), n(17), f(18), n(18),
+        out, out_len, found.as_mut_ptr(), found.len(), counts.as_ptr(), counts.len(),
         floats.as_ptr(), floats.len(), c, s.meshes.as_ptr(), s.meshes.len(), s.transforms.as_ptr(), s.transforms.len(),
         s.positions.as_ptr(), s.positions.len(), s.indices.as_ptr(), s.indices.len(), s.materials.as_ptr(), s.materials.len(), s.rows,
         source.as_ptr(), source.len(), listener.as_ptr(), listener.len(), separated,

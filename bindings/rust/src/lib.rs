@@ -262,7 +262,7 @@ pub struct Workspace {
 }
 
 /// The bytes of an element of each work area, in the order of docs/AREAS.md.
-const ELEMENTS: [usize; ffi::WORK] = [4, 4, 4, 4, 4, 8, 8, 8, 8, 4, 4, 4, 4, 4, 4, 4, 4, 4, 4, 4, 4, 4];
+const ELEMENTS: [usize; ffi::WORK] = [4, 4, 4, 4, 4, 8, 8, 8, 8, 4, 4, 4, 4, 4, 4, 4, 4, 4, 4];
 
 impl Workspace {
     /// Room for so many candidates, which is more than the taps sent: a query with more is refused with [`Refusal::Candidates`].
@@ -287,7 +287,7 @@ impl Workspace {
         let mut lens = [0usize; ffi::AREAS];
         let mut areas = [(0, 0); ffi::WORK];
         // more candidates are refused before an area is looked at
-        // SAFETY: lens has 23 elements.
+        // SAFETY: lens has 20 elements.
         if self.c > MOST_CANDIDATES || !unsafe { ffi::biv_area_lengths(triples, self.c, lens.as_mut_ptr(), lens.len()) } {
             return areas;
         }

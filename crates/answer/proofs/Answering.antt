@@ -64,6 +64,6 @@ by-same (suc k) q q′ r out out′ e h = h
 
 -- what sending asks, with the list's limit as used
 pub sends-limit :
-    (n l l′ images : ℕ) (fs : List Float) (ws keys index words scratch kept taps out : List ℕ) → l′ ≡ l → Sends n l images fs ws keys index words scratch kept taps out →
-    Sends n l′ images fs ws keys index words scratch kept taps out
-sends-limit n l l′ images fs ws keys index words scratch kept taps out e h = subst (λ (k : ℕ). Sends n k images fs ws keys index words scratch kept taps out) (sym e) h
+    (n l l′ images : ℕ) (fs : List Float) (ws keys index words scratch out : List ℕ) → l′ ≡ l → Sends n l images fs ws keys index words scratch out →
+    Sends n l′ images fs ws keys index words scratch out
+sends-limit n l l′ images fs ws keys index words scratch out e h = subst (λ (k : ℕ). Sends n k images fs ws keys index words scratch out) (sym e) h

@@ -49,11 +49,10 @@ pub record Sane (st : Settings) : Type 0 where
   pub fit : ModelFits (st .«distance_model»)
 
 -- the areas of ranking and the packet, beside those of the planes
-pub record SendRoom (room limit : ℕ) (hi queue words scratch next out : List ℕ) : Type 0 where
+pub record SendRoom (room limit : ℕ) (hi queue words scratch out : List ℕ) : Type 0 where
   pub few : limit ≤ mostTaps
   pub hi-room : room ≤ length hi
   pub queue-room : room ≤ length queue
   pub words-room : room ≤ length words
   pub scratch-room : room ≤ length scratch
-  pub next-room : limit ≤ length next
   pub out-room : outBytes ≤ length out

@@ -39,12 +39,12 @@ pub record HeldScene (columns : List Float) (handles : List ℕ) (n m : ℕ) (ma
 
 -- where something is searched: such a scene, and room for its tree, its planes and the candidates
 pub record Heard
-    (st : Settings) (n m room : ℕ) (columns : List Float) (handles : List ℕ) (materials tree : List Float) (nodes perm hi lo words scratch index id first next of linked queue starts members kept : List ℕ) (rows gfloats edges : List Float)
+    (st : Settings) (n m room : ℕ) (columns : List Float) (handles : List ℕ) (materials tree : List Float) (nodes perm hi lo words scratch index id linked queue starts members kept : List ℕ) (rows gfloats edges : List Float)
     : Type 0 where
   pub held : HeldScene columns handles n m materials
   pub lent : TrianglesLent columns handles n m
   pub for-tree : TreeRoom n tree nodes perm
-  pub for-planes : PlanesRoom n hi lo words scratch index id first next of linked queue starts members kept rows gfloats edges
+  pub for-planes : PlanesRoom n hi lo words scratch index id linked queue starts members kept rows gfloats edges
   pub few : st .«max_reflection_planes» ≤ mostPlanes
   pub for-found : Rows room gfloats id
 
@@ -67,17 +67,17 @@ pub record LoadedScene (columns : List Float) (handles : List ℕ) (n m : ℕ) (
 
 -- where no refusal of 1 to 6 applies: such a scene, settings within their limits, and room for all
 pub record Ready
-    (st : Settings) (n m room : ℕ) (columns : List Float) (handles : List ℕ) (materials tree : List Float) (nodes perm hi lo words scratch index id first next of linked queue starts members kept : List ℕ) (rows gfloats edges : List Float)
+    (st : Settings) (n m room : ℕ) (columns : List Float) (handles : List ℕ) (materials tree : List Float) (nodes perm hi lo words scratch index id linked queue starts members kept : List ℕ) (rows gfloats edges : List Float)
     (out : List ℕ)
     : Type 0 where
   pub scene : LoadedScene columns handles n m materials
   pub lent : TrianglesLent columns handles n m
   pub for-tree : TreeRoom n tree nodes perm
-  pub for-planes : PlanesRoom n hi lo words scratch index id first next of linked queue starts members kept rows gfloats edges
+  pub for-planes : PlanesRoom n hi lo words scratch index id linked queue starts members kept rows gfloats edges
   pub few : st .«max_reflection_planes» ≤ mostPlanes
   pub for-found : Rows room gfloats id
   pub sane : Sane st
-  pub for-list : SendRoom room (limitOf st) hi queue words scratch next out
+  pub for-list : SendRoom room (limitOf st) hi queue words scratch out
 
 -- the answer is the refusal k, or where that is 0 that of the query over the triangles of the scene that was loaded
 pub record AnswersLoaded

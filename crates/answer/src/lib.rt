@@ -42,9 +42,6 @@ fn search_scene(
     scratch: &mut [u64],
     index: &mut [u32],
     id: &mut [u32],
-    first: &mut [u32],
-    next: &mut [u32],
-    of: &mut [u32],
     linked: &mut [u32],
     queue: &mut [u32],
     starts: &mut [u32],
@@ -71,7 +68,7 @@ fn search_scene(
 ) -> Found
     requires { ⌜ TrianglesLent (now columns) (now handles) n m ⌝ }
     requires { ⌜ Traceable (now padded) (now nodes) (now perm) (now leaves) (now handles) «nodes_count» (now materials) ⌝ }
-    requires { ⌜ PlanesRoom n (now hi) (now lo) (now words) (now scratch) (now index) (now id) (now first) (now next) (now of) (now linked) (now queue) (now starts) (now members) (now kept) (now rows) (now gfloats) (now edges) ⌝ }
+    requires { ⌜ PlanesRoom n (now hi) (now lo) (now words) (now scratch) (now index) (now id) (now linked) (now queue) (now starts) (now members) (now kept) (now rows) (now gfloats) (now edges) ⌝ }
     requires { ⌜ (order ≤ maxOrder) × (settings .«max_reflection_planes» ≤ mostPlanes) ⌝ }
     requires { ⌜ Rows room (now gfloats) (now id) ⌝ }
     ensures { λ r. ⌜ ((ts : List Triangle) → TrianglesRead ts (now (columns .entry)) (now (handles .entry)) n m (now (materials .entry)) → TreeStands ts (now (padded .entry)) (now (nodes .entry)) (now (perm .entry)) (now (leaves .entry)) (now (handles .entry)) «nodes_count» → search (r .images) (r .rays) (candidatesIn (r .found) (now (gfloats .exit)) (now (id .exit))) (r .over) ≡ searchFor settings ts (now (materials .entry)) source listener order room) ⌝ }
@@ -94,9 +91,6 @@ fn search_scene(
         scratch,
         index,
         id,
-        first,
-        next,
-        of,
         linked,
         queue,
         starts,
@@ -144,9 +138,6 @@ fn find(
     scratch: &mut [u64],
     index: &mut [u32],
     id: &mut [u32],
-    first: &mut [u32],
-    next: &mut [u32],
-    of: &mut [u32],
     linked: &mut [u32],
     queue: &mut [u32],
     starts: &mut [u32],
@@ -166,7 +157,7 @@ fn find(
     separated: bool,
     room: usize,
 ) -> Found
-    requires { ⌜ (silentOf separated source listener m ≡ false → Heard settings n m room (now columns) (now handles) (now materials) (now tree) (now nodes) (now perm) (now hi) (now lo) (now words) (now scratch) (now index) (now id) (now first) (now next) (now of) (now linked) (now queue) (now starts) (now members) (now kept) (now rows) (now gfloats) (now edges)) ⌝ }
+    requires { ⌜ (silentOf separated source listener m ≡ false → Heard settings n m room (now columns) (now handles) (now materials) (now tree) (now nodes) (now perm) (now hi) (now lo) (now words) (now scratch) (now index) (now id) (now linked) (now queue) (now starts) (now members) (now kept) (now rows) (now gfloats) (now edges)) ⌝ }
     ensures { λ r. ⌜ Finds settings source listener separated room n m (now (columns .entry)) (now (handles .entry)) (now (materials .entry)) r (now (gfloats .exit)) (now (id .exit)) ⌝ }
     ensures { λ r. ⌜ r .found ≤ room ⌝ }
 {
@@ -203,9 +194,6 @@ fn find(
         scratch,
         index,
         id,
-        first,
-        next,
-        of,
         linked,
         queue,
         starts,
@@ -245,14 +233,12 @@ pub fn refused(k: u32) -> Answered
 }
 
 // What the search found as an answer: the refusal handed in, refusal 7, or the packet of the best taps at the front of out. hi holds the keys, queue the
-// order, next the positions kept, linked the taps.
+// order.
 fn send(
     hi: &mut [u64],
     queue: &mut [u32],
     words: &mut [u64],
     scratch: &mut [u64],
-    next: &mut [u32],
-    linked: &mut [u32],
     out: &mut [u8],
     fs: &[f32],
     ws: &[u32],
@@ -260,7 +246,7 @@ fn send(
     found: Found,
     settings: Settings,
 ) -> Answered
-    requires { ⌜ (refusal ≡ 0 → Sends (found .found) (limitOf settings) (found .images) (now fs) (now ws) (now hi) (now queue) (now words) (now scratch) (now next) (now linked) (now out)) ⌝ }
+    requires { ⌜ (refusal ≡ 0 → Sends (found .found) (limitOf settings) (found .images) (now fs) (now ws) (now hi) (now queue) (now words) (now scratch) (now out)) ⌝ }
     ensures { λ r. ⌜ Answers (byRefusal refusal (query.ended (settings .«speed_of_sound») (settings .«sample_rate») (limitOf settings) (search (found .images) (found .rays) (candidatesIn (found .found) (now (fs .entry)) (now (ws .entry))) (found .over)))) r (now (out .entry)) (now (out .exit)) ⌝ }
 {
     if refusal != 0 {
@@ -283,8 +269,6 @@ fn send(
         queue,
         words,
         scratch,
-        next,
-        linked,
         out,
     );
     Answered {
@@ -309,9 +293,6 @@ pub fn answer_loaded(
     scratch: &mut [u64],
     index: &mut [u32],
     id: &mut [u32],
-    first: &mut [u32],
-    next: &mut [u32],
-    of: &mut [u32],
     linked: &mut [u32],
     queue: &mut [u32],
     starts: &mut [u32],
@@ -331,10 +312,10 @@ pub fn answer_loaded(
     separated: bool,
     room: usize,
 ) -> Answered
-    requires { ⌜ (refusal ≡ 0 → Ready settings n m room (now columns) (now handles) (now materials) (now tree) (now nodes) (now perm) (now hi) (now lo) (now words) (now scratch) (now index) (now id) (now first) (now next) (now of) (now linked) (now queue) (now starts) (now members) (now kept) (now rows) (now gfloats) (now edges) (now out)) ⌝ }
+    requires { ⌜ (refusal ≡ 0 → Ready settings n m room (now columns) (now handles) (now materials) (now tree) (now nodes) (now perm) (now hi) (now lo) (now words) (now scratch) (now index) (now id) (now linked) (now queue) (now starts) (now members) (now kept) (now rows) (now gfloats) (now edges) (now out)) ⌝ }
     requires { ⌜ ((refusal ≡ 0 → ⊥) → m ≡ 0) ⌝ }
     ensures { λ r. ⌜ AnswersLoaded refusal settings source listener separated room n m (now (columns .entry)) (now (handles .entry)) (now (materials .entry)) r (now (out .entry)) (now (out .exit)) ⌝ }
-    ensures { λ _. ⌜ PlanesZero (now (hi .exit)) (now (lo .exit)) (now (words .exit)) (now (scratch .exit)) (now (index .exit)) (now (id .exit)) (now (first .exit)) (now (next .exit)) (now (of .exit)) (now (linked .exit)) (now (queue .exit)) (now (starts .exit)) (now (members .exit)) (now (kept .exit)) (now (rows .exit)) (now (gfloats .exit)) (now (edges .exit)) ⌝ }
+    ensures { λ _. ⌜ PlanesZero (now (hi .exit)) (now (lo .exit)) (now (words .exit)) (now (scratch .exit)) (now (index .exit)) (now (id .exit)) (now (linked .exit)) (now (queue .exit)) (now (starts .exit)) (now (members .exit)) (now (kept .exit)) (now (rows .exit)) (now (gfloats .exit)) (now (edges .exit)) ⌝ }
     ensures { λ _. ⌜ SceneZero (now (columns .exit)) (now (handles .exit)) (now (tree .exit)) (now (nodes .exit)) (now (perm .exit)) ⌝ }
 {
     scene_bvh::clear_from(handles, m);
@@ -348,9 +329,6 @@ pub fn answer_loaded(
         scratch,
         index,
         id,
-        first,
-        next,
-        of,
         linked,
         queue,
         starts,
@@ -375,8 +353,6 @@ pub fn answer_loaded(
         queue,
         words,
         scratch,
-        next,
-        linked,
         out,
         gfloats,
         id,
@@ -385,8 +361,8 @@ pub fn answer_loaded(
         settings,
     );
     clearing::clear_keys(hi, lo, words, scratch);
-    clearing::clear_lists(index, id, first, next, of);
-    clearing::clear_lists(linked, queue, starts, members, kept);
+    clearing::clear_lists(index, id, linked, queue, starts);
+    clearing::clear_pair(members, kept);
     clearing::clear_floats(rows, gfloats, edges);
     clearing::clear_scene(columns, handles, tree, nodes, perm);
     r

@@ -69,28 +69,10 @@ pub fn fresh_id() -> [u32; 9728]
     [0u32; 9728]
 }
 
-pub fn fresh_first() -> [u32; 512]
-    ensures { λ r. ⌜ length r ≡ 512 ⌝ }
+pub fn fresh_linked() -> [u32; 12288]
+    ensures { λ r. ⌜ length r ≡ 12288 ⌝ }
 {
-    [0u32; 512]
-}
-
-pub fn fresh_next() -> [u32; 576]
-    ensures { λ r. ⌜ length r ≡ 576 ⌝ }
-{
-    [0u32; 576]
-}
-
-pub fn fresh_of() -> [u32; 512]
-    ensures { λ r. ⌜ length r ≡ 512 ⌝ }
-{
-    [0u32; 512]
-}
-
-pub fn fresh_linked() -> [u32; 16384]
-    ensures { λ r. ⌜ length r ≡ 16384 ⌝ }
-{
-    [0u32; 16384]
+    [0u32; 12288]
 }
 
 pub fn fresh_queue() -> [u32; 5632]

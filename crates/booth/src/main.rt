@@ -122,9 +122,6 @@ fn trace(
     let mut scratch = areas::fresh_scratch();
     let mut index = areas::fresh_index();
     let mut id = areas::fresh_id();
-    let mut first = areas::fresh_first();
-    let mut next = areas::fresh_next();
-    let mut of = areas::fresh_of();
     let mut linked = areas::fresh_linked();
     let mut queue = areas::fresh_queue();
     let mut starts = areas::fresh_starts();
@@ -151,9 +148,6 @@ fn trace(
         &mut scratch,
         &mut index,
         &mut id,
-        &mut first,
-        &mut next,
-        &mut of,
         &mut linked,
         &mut queue,
         &mut starts,
@@ -202,9 +196,6 @@ fn name_walls(
     let mut scratch = areas::fresh_scratch();
     let mut index = areas::fresh_index();
     let mut id = areas::fresh_id();
-    let mut first = areas::fresh_first();
-    let mut next = areas::fresh_next();
-    let mut of = areas::fresh_of();
     let mut linked = areas::fresh_linked();
     let mut queue = areas::fresh_queue();
     let mut starts = areas::fresh_starts();
@@ -227,9 +218,6 @@ fn name_walls(
         &mut scratch,
         &mut index,
         &mut id,
-        &mut first,
-        &mut next,
-        &mut of,
         &mut linked,
         &mut queue,
         &mut starts,

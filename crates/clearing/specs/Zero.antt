@@ -14,16 +14,13 @@ abbrev pub ZeroFloats : List Float → Type 0
 ZeroFloats l = l ≡ replicate (length l) zero32
 
 -- the areas of the planes, the candidates and the list
-pub record PlanesZero (hi lo words scratch index id first next of linked queue starts members kept : List ℕ) (rows gfloats edges : List Float) : Type 0 where
+pub record PlanesZero (hi lo words scratch index id linked queue starts members kept : List ℕ) (rows gfloats edges : List Float) : Type 0 where
   pub hi-zero : Zeros hi
   pub lo-zero : Zeros lo
   pub words-zero : Zeros words
   pub scratch-zero : Zeros scratch
   pub index-zero : Zeros index
   pub id-zero : Zeros id
-  pub first-zero : Zeros first
-  pub next-zero : Zeros next
-  pub of-zero : Zeros of
   pub linked-zero : Zeros linked
   pub queue-zero : Zeros queue
   pub starts-zero : Zeros starts

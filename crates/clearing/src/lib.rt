@@ -20,6 +20,13 @@ pub fn clear_lists(a: &mut [u32], b: &mut [u32], c: &mut [u32], d: &mut [u32], e
     columns::clear_u32(e);
 }
 
+pub fn clear_pair(a: &mut [u32], b: &mut [u32])
+    ensures { λ _. ⌜ Zeros (now (a .exit)) × Zeros (now (b .exit)) ⌝ }
+{
+    columns::clear_u32(a);
+    columns::clear_u32(b);
+}
+
 pub fn clear_floats(a: &mut [f32], b: &mut [f32], c: &mut [f32])
     ensures { λ _. ⌜ ZeroFloats (now (a .exit)) × ZeroFloats (now (b .exit)) × ZeroFloats (now (c .exit)) ⌝ }
 {

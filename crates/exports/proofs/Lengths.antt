@@ -23,7 +23,7 @@ least-at (a ∷ rest) (suc i) t c h = least-at rest i t c (omega arith)
 
 -- one more of them
 pub put-one :
-    (lens : List ℕ) (i t c : ℕ) → i < 23 → i < length lens → take i lens ≡ take i (leastLengths t c) →
+    (lens : List ℕ) (i t c : ℕ) → i < 20 → i < length lens → take i lens ≡ take i (leastLengths t c) →
     take (i + 1) (set lens i (getD (triplesOf areaTable) i 0 * t + getD (candidatesOf areaTable) i 0 * c + getD (moreOf areaTable) i 0))
     ≡ take (i + 1) (leastLengths t c)
 put-one lens i t c h k e = rw (add-one, ← least-at areaTable i t c h, take-suc-set lens i (getD (leastLengths t c) i 0) k, take-suc (leastLengths t c) i 0 h, e)

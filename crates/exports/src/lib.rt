@@ -78,7 +78,7 @@ pub extern "C" fn biv_packet_write(
 
 // The least length of each area, by the table that refusal 5 tests (docs/AREAS.md).
 fn put_lengths(t: usize, room: usize, lens: &mut [usize])
-    requires { ⌜ (t ≤ mostTriples) × (room < 4294967296) × (length (now lens) ≡ 23) ⌝ }
+    requires { ⌜ (t ≤ mostTriples) × (room < 4294967296) × (length (now lens) ≡ 20) ⌝ }
     ensures { λ _. ⌜ now (lens .exit) ≡ leastLengths t room ⌝ }
 {
     let mut i = 0;
@@ -92,7 +92,7 @@ fn put_lengths(t: usize, room: usize, lens: &mut [usize])
 // triples than a scene may have.
 #[no_mangle]
 pub extern "C" fn biv_area_lengths(triples: usize, c: u32, lens: &mut [usize]) -> bool
-    requires { ⌜ length (now lens) ≡ 23 ⌝ }
+    requires { ⌜ length (now lens) ≡ 20 ⌝ }
     ensures { λ r. ⌜ LengthsSet triples c (now (lens .entry)) r (now (lens .exit)) ⌝ }
 {
     if triples > scene::MOST_TRIPLES {
@@ -131,9 +131,6 @@ pub extern "C" fn biv_trace_early_reflections(
     scratch: &mut [u64],
     index: &mut [u32],
     id: &mut [u32],
-    first: &mut [u32],
-    next: &mut [u32],
-    of: &mut [u32],
     linked: &mut [u32],
     queue: &mut [u32],
     starts: &mut [u32],
@@ -159,7 +156,7 @@ pub extern "C" fn biv_trace_early_reflections(
 ) -> u32
     requires { ⌜ (length (now counts) ≡ 5) × (length (now «setting_floats») ≡ 11) ⌝ }
     requires { ⌜ (length (now source) ≡ 3) × (length (now listener) ≡ 3) × (4 ≤ length (now found)) ⌝ }
-    ensures { λ r. ⌜ Called (settingsFrom (now (counts .entry)) (now («setting_floats» .entry))) c (scene (now (meshes .entry)) (now (transforms .entry)) (now (positions .entry)) (now (indices .entry)) (now (materials .entry)) «rows_count») (lengthsOf (work (now (columns .entry)) (now (handles .entry)) (now (tree .entry)) (now (nodes .entry)) (now (perm .entry)) (now (hi .entry)) (now (lo .entry)) (now (words .entry)) (now (scratch .entry)) (now (index .entry)) (now (id .entry)) (now (first .entry)) (now (next .entry)) (now (of .entry)) (now (linked .entry)) (now (queue .entry)) (now (starts .entry)) (now (gfloats .entry)) (now (members .entry)) (now (rows .entry)) (now (kept .entry)) (now (edges .entry))) (now (out .entry))) (pointFrom (now (source .entry))) (pointFrom (now (listener .entry))) separated (answeredFrom r (now (found .exit))) (now (out .entry)) (now (out .exit)) (work (now (columns .entry)) (now (handles .entry)) (now (tree .entry)) (now (nodes .entry)) (now (perm .entry)) (now (hi .entry)) (now (lo .entry)) (now (words .entry)) (now (scratch .entry)) (now (index .entry)) (now (id .entry)) (now (first .entry)) (now (next .entry)) (now (of .entry)) (now (linked .entry)) (now (queue .entry)) (now (starts .entry)) (now (gfloats .entry)) (now (members .entry)) (now (rows .entry)) (now (kept .entry)) (now (edges .entry))) (work (now (columns .exit)) (now (handles .exit)) (now (tree .exit)) (now (nodes .exit)) (now (perm .exit)) (now (hi .exit)) (now (lo .exit)) (now (words .exit)) (now (scratch .exit)) (now (index .exit)) (now (id .exit)) (now (first .exit)) (now (next .exit)) (now (of .exit)) (now (linked .exit)) (now (queue .exit)) (now (starts .exit)) (now (gfloats .exit)) (now (members .exit)) (now (rows .exit)) (now (kept .exit)) (now (edges .exit))) ⌝ }
+    ensures { λ r. ⌜ Called (settingsFrom (now (counts .entry)) (now («setting_floats» .entry))) c (scene (now (meshes .entry)) (now (transforms .entry)) (now (positions .entry)) (now (indices .entry)) (now (materials .entry)) «rows_count») (lengthsOf (work (now (columns .entry)) (now (handles .entry)) (now (tree .entry)) (now (nodes .entry)) (now (perm .entry)) (now (hi .entry)) (now (lo .entry)) (now (words .entry)) (now (scratch .entry)) (now (index .entry)) (now (id .entry)) (now (linked .entry)) (now (queue .entry)) (now (starts .entry)) (now (gfloats .entry)) (now (members .entry)) (now (rows .entry)) (now (kept .entry)) (now (edges .entry))) (now (out .entry))) (pointFrom (now (source .entry))) (pointFrom (now (listener .entry))) separated (answeredFrom r (now (found .exit))) (now (out .entry)) (now (out .exit)) (work (now (columns .entry)) (now (handles .entry)) (now (tree .entry)) (now (nodes .entry)) (now (perm .entry)) (now (hi .entry)) (now (lo .entry)) (now (words .entry)) (now (scratch .entry)) (now (index .entry)) (now (id .entry)) (now (linked .entry)) (now (queue .entry)) (now (starts .entry)) (now (gfloats .entry)) (now (members .entry)) (now (rows .entry)) (now (kept .entry)) (now (edges .entry))) (work (now (columns .exit)) (now (handles .exit)) (now (tree .exit)) (now (nodes .exit)) (now (perm .exit)) (now (hi .exit)) (now (lo .exit)) (now (words .exit)) (now (scratch .exit)) (now (index .exit)) (now (id .exit)) (now (linked .exit)) (now (queue .exit)) (now (starts .exit)) (now (gfloats .exit)) (now (members .exit)) (now (rows .exit)) (now (kept .exit)) (now (edges .exit))) ⌝ }
     ensures { λ _. ⌜ drop 4 (now (found .exit)) ≡ drop 4 (now (found .entry)) ⌝ }
 {
     let s = arguments::settings_from(counts, setting_floats);
@@ -177,9 +174,6 @@ pub extern "C" fn biv_trace_early_reflections(
         scratch,
         index,
         id,
-        first,
-        next,
-        of,
         linked,
         queue,
         starts,

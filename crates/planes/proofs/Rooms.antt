@@ -3,7 +3,11 @@
 use Prim.Native.Nat.{ℕ, _*_, _<_, _≤_}
 use mathlib.Core.Path.{_≡_, sym, subst}
 use native.Mathlib.Omega.{arith}
+use lib.Ieee.{Float}
+use mathlib.Core.List.{List}
 use Rattle.patches.specs.Rows.{patchFloats}
+use Rattle.ranked.specs.Areas.{TrianglesLent}
+use Rattle.planes.specs.Areas.{seats}
 use Rattle.mirror.specs.Rows.{planeFloats, planeWords}
 
 -- an area is as long after a call as before it
@@ -33,3 +37,10 @@ rows-of n h = omega arith
 
 pub fewer-rows : {np m n l : ℕ} → np ≤ m → m ≤ n → planeFloats * n ≤ l → patchFloats * np ≤ l
 fewer-rows a b h = omega arith
+
+-- a local list has an element for each triple, and one more
+pub seated : {area : List Float} {handles : List ℕ} {n m l : ℕ} → TrianglesLent area handles n m → l ≡ seats → n ≤ l
+seated t e = let h = t .few in omega arith
+
+pub seated-below : {area : List Float} {handles : List ℕ} {n m l : ℕ} → TrianglesLent area handles n m → l ≡ seats → n < l
+seated-below t e = let h = t .few in omega arith

@@ -4,11 +4,10 @@ use mathlib.Core.List.{List}
 use lib.Ieee.{Float}
 use lib.ListN.{length}
 use Rattle.patches.specs.Rows.{patchFloats}
-use Rattle.patches.specs.Grid.{bucketCount}
 use Rattle.mirror.specs.Rows.{planeFloats, planeWords, edgeFloats}
 
--- steps 1 to 3. The grid's cells stand in `hi`, its heads in `linked`, the largest triangles in `next` and the flags in `first`.
-pub record OpenRoom (n : ℕ) (hi lo index words scratch id first linked next : List ℕ) (areas rows : List Float) (of : List ℕ) : Type 0 where
+-- steps 1 to 3. The grid's cells stand in `hi`, the largest triangles in `next` and the flags in `first`.
+pub record OpenRoom (n : ℕ) (hi lo index words scratch id first next : List ℕ) (areas rows : List Float) (of : List ℕ) : Type 0 where
   pub hi-room : 3 * n ≤ length hi
   pub lo-room : 3 * n ≤ length lo
   pub index-room : 3 * n ≤ length index
@@ -16,7 +15,6 @@ pub record OpenRoom (n : ℕ) (hi lo index words scratch id first linked next : 
   pub scratch-room : 3 * n ≤ length scratch
   pub id-room : 3 * n ≤ length id
   pub first-room : n ≤ length first
-  pub heads-room : bucketCount ≤ length linked
   pub next-room : n ≤ length next
   pub areas-room : n ≤ length areas
   pub rows-room : patchFloats * n ≤ length rows
@@ -39,18 +37,18 @@ pub record GroupRoom (n : ℕ) (hi words scratch index next linked members first
   pub starts-room : 3 * n < length starts
   pub gfloats-room : planeFloats * n ≤ length gfloats
 
+-- the elements of a local list of the triangles: `first`, `next` and `of`
+abbrev pub seats : ℕ
+seats = 4097
+
 -- ---- all areas of `build_planes`
-pub record PlanesRoom (n : ℕ) (hi lo words scratch index id first next of linked queue starts members kept : List ℕ) (rows gfloats edges : List Float) : Type 0 where
+pub record PlanesRoom (n : ℕ) (hi lo words scratch index id linked queue starts members kept : List ℕ) (rows gfloats edges : List Float) : Type 0 where
   pub hi-room : 3 * n ≤ length hi
   pub lo-room : 3 * n ≤ length lo
   pub words-room : 24 * n ≤ length words
   pub scratch-room : 24 * n ≤ length scratch
   pub index-room : 3 * n ≤ length index
   pub id-room : 3 * n ≤ length id
-  pub first-room : n ≤ length first
-  pub next-room : n < length next
-  pub of-room : n ≤ length of
-  pub heads-room : bucketCount ≤ length linked
   pub linked-room : 24 * n ≤ length linked
   pub queue-room : 3 * n ≤ length queue
   pub starts-room : 3 * n < length starts

@@ -12,13 +12,23 @@ ghost use Rattle.trace.specs.Trace.{Held};
 ghost use Rattle.faces.specs.Key.{vertexKey};
 ghost use Rattle.faces.specs.Numbers as faces;
 ghost use Rattle.patches.specs.Triangles.{trianglesIn};
+ghost use Rattle.patches.specs.Grid.{bucketCount};
 ghost use Rattle.patches.specs.Rows.{patchFloats, patchesIn, Numbered};
 ghost use Rattle.buried.specs.Probe.{probeOf, Traced};
 ghost use Rattle.groups.specs.Settings as groups;
 ghost use Rattle.planes.specs.Build.{planeSettings, openPatchesOf, groupPlanesOf, planesOf};
 ghost use Rattle.ranked.specs.Areas.{TrianglesLent, GroupPlanes};
-ghost use Rattle.planes.specs.Areas.{OpenRoom, GroupRoom, PlanesRoom};
+ghost use Rattle.planes.specs.Areas.{OpenRoom, GroupRoom, PlanesRoom, seats};
 ghost use Rattle.mirror.specs.Rows.{planesIn, PlanesHeld};
+
+// The heads of the grid of normals.
+const BUCKETS: usize = 4096;
+
+fn fresh_heads() -> [u32; BUCKETS]
+    ensures { λ r. ⌜ length r ≡ bucketCount ⌝ }
+{
+    [0u32; BUCKETS]
+}
 
 // STEPS 1 to 3: the patches that are not buried. Their number is returned; id becomes the numbers of the vertices. An area that a step
 // has done with serves the next one: hi holds the grid's cells, next the largest triangles, first the flags.
@@ -40,20 +50,20 @@ fn open_patches(
     scratch: &mut [u64],
     id: &mut [u32],
     first: &mut [u32],
-    linked: &mut [u32],
     next: &mut [u32],
     areas: &mut [f32],
     rows: &mut [f32],
     of: &mut [u32],
 ) -> usize
     requires { ⌜ TrianglesLent (now area) (now handles) n m ⌝ }
-    requires { ⌜ OpenRoom n (now hi) (now lo) (now index) (now words) (now scratch) (now id) (now first) (now linked) (now next) (now areas) (now rows) (now of) ⌝ }
+    requires { ⌜ OpenRoom n (now hi) (now lo) (now index) (now words) (now scratch) (now id) (now first) (now next) (now areas) (now rows) (now of) ⌝ }
     requires { ⌜ Held (now padded) (now nodes) (now perm) (now leaves) count ⌝ }
     requires { ⌜ 0 < count ⌝ }
     ensures { λ r. ⌜ ((s : groups.Settings) (tri : ℕ → Triangle) (k : Tree) → s .buried ≡ reach → Traced tri k (now (padded .entry)) (now (nodes .entry)) (now (perm .entry)) (now (leaves .entry)) (now (handles .entry)) → patchesIn (now (rows .exit)) (now (of .exit)) m r ≡ openPatchesOf s (probeOf tri k) (trianglesIn (now (area .entry)) (now (handles .entry)) n m)) ⌝ }
     ensures { λ r. ⌜ (r ≤ m) × Numbered (now (of .exit)) m r ⌝ }
     ensures { λ _. ⌜ faces.Numbered vertexKey (now (area .entry)) n n (now (id .exit)) ⌝ }
 {
+    let mut heads = fresh_heads();
     faces::duplicates(
         area,
         n,
@@ -65,18 +75,7 @@ fn open_patches(
         id,
         first,
     );
-    let np = patches::coplanar_patches(
-        area,
-        handles,
-        n,
-        m,
-        first,
-        hi,
-        &mut linked[..4096],
-        next,
-        rows,
-        of,
-    );
+    let np = patches::coplanar_patches(area, handles, n, m, first, hi, &mut heads, next, rows, of);
     buried::open_patches(
         area,
         handles,
@@ -180,6 +179,15 @@ fn group_planes(
 
 // ---- all steps
 
+// An element for each triangle, and one more.
+const SEATS: usize = 4097;
+
+fn fresh() -> [u32; SEATS]
+    ensures { λ r. ⌜ length r ≡ seats ⌝ }
+{
+    [0u32; SEATS]
+}
+
 // `build_planes`: the mirror planes of the m triangles of the columns, in the order of their importance; there are as many as is returned.
 // They stand in rows, kept, members and edges (mirror's `plane_at` reads them); what the other areas then hold is not said.
 pub fn build_planes(
@@ -199,9 +207,6 @@ pub fn build_planes(
     scratch: &mut [u64],
     index: &mut [u32],
     id: &mut [u32],
-    first: &mut [u32],
-    next: &mut [u32],
-    of: &mut [u32],
     linked: &mut [u32],
     queue: &mut [u32],
     starts: &mut [u32],
@@ -213,10 +218,13 @@ pub fn build_planes(
 ) -> usize
     requires { ⌜ TrianglesLent (now area) (now handles) n m ⌝ }
     requires { ⌜ Held (now padded) (now nodes) (now perm) (now leaves) count × (0 < count) ⌝ }
-    requires { ⌜ PlanesRoom n (now hi) (now lo) (now words) (now scratch) (now index) (now id) (now first) (now next) (now of) (now linked) (now queue) (now starts) (now members) (now kept) (now rows) (now gfloats) (now edges) ⌝ }
+    requires { ⌜ PlanesRoom n (now hi) (now lo) (now words) (now scratch) (now index) (now id) (now linked) (now queue) (now starts) (now members) (now kept) (now rows) (now gfloats) (now edges) ⌝ }
     ensures { λ r. ⌜ ((tri : ℕ → Triangle) (k : Tree) → Traced tri k (now (padded .entry)) (now (nodes .entry)) (now (perm .entry)) (now (leaves .entry)) (now (handles .entry)) → planesIn (now (rows .exit)) (now (kept .exit)) (now (members .exit)) (now (edges .exit)) r ≡ planesOf (planeSettings settings) (probeOf tri k) (trianglesIn (now (area .entry)) (now (handles .entry)) n m)) ⌝ }
     ensures { λ r. ⌜ (r ≤ settings .«max_reflection_planes») × PlanesHeld (now (rows .exit)) (now (kept .exit)) (now (members .exit)) (now (edges .exit)) m r ⌝ }
 {
+    let mut first = fresh();
+    let mut next = fresh();
+    let mut of = fresh();
     let np = open_patches(
         area,
         handles,
@@ -234,12 +242,11 @@ pub fn build_planes(
         words,
         scratch,
         id,
-        first,
-        linked,
-        next,
+        &mut first,
+        &mut next,
         gfloats,
         rows,
-        of,
+        &mut of,
     );
     let ng = group_planes(
         area,
@@ -247,7 +254,7 @@ pub fn build_planes(
         n,
         m,
         rows,
-        of,
+        &of,
         np,
         id,
         settings.plane_merge,
@@ -257,10 +264,10 @@ pub fn build_planes(
         words,
         scratch,
         index,
-        next,
+        &mut next,
         linked,
         members,
-        first,
+        &mut first,
         kept,
         queue,
         starts,
@@ -272,7 +279,7 @@ pub fn build_planes(
         n,
         m,
         settings.max_reflection_planes as usize,
-        first,
+        &first,
         gfloats,
         linked,
         members,
@@ -285,7 +292,7 @@ pub fn build_planes(
         id,
         queue,
         starts,
-        next,
+        &mut next,
         rows,
         kept,
         edges,

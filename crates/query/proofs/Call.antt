@@ -86,7 +86,7 @@ early-less k e z = absurd (subst T (sym e ∙ ap (λ (j : ℕ). earlyOf j) z) tt
 -- the areas with other columns and handles
 abbrev withScene : Work → List Float → List ℕ → Work
 withScene w columns′ handles′ =
-    record { columns = columns′; handles = handles′; tree = w .tree; nodes = w .nodes; perm = w .perm; hi = w .hi; lo = w .lo; words = w .words; scratch = w .scratch; index = w .index; id = w .id; first = w .first; next = w .next; of = w .of; linked = w .linked; queue = w .queue; starts = w .starts; gfloats = w .gfloats; members = w .members; rows = w .rows; kept = w .kept; edges = w .edges }
+    record { columns = columns′; handles = handles′; tree = w .tree; nodes = w .nodes; perm = w .perm; hi = w .hi; lo = w .lo; words = w .words; scratch = w .scratch; index = w .index; id = w .id; linked = w .linked; queue = w .queue; starts = w .starts; gfloats = w .gfloats; members = w .members; rows = w .rows; kept = w .kept; edges = w .edges }
 
 -- columns and handles as they were
 pub scene-found :

@@ -13,11 +13,11 @@ zero-still : {A : Type 0} (z : A) (l l′ : List A) → l′ ≡ replicate (leng
 zero-still z l l′ e same = e ∙ ap (λ (k : ℕ). replicate k z) same
 
 -- records are equal where their fields are
-ap22 :
-    {columns columns′ : List Float} {handles handles′ : List ℕ} {tree tree′ : List Float} {nodes nodes′ : List ℕ} {perm perm′ : List ℕ} {hi hi′ : List ℕ} {lo lo′ : List ℕ} {words words′ : List ℕ} {scratch scratch′ : List ℕ} {index index′ : List ℕ} {id id′ : List ℕ} {first first′ : List ℕ} {next next′ : List ℕ} {of of′ : List ℕ} {linked linked′ : List ℕ} {queue queue′ : List ℕ} {starts starts′ : List ℕ} {gfloats gfloats′ : List Float} {members members′ : List ℕ} {rows rows′ : List Float} {kept kept′ : List ℕ} {edges edges′ : List Float} →
-    columns′ ≡ columns → handles′ ≡ handles → tree′ ≡ tree → nodes′ ≡ nodes → perm′ ≡ perm → hi′ ≡ hi → lo′ ≡ lo → words′ ≡ words → scratch′ ≡ scratch → index′ ≡ index → id′ ≡ id → first′ ≡ first → next′ ≡ next → of′ ≡ of → linked′ ≡ linked → queue′ ≡ queue → starts′ ≡ starts → gfloats′ ≡ gfloats → members′ ≡ members → rows′ ≡ rows → kept′ ≡ kept → edges′ ≡ edges →
-    _≡_ {A = Work} (record { columns = columns′; handles = handles′; tree = tree′; nodes = nodes′; perm = perm′; hi = hi′; lo = lo′; words = words′; scratch = scratch′; index = index′; id = id′; first = first′; next = next′; of = of′; linked = linked′; queue = queue′; starts = starts′; gfloats = gfloats′; members = members′; rows = rows′; kept = kept′; edges = edges′ }) (record { columns = columns; handles = handles; tree = tree; nodes = nodes; perm = perm; hi = hi; lo = lo; words = words; scratch = scratch; index = index; id = id; first = first; next = next; of = of; linked = linked; queue = queue; starts = starts; gfloats = gfloats; members = members; rows = rows; kept = kept; edges = edges })
-ap22 e0 e1 e2 e3 e4 e5 e6 e7 e8 e9 e10 e11 e12 e13 e14 e15 e16 e17 e18 e19 e20 e21 = rw (e0, e1, e2, e3, e4, e5, e6, e7, e8, e9, e10, e11, e12, e13, e14, e15, e16, e17, e18, e19, e20, e21)
+ap19 :
+    {columns columns′ : List Float} {handles handles′ : List ℕ} {tree tree′ : List Float} {nodes nodes′ : List ℕ} {perm perm′ : List ℕ} {hi hi′ : List ℕ} {lo lo′ : List ℕ} {words words′ : List ℕ} {scratch scratch′ : List ℕ} {index index′ : List ℕ} {id id′ : List ℕ} {linked linked′ : List ℕ} {queue queue′ : List ℕ} {starts starts′ : List ℕ} {gfloats gfloats′ : List Float} {members members′ : List ℕ} {rows rows′ : List Float} {kept kept′ : List ℕ} {edges edges′ : List Float} →
+    columns′ ≡ columns → handles′ ≡ handles → tree′ ≡ tree → nodes′ ≡ nodes → perm′ ≡ perm → hi′ ≡ hi → lo′ ≡ lo → words′ ≡ words → scratch′ ≡ scratch → index′ ≡ index → id′ ≡ id → linked′ ≡ linked → queue′ ≡ queue → starts′ ≡ starts → gfloats′ ≡ gfloats → members′ ≡ members → rows′ ≡ rows → kept′ ≡ kept → edges′ ≡ edges →
+    _≡_ {A = Work} (record { columns = columns′; handles = handles′; tree = tree′; nodes = nodes′; perm = perm′; hi = hi′; lo = lo′; words = words′; scratch = scratch′; index = index′; id = id′; linked = linked′; queue = queue′; starts = starts′; gfloats = gfloats′; members = members′; rows = rows′; kept = kept′; edges = edges′ }) (record { columns = columns; handles = handles; tree = tree; nodes = nodes; perm = perm; hi = hi; lo = lo; words = words; scratch = scratch; index = index; id = id; linked = linked; queue = queue; starts = starts; gfloats = gfloats; members = members; rows = rows; kept = kept; edges = edges })
+ap19 e0 e1 e2 e3 e4 e5 e6 e7 e8 e9 e10 e11 e12 e13 e14 e15 e16 e17 e18 = rw (e0, e1, e2, e3, e4, e5, e6, e7, e8, e9, e10, e11, e12, e13, e14, e15, e16, e17, e18)
 
 -- the lengths of all work areas are as they were
 pub record SameLengths (w w′ : Work) : Type 0 where
@@ -32,9 +32,6 @@ pub record SameLengths (w w′ : Work) : Type 0 where
   pub scratch-same : length (w′ .scratch) ≡ length (w .scratch)
   pub index-same : length (w′ .index) ≡ length (w .index)
   pub id-same : length (w′ .id) ≡ length (w .id)
-  pub first-same : length (w′ .first) ≡ length (w .first)
-  pub next-same : length (w′ .next) ≡ length (w .next)
-  pub of-same : length (w′ .of) ≡ length (w .of)
   pub linked-same : length (w′ .linked) ≡ length (w .linked)
   pub queue-same : length (w′ .queue) ≡ length (w .queue)
   pub starts-same : length (w′ .starts) ≡ length (w .starts)
@@ -46,7 +43,7 @@ pub record SameLengths (w w′ : Work) : Type 0 where
 
 pub all-zero :
     (w w′ : Work) →
-    PlanesZero (w′ .hi) (w′ .lo) (w′ .words) (w′ .scratch) (w′ .index) (w′ .id) (w′ .first) (w′ .next) (w′ .of) (w′ .linked) (w′ .queue) (w′ .starts) (w′ .members) (w′ .kept) (w′ .rows) (w′ .gfloats) (w′ .edges) →
+    PlanesZero (w′ .hi) (w′ .lo) (w′ .words) (w′ .scratch) (w′ .index) (w′ .id) (w′ .linked) (w′ .queue) (w′ .starts) (w′ .members) (w′ .kept) (w′ .rows) (w′ .gfloats) (w′ .edges) →
     SceneZero (w′ .columns) (w′ .handles) (w′ .tree) (w′ .nodes) (w′ .perm) → SameLengths w w′ → w′ ≡ zeroed w
 all-zero w w′ p s same =
     let e-columns : w′ .columns ≡ replicate (length (w .columns)) zero32 = zero-still zero32 (w .columns) (w′ .columns) (s .columns-zero) (same .columns-same) in
@@ -60,9 +57,6 @@ all-zero w w′ p s same =
     let e-scratch : w′ .scratch ≡ replicate (length (w .scratch)) 0 = zero-still 0 (w .scratch) (w′ .scratch) (p .scratch-zero) (same .scratch-same) in
     let e-index : w′ .index ≡ replicate (length (w .index)) 0 = zero-still 0 (w .index) (w′ .index) (p .index-zero) (same .index-same) in
     let e-id : w′ .id ≡ replicate (length (w .id)) 0 = zero-still 0 (w .id) (w′ .id) (p .id-zero) (same .id-same) in
-    let e-first : w′ .first ≡ replicate (length (w .first)) 0 = zero-still 0 (w .first) (w′ .first) (p .first-zero) (same .first-same) in
-    let e-next : w′ .next ≡ replicate (length (w .next)) 0 = zero-still 0 (w .next) (w′ .next) (p .next-zero) (same .next-same) in
-    let e-of : w′ .of ≡ replicate (length (w .of)) 0 = zero-still 0 (w .of) (w′ .of) (p .of-zero) (same .of-same) in
     let e-linked : w′ .linked ≡ replicate (length (w .linked)) 0 = zero-still 0 (w .linked) (w′ .linked) (p .linked-zero) (same .linked-same) in
     let e-queue : w′ .queue ≡ replicate (length (w .queue)) 0 = zero-still 0 (w .queue) (w′ .queue) (p .queue-zero) (same .queue-same) in
     let e-starts : w′ .starts ≡ replicate (length (w .starts)) 0 = zero-still 0 (w .starts) (w′ .starts) (p .starts-zero) (same .starts-same) in
@@ -71,4 +65,4 @@ all-zero w w′ p s same =
     let e-rows : w′ .rows ≡ replicate (length (w .rows)) zero32 = zero-still zero32 (w .rows) (w′ .rows) (p .rows-zero) (same .rows-same) in
     let e-kept : w′ .kept ≡ replicate (length (w .kept)) 0 = zero-still 0 (w .kept) (w′ .kept) (p .kept-zero) (same .kept-same) in
     let e-edges : w′ .edges ≡ replicate (length (w .edges)) zero32 = zero-still zero32 (w .edges) (w′ .edges) (p .edges-zero) (same .edges-same) in
-    ap22 e-columns e-handles e-tree e-nodes e-perm e-hi e-lo e-words e-scratch e-index e-id e-first e-next e-of e-linked e-queue e-starts e-gfloats e-members e-rows e-kept e-edges
+    ap19 e-columns e-handles e-tree e-nodes e-perm e-hi e-lo e-words e-scratch e-index e-id e-linked e-queue e-starts e-gfloats e-members e-rows e-kept e-edges

@@ -17,9 +17,6 @@ pub record Work : Type 0 where
   pub scratch : List ℕ
   pub index : List ℕ
   pub id : List ℕ
-  pub first : List ℕ
-  pub next : List ℕ
-  pub of : List ℕ
   pub linked : List ℕ
   pub queue : List ℕ
   pub starts : List ℕ
@@ -29,9 +26,9 @@ pub record Work : Type 0 where
   pub kept : List ℕ
   pub edges : List Float
 
-abbrev pub work : List Float → List ℕ → List Float → List ℕ → List ℕ → List ℕ → List ℕ → List ℕ → List ℕ → List ℕ → List ℕ → List ℕ → List ℕ → List ℕ → List ℕ → List ℕ → List ℕ → List Float → List ℕ → List Float → List ℕ → List Float → Work
-work w0 w1 w2 w3 w4 w5 w6 w7 w8 w9 w10 w11 w12 w13 w14 w15 w16 w17 w18 w19 w20 w21 =
-    record { columns = w0; handles = w1; tree = w2; nodes = w3; perm = w4; hi = w5; lo = w6; words = w7; scratch = w8; index = w9; id = w10; first = w11; next = w12; of = w13; linked = w14; queue = w15; starts = w16; gfloats = w17; members = w18; rows = w19; kept = w20; edges = w21 }
+abbrev pub work : List Float → List ℕ → List Float → List ℕ → List ℕ → List ℕ → List ℕ → List ℕ → List ℕ → List ℕ → List ℕ → List ℕ → List ℕ → List ℕ → List Float → List ℕ → List Float → List ℕ → List Float → Work
+work w0 w1 w2 w3 w4 w5 w6 w7 w8 w9 w10 w11 w12 w13 w14 w15 w16 w17 w18 =
+    record { columns = w0; handles = w1; tree = w2; nodes = w3; perm = w4; hi = w5; lo = w6; words = w7; scratch = w8; index = w9; id = w10; linked = w11; queue = w12; starts = w13; gfloats = w14; members = w15; rows = w16; kept = w17; edges = w18 }
 
 -- "zero": each as long as it was
 abbrev pub zeroed : Work → Work
@@ -48,9 +45,6 @@ zeroed w =
       scratch = replicate (length (w .scratch)) 0;
       index = replicate (length (w .index)) 0;
       id = replicate (length (w .id)) 0;
-      first = replicate (length (w .first)) 0;
-      next = replicate (length (w .next)) 0;
-      of = replicate (length (w .of)) 0;
       linked = replicate (length (w .linked)) 0;
       queue = replicate (length (w .queue)) 0;
       starts = replicate (length (w .starts)) 0;
@@ -75,9 +69,6 @@ lengthsOf w out =
     length (w .scratch) ∷
     length (w .index) ∷
     length (w .id) ∷
-    length (w .first) ∷
-    length (w .next) ∷
-    length (w .of) ∷
     length (w .linked) ∷
     length (w .queue) ∷
     length (w .starts) ∷

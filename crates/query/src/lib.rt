@@ -21,9 +21,6 @@ pub fn trace_early_reflections(
     scratch: &mut [u64],
     index: &mut [u32],
     id: &mut [u32],
-    first: &mut [u32],
-    next: &mut [u32],
-    of: &mut [u32],
     linked: &mut [u32],
     queue: &mut [u32],
     starts: &mut [u32],
@@ -45,7 +42,7 @@ pub fn trace_early_reflections(
     listener: Vec3,
     separated: bool,
 ) -> Answered
-    ensures { λ r. ⌜ Traced settings c (scene (now (meshes .entry)) (now (transforms .entry)) (now (positions .entry)) (now (indices .entry)) (now (materials .entry)) «rows_count») (lengthsOf (work (now (columns .entry)) (now (handles .entry)) (now (tree .entry)) (now (nodes .entry)) (now (perm .entry)) (now (hi .entry)) (now (lo .entry)) (now (words .entry)) (now (scratch .entry)) (now (index .entry)) (now (id .entry)) (now (first .entry)) (now (next .entry)) (now (of .entry)) (now (linked .entry)) (now (queue .entry)) (now (starts .entry)) (now (gfloats .entry)) (now (members .entry)) (now (rows .entry)) (now (kept .entry)) (now (edges .entry))) (now (out .entry))) source listener separated r (now (out .entry)) (now (out .exit)) (work (now (columns .entry)) (now (handles .entry)) (now (tree .entry)) (now (nodes .entry)) (now (perm .entry)) (now (hi .entry)) (now (lo .entry)) (now (words .entry)) (now (scratch .entry)) (now (index .entry)) (now (id .entry)) (now (first .entry)) (now (next .entry)) (now (of .entry)) (now (linked .entry)) (now (queue .entry)) (now (starts .entry)) (now (gfloats .entry)) (now (members .entry)) (now (rows .entry)) (now (kept .entry)) (now (edges .entry))) (work (now (columns .exit)) (now (handles .exit)) (now (tree .exit)) (now (nodes .exit)) (now (perm .exit)) (now (hi .exit)) (now (lo .exit)) (now (words .exit)) (now (scratch .exit)) (now (index .exit)) (now (id .exit)) (now (first .exit)) (now (next .exit)) (now (of .exit)) (now (linked .exit)) (now (queue .exit)) (now (starts .exit)) (now (gfloats .exit)) (now (members .exit)) (now (rows .exit)) (now (kept .exit)) (now (edges .exit))) ⌝ }
+    ensures { λ r. ⌜ Traced settings c (scene (now (meshes .entry)) (now (transforms .entry)) (now (positions .entry)) (now (indices .entry)) (now (materials .entry)) «rows_count») (lengthsOf (work (now (columns .entry)) (now (handles .entry)) (now (tree .entry)) (now (nodes .entry)) (now (perm .entry)) (now (hi .entry)) (now (lo .entry)) (now (words .entry)) (now (scratch .entry)) (now (index .entry)) (now (id .entry)) (now (linked .entry)) (now (queue .entry)) (now (starts .entry)) (now (gfloats .entry)) (now (members .entry)) (now (rows .entry)) (now (kept .entry)) (now (edges .entry))) (now (out .entry))) source listener separated r (now (out .entry)) (now (out .exit)) (work (now (columns .entry)) (now (handles .entry)) (now (tree .entry)) (now (nodes .entry)) (now (perm .entry)) (now (hi .entry)) (now (lo .entry)) (now (words .entry)) (now (scratch .entry)) (now (index .entry)) (now (id .entry)) (now (linked .entry)) (now (queue .entry)) (now (starts .entry)) (now (gfloats .entry)) (now (members .entry)) (now (rows .entry)) (now (kept .entry)) (now (edges .entry))) (work (now (columns .exit)) (now (handles .exit)) (now (tree .exit)) (now (nodes .exit)) (now (perm .exit)) (now (hi .exit)) (now (lo .exit)) (now (words .exit)) (now (scratch .exit)) (now (index .exit)) (now (id .exit)) (now (linked .exit)) (now (queue .exit)) (now (starts .exit)) (now (gfloats .exit)) (now (members .exit)) (now (rows .exit)) (now (kept .exit)) (now (edges .exit))) ⌝ }
 {
     let lens = [
         columns.len(),
@@ -59,9 +56,6 @@ pub fn trace_early_reflections(
         scratch.len(),
         index.len(),
         id.len(),
-        first.len(),
-        next.len(),
-        of.len(),
         linked.len(),
         queue.len(),
         starts.len(),
@@ -101,9 +95,6 @@ pub fn trace_early_reflections(
         scratch,
         index,
         id,
-        first,
-        next,
-        of,
         linked,
         queue,
         starts,

@@ -68,12 +68,6 @@ fn words_65() -> [u32; 65]
     [0u32; 65]
 }
 
-fn words_128() -> [u32; 128]
-    ensures { λ r. ⌜ length r ≡ 128 ⌝ }
-{
-    [0u32; 128]
-}
-
 fn words_192() -> [u32; 192]
     ensures { λ r. ⌜ length r ≡ 192 ⌝ }
 {
@@ -104,10 +98,10 @@ fn words_512() -> [u32; 512]
     [0u32; 512]
 }
 
-fn words_5632() -> [u32; 5632]
-    ensures { λ r. ⌜ length r ≡ 5632 ⌝ }
+fn words_1536() -> [u32; 1536]
+    ensures { λ r. ⌜ length r ≡ 1536 ⌝ }
 {
-    [0u32; 5632]
+    [0u32; 1536]
 }
 
 fn longs_192() -> [u64; 192]
@@ -180,9 +174,6 @@ fn run_case(
     scratch: &mut [u64],
     index: &mut [u32],
     id: &mut [u32],
-    first: &mut [u32],
-    next: &mut [u32],
-    of: &mut [u32],
     linked: &mut [u32],
     queue: &mut [u32],
     starts: &mut [u32],
@@ -220,9 +211,6 @@ fn run_case(
         scratch,
         index,
         id,
-        first,
-        next,
-        of,
         linked,
         queue,
         starts,
@@ -355,10 +343,7 @@ fn run_fresh(w: &[u32], f: &[f32], a: usize, b: usize, c: usize, d: usize, e: us
     let mut scratch = longs_1600();
     let mut index = words_192();
     let mut id = words_320();
-    let mut first = words_64();
-    let mut next = words_128();
-    let mut of = words_64();
-    let mut linked = words_5632();
+    let mut linked = words_1536();
     let mut queue = words_256();
     let mut starts = words_193();
     let mut gfloats = floats_1600();
@@ -379,9 +364,6 @@ fn run_fresh(w: &[u32], f: &[f32], a: usize, b: usize, c: usize, d: usize, e: us
         &mut scratch,
         &mut index,
         &mut id,
-        &mut first,
-        &mut next,
-        &mut of,
         &mut linked,
         &mut queue,
         &mut starts,

@@ -36,14 +36,14 @@ step (a ∷ rest) (l ∷ ls) (suc i) t c h k = step rest ls i t c (omega arith) 
 
 -- area i and those after it
 pub short-step :
-    (ls : List ℕ) (i t c : ℕ) → i < 23 → i < length ls →
+    (ls : List ℕ) (i t c : ℕ) → i < 20 → i < length ls →
     shortIn (drop i areaTable) t c (drop i ls)
     ≡ (ltb (getD ls i 0) (getD (triplesOf areaTable) i 0 * t + getD (candidatesOf areaTable) i 0 * c + getD (moreOf areaTable) i 0)
     || shortIn (drop (i + 1) areaTable) t c (drop (i + 1) ls))
 short-step ls i t c h k = rw (add-one) (step areaTable ls i t c h k)
 
 -- none is left
-pub short-done : (ls : List ℕ) (i t c : ℕ) → i ≡ 23 → shortIn (drop i areaTable) t c (drop i ls) ≡ false
+pub short-done : (ls : List ℕ) (i t c : ℕ) → i ≡ 20 → shortIn (drop i areaTable) t c (drop i ls) ≡ false
 unfolding shortIn
 short-done ls i t c e = rw e
 
@@ -74,14 +74,14 @@ scaled-most m xs i k e = mul-le-mul-right k (at-most m xs i e)
 pub record Small (i t c : ℕ) : Type 0 where
   pub triples : getD (triplesOf areaTable) i 0 * t ≤ 24 * t
   pub candidates : getD (candidatesOf areaTable) i 0 * c ≤ 13 * c
-  pub more : getD (moreOf areaTable) i 0 ≤ 4096
+  pub more : getD (moreOf areaTable) i 0 ≤ 3465
 
 pub small : (i t c : ℕ) → Small i t c
 small i t c =
     record {
       triples = scaled-most 24 (triplesOf areaTable) i t refl;
       candidates = scaled-most 13 (candidatesOf areaTable) i c refl;
-      more = at-most 4096 (moreOf areaTable) i refl;
+      more = at-most 3465 (moreOf areaTable) i refl;
     }
 
 -- ---- what areas that pass have
@@ -108,7 +108,7 @@ room (a ∷ rest) (l ∷ ls) t c none e (suc i) h = room rest ls t c none (neith
 pub rooms : (t c : ℕ) (lens : List ℕ) → shortOf t c lens ≡ false → RoomyIn t c lens
 rooms t c lens e =
     let none = area 0 0 0 0 in
-    let at : (i : ℕ) → i < 23 → leastOf (getD areaTable i none) t c ≤ getD lens i 0 = λ i h. room areaTable lens t c none e i h in
+    let at : (i : ℕ) → i < 20 → leastOf (getD areaTable i none) t c ≤ getD lens i 0 = λ i h. room areaTable lens t c none e i h in
     record {
       columns-room = omega (arith, at 0 (omega arith));
       handles-room = omega (arith, at 1 (omega arith));
@@ -121,30 +121,27 @@ rooms t c lens e =
       scratch-room = omega (arith, at 8 (omega arith));
       index-room = omega (arith, at 9 (omega arith));
       id-room = omega (arith, at 10 (omega arith));
-      first-room = omega (arith, at 11 (omega arith));
-      next-room = omega (arith, at 12 (omega arith));
-      of-room = omega (arith, at 13 (omega arith));
-      linked-room = omega (arith, at 14 (omega arith));
-      queue-room = omega (arith, at 15 (omega arith));
-      starts-room = omega (arith, at 16 (omega arith));
-      gfloats-room = omega (arith, at 17 (omega arith));
-      members-room = omega (arith, at 18 (omega arith));
-      rows-room = omega (arith, at 19 (omega arith));
-      kept-room = omega (arith, at 20 (omega arith));
-      edges-room = omega (arith, at 21 (omega arith));
-      output-room = omega (arith, at 22 (omega arith));
+      linked-room = omega (arith, at 11 (omega arith));
+      queue-room = omega (arith, at 12 (omega arith));
+      starts-room = omega (arith, at 13 (omega arith));
+      gfloats-room = omega (arith, at 14 (omega arith));
+      members-room = omega (arith, at 15 (omega arith));
+      rows-room = omega (arith, at 16 (omega arith));
+      kept-room = omega (arith, at 17 (omega arith));
+      edges-room = omega (arith, at 18 (omega arith));
+      output-room = omega (arith, at 19 (omega arith));
     }
 
 -- the same for lengths that are written out
 pub roomy :
-    (t c columns handles tree nodes perm hi lo words scratch index id first next of linked queue starts gfloats members rows kept edges output : ℕ) →
+    (t c columns handles tree nodes perm hi lo words scratch index id linked queue starts gfloats members rows kept edges output : ℕ) →
     shortOf t c
-    (columns ∷ handles ∷ tree ∷ nodes ∷ perm ∷ hi ∷ lo ∷ words ∷ scratch ∷ index ∷ id ∷ first
-    ∷ next ∷ of ∷ linked ∷ queue ∷ starts ∷ gfloats ∷ members ∷ rows ∷ kept ∷ edges ∷ output ∷ [])
+    (columns ∷ handles ∷ tree ∷ nodes ∷ perm ∷ hi ∷ lo ∷ words ∷ scratch ∷ index ∷ id ∷ linked
+    ∷ queue ∷ starts ∷ gfloats ∷ members ∷ rows ∷ kept ∷ edges ∷ output ∷ [])
     ≡ false →
-    Roomy t c columns handles tree nodes perm hi lo words scratch index id first next of linked queue starts gfloats members rows kept edges output
-roomy t c columns handles tree nodes perm hi lo words scratch index id first next of linked queue starts gfloats members rows kept edges output e =
+    Roomy t c columns handles tree nodes perm hi lo words scratch index id linked queue starts gfloats members rows kept edges output
+roomy t c columns handles tree nodes perm hi lo words scratch index id linked queue starts gfloats members rows kept edges output e =
     rooms t c
-    (columns ∷ handles ∷ tree ∷ nodes ∷ perm ∷ hi ∷ lo ∷ words ∷ scratch ∷ index ∷ id ∷ first
-    ∷ next ∷ of ∷ linked ∷ queue ∷ starts ∷ gfloats ∷ members ∷ rows ∷ kept ∷ edges ∷ output ∷ [])
+    (columns ∷ handles ∷ tree ∷ nodes ∷ perm ∷ hi ∷ lo ∷ words ∷ scratch ∷ index ∷ id ∷ linked
+    ∷ queue ∷ starts ∷ gfloats ∷ members ∷ rows ∷ kept ∷ edges ∷ output ∷ [])
     e

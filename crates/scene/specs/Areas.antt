@@ -42,18 +42,15 @@ areaTable =
     ∷ area 2 24 1 0  -- 8 scratch
     ∷ area 1 3 0 0  -- 9 index
     ∷ area 1 3 candidateWords 0  -- 10 id
-    ∷ area 1 1 0 0  -- 11 first
-    ∷ area 1 1 0 64  -- 12 next
-    ∷ area 1 1 0 0  -- 13 of
-    ∷ area 1 24 0 4096  -- 14 linked
-    ∷ area 1 3 1 0  -- 15 queue
-    ∷ area 1 3 0 1  -- 16 starts
-    ∷ area 1 12 candidateFloats 0  -- 17 gfloats
-    ∷ area 1 1 0 1  -- 18 members
-    ∷ area 1 12 0 0  -- 19 rows
-    ∷ area 1 5 0 0  -- 20 kept
-    ∷ area 1 18 0 0  -- 21 edges
-    ∷ area 0 0 0 outputBytes  -- 22 output
+    ∷ area 1 24 0 0  -- 11 linked
+    ∷ area 1 3 1 0  -- 12 queue
+    ∷ area 1 3 0 1  -- 13 starts
+    ∷ area 1 12 candidateFloats 0  -- 14 gfloats
+    ∷ area 1 1 0 1  -- 15 members
+    ∷ area 1 12 0 0  -- 16 rows
+    ∷ area 1 5 0 0  -- 17 kept
+    ∷ area 1 18 0 0  -- 18 edges
+    ∷ area 0 0 0 outputBytes  -- 19 output
     ∷ []
 
 -- the least length of an area
@@ -80,7 +77,7 @@ shortOf t c lens = shortIn areaTable t c lens
 
 -- lengths, in the order of the table, that are not short
 pub record Roomy
-    (t c columns handles tree nodes perm hi lo words scratch index id first next of linked queue starts gfloats members rows kept edges output : ℕ)
+    (t c columns handles tree nodes perm hi lo words scratch index id linked queue starts gfloats members rows kept edges output : ℕ)
     : Type 0 where
   pub columns-room : columnCount * t ≤ columns
   pub handles-room : t ≤ handles
@@ -93,10 +90,7 @@ pub record Roomy
   pub scratch-room : 24 * t + c ≤ scratch
   pub index-room : 3 * t ≤ index
   pub id-room : 3 * t + candidateWords * c ≤ id
-  pub first-room : t ≤ first
-  pub next-room : t + 64 ≤ next
-  pub of-room : t ≤ of
-  pub linked-room : 24 * t + 4096 ≤ linked
+  pub linked-room : 24 * t ≤ linked
   pub queue-room : 3 * t + c ≤ queue
   pub starts-room : 3 * t + 1 ≤ starts
   pub gfloats-room : 12 * t + candidateFloats * c ≤ gfloats
@@ -111,4 +105,4 @@ abbrev pub RoomyIn : ℕ → ℕ → List ℕ → Type 0
 RoomyIn t c lens =
     Roomy t c (getD lens 0 0) (getD lens 1 0) (getD lens 2 0) (getD lens 3 0) (getD lens 4 0) (getD lens 5 0) (getD lens 6 0) (getD lens 7 0)
     (getD lens 8 0) (getD lens 9 0) (getD lens 10 0) (getD lens 11 0) (getD lens 12 0) (getD lens 13 0) (getD lens 14 0) (getD lens 15 0)
-    (getD lens 16 0) (getD lens 17 0) (getD lens 18 0) (getD lens 19 0) (getD lens 20 0) (getD lens 21 0) (getD lens 22 0)
+    (getD lens 16 0) (getD lens 17 0) (getD lens 18 0) (getD lens 19 0)

@@ -40,7 +40,7 @@ pub const MOST_TRIPLES: usize = 4096;
 const TOO_MANY_TRIPLES: usize = MOST_TRIPLES + 1;
 
 // How many areas are lent, the output the last.
-pub const AREAS: usize = 23;
+pub const AREAS: usize = 20;
 
 // The least length of each area: so much a triple,
 pub const TRIPLES: [usize; AREAS] = [
@@ -55,9 +55,6 @@ pub const TRIPLES: [usize; AREAS] = [
     24, // scratch
     3, // index
     3, // id
-    1, // first
-    1, // next
-    1, // of
     24, // linked
     3, // queue
     3, // starts
@@ -82,9 +79,6 @@ pub const CANDIDATES: [usize; AREAS] = [
     1, // scratch
     0, // index
     2, // id
-    0, // first
-    0, // next
-    0, // of
     0, // linked
     1, // queue
     0, // starts
@@ -109,10 +103,7 @@ pub const MORE: [usize; AREAS] = [
     0, // scratch
     0, // index
     0, // id
-    0, // first
-    64, // next
-    0, // of
-    4096, // linked
+    0, // linked
     0, // queue
     1, // starts
     0, // gfloats

@@ -94,3 +94,10 @@ module _ (speed rate : Float) (limit n images : ℕ) (fs : List Float) (ws kept 
 
       pub ended : (r ≡ length sent) × ((b ≡ length (packetOf images rays sent)) × (out′ ≡ packetOf images rays sent ++ drop b out))
       ended = (counted, (ended-bytes, ended-out))
+
+-- the lengths of local arrays
+pub exactly : {l k : ℕ} → l ≡ k → k ≤ l
+exactly e = omega arith
+
+pub within : {l k m : ℕ} → l ≡ k → m ≤ k → m ≤ l
+within e h = omega arith

@@ -4,9 +4,9 @@ use mathlib.Core.List.{List, map}
 use lib.ListN.{length, getD, take}
 use lib.Ieee.{Float, nan}
 use Rattle.bands.specs.declared.Band8.{Band8}
-use Rattle.packet.specs.Limits.{mostTaps, areaWords, outBytes}
+use Rattle.packet.specs.Limits.{mostTaps, outBytes}
 use Rattle.packet.specs.Tap.{Tap}
-use Rattle.ranking.specs.Rows.{Lent, candidateAt, candidatesIn}
+use Rattle.ranking.specs.Rows.{Sortable, candidateAt, candidatesIn}
 use Rattle.taps.specs.Tap.{tapOf}
 use Rattle.taps.specs.Sendable.{Sound, Sendable}
 
@@ -35,9 +35,11 @@ pub record Pointing (n count : ℕ) (fs : List Float) (ws positions : List ℕ) 
   pub sound : (i : ℕ) → i < n → Sound (candidateAt fs ws i)
 
 -- what sending n rows asks: what ranking them asks, rows that can be sent, and room for the packet of 64 taps
-pub record Sends (n limit images : ℕ) (fs : List Float) (ws keys index words scratch kept taps out : List ℕ) : Type 0 where
-  pub lent : Lent n limit fs ws keys index words scratch kept
+pub record Sends (n limit images : ℕ) (fs : List Float) (ws keys index words scratch out : List ℕ) : Type 0 where
+  pub sortable : Sortable n fs ws keys
+  pub for-index : n ≤ length index
+  pub for-words : n ≤ length words
+  pub for-scratch : n ≤ length scratch
   pub sendable : Sendable images (candidatesIn n fs ws)
   pub few : limit ≤ mostTaps
-  pub for-taps : areaWords ≤ length taps
   pub for-out : outBytes ≤ length out

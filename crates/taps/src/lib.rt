@@ -8,7 +8,7 @@ ghost use lib.ListN.{length, getD, drop};
 ghost use lib.Seq.{sets};
 ghost use lib.Dec.{T};
 ghost use lib.Ieee.{isNan, nan};
-ghost use Rattle.packet.specs.Limits.{tapWords, fixedWords};
+ghost use Rattle.packet.specs.Limits.{mostTaps, tapWords, fixedWords, areaWords};
 ghost use Rattle.packet.specs.Tap.{wordsOf, allWords};
 ghost use Rattle.packet.specs.Writer.{writeLength};
 ghost use Rattle.ranking.specs.Candidate.{ranked};
@@ -96,8 +96,21 @@ fn length_of(w: Written) -> usize
     }
 }
 
-// Ranks the candidates of the first n rows and writes the packet of those that are kept. What keys, index, words, scratch, kept and
-// taps hold afterwards is not said.
+// The positions of the candidates that are kept, and the words of their taps.
+fn fresh_positions() -> [u32; 64]
+    ensures { λ r. ⌜ length r ≡ mostTaps ⌝ }
+{
+    [0u32; 64]
+}
+
+fn fresh_taps() -> [u32; 896]
+    ensures { λ r. ⌜ length r ≡ areaWords ⌝ }
+{
+    [0u32; 896]
+}
+
+// Ranks the candidates of the first n rows and writes the packet of those that are kept. What keys, index, words and scratch
+// hold afterwards is not said.
 pub fn write_taps(
     fs: &[f32],
     ws: &[u32],
@@ -111,15 +124,15 @@ pub fn write_taps(
     index: &mut [u32],
     words: &mut [u64],
     scratch: &mut [u64],
-    kept: &mut [u32],
-    taps: &mut [u32],
     out: &mut [u8],
 ) -> Packed
-    requires { ⌜ Sends n limit images (now fs) (now ws) (now keys) (now index) (now words) (now scratch) (now kept) (now taps) (now out) ⌝ }
+    requires { ⌜ Sends n limit images (now fs) (now ws) (now keys) (now index) (now words) (now scratch) (now out) ⌝ }
     ensures count { λ r. ⌜ r .count ≡ length (ranked speed rate limit (candidatesIn n (now (fs .entry)) (now (ws .entry)))) ⌝ }
     ensures bytes { λ r. ⌜ r .bytes ≡ length (packetOf images rays (ranked speed rate limit (candidatesIn n (now (fs .entry)) (now (ws .entry))))) ⌝ }
     ensures packet { λ r. ⌜ now (out .exit) ≡ packetOf images rays (ranked speed rate limit (candidatesIn n (now (fs .entry)) (now (ws .entry)))) ++ drop (r .bytes) (now (out .entry)) ⌝ }
 {
+    let mut kept = fresh_positions();
+    let mut taps = fresh_taps();
     let count = ranking::rank_reflections(
         fs,
         ws,
@@ -131,9 +144,9 @@ pub fn write_taps(
         index,
         words,
         scratch,
-        kept,
+        &mut kept,
     );
-    put_taps(fs, ws, n, kept, count, taps);
-    let bytes = length_of(packet::write(count, images, rays, taps, out));
+    put_taps(fs, ws, n, &kept, count, &mut taps);
+    let bytes = length_of(packet::write(count, images, rays, &taps, out));
     Packed { count, bytes }
 }

@@ -28,7 +28,7 @@ use Rattle.query.specs.Areas.{Work}
 
 -- the columns and handles are those of some scene with a triangle, the handles past its triangles 0, and there is room for its tree and its planes
 pub record PlanesReady
-    (n m : ℕ) (columns : List Float) (handles : List ℕ) (tree : List Float) (nodes perm hi lo words scratch index id first next of linked queue starts members kept : List ℕ) (rows gfloats edges : List Float)
+    (n m : ℕ) (columns : List Float) (handles : List ℕ) (tree : List Float) (nodes perm hi lo words scratch index id linked queue starts members kept : List ℕ) (rows gfloats edges : List Float)
     : Type 0 where
   pub scene : Scene
   pub found : List ℕ
@@ -37,7 +37,7 @@ pub record PlanesReady
   pub some : 0 < m
   pub lent : TrianglesLent columns handles n m
   pub for-tree : TreeRoom n tree nodes perm
-  pub for-planes : PlanesRoom n hi lo words scratch index id first next of linked queue starts members kept rows gfloats edges
+  pub for-planes : PlanesRoom n hi lo words scratch index id linked queue starts members kept rows gfloats edges
 
 -- r planes stand in the areas: those of the query over the scene that was loaded
 pub record PlanesStand
@@ -61,9 +61,6 @@ lensOf w =
     length (w .scratch) ∷
     length (w .index) ∷
     length (w .id) ∷
-    length (w .first) ∷
-    length (w .next) ∷
-    length (w .of) ∷
     length (w .linked) ∷
     length (w .queue) ∷
     length (w .starts) ∷

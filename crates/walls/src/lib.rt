@@ -35,9 +35,6 @@ fn planes_loaded(
     scratch: &mut [u64],
     index: &mut [u32],
     id: &mut [u32],
-    first: &mut [u32],
-    next: &mut [u32],
-    of: &mut [u32],
     linked: &mut [u32],
     queue: &mut [u32],
     starts: &mut [u32],
@@ -52,7 +49,7 @@ fn planes_loaded(
     m: usize,
     settings: Settings,
 ) -> usize
-    requires { ⌜ PlanesReady n m (now columns) (now handles) (now tree) (now nodes) (now perm) (now hi) (now lo) (now words) (now scratch) (now index) (now id) (now first) (now next) (now of) (now linked) (now queue) (now starts) (now members) (now kept) (now rows) (now gfloats) (now edges) ⌝ }
+    requires { ⌜ PlanesReady n m (now columns) (now handles) (now tree) (now nodes) (now perm) (now hi) (now lo) (now words) (now scratch) (now index) (now id) (now linked) (now queue) (now starts) (now members) (now kept) (now rows) (now gfloats) (now edges) ⌝ }
     ensures { λ r. ⌜ PlanesStand settings n m (now (columns .entry)) (now (handles .entry)) (now (rows .exit)) (now (kept .exit)) (now (members .exit)) (now (edges .exit)) r ⌝ }
 {
     let nodes_count = scene_bvh::scene_bvh(
@@ -89,9 +86,6 @@ fn planes_loaded(
         scratch,
         index,
         id,
-        first,
-        next,
-        of,
         linked,
         queue,
         starts,
@@ -117,9 +111,6 @@ pub fn planes_of(
     scratch: &mut [u64],
     index: &mut [u32],
     id: &mut [u32],
-    first: &mut [u32],
-    next: &mut [u32],
-    of: &mut [u32],
     linked: &mut [u32],
     queue: &mut [u32],
     starts: &mut [u32],
@@ -137,7 +128,7 @@ pub fn planes_of(
     materials: &[f32],
     rows_count: u32,
 ) -> usize
-    ensures { λ r. ⌜ PlanesOf settings c (scene (now (meshes .entry)) (now (transforms .entry)) (now (positions .entry)) (now (indices .entry)) (now (materials .entry)) «rows_count») (lensOf (work (now (columns .entry)) (now (handles .entry)) (now (tree .entry)) (now (nodes .entry)) (now (perm .entry)) (now (hi .entry)) (now (lo .entry)) (now (words .entry)) (now (scratch .entry)) (now (index .entry)) (now (id .entry)) (now (first .entry)) (now (next .entry)) (now (of .entry)) (now (linked .entry)) (now (queue .entry)) (now (starts .entry)) (now (gfloats .entry)) (now (members .entry)) (now (rows .entry)) (now (kept .entry)) (now (edges .entry)))) (now (rows .exit)) (now (kept .exit)) (now (members .exit)) (now (edges .exit)) r ⌝ }
+    ensures { λ r. ⌜ PlanesOf settings c (scene (now (meshes .entry)) (now (transforms .entry)) (now (positions .entry)) (now (indices .entry)) (now (materials .entry)) «rows_count») (lensOf (work (now (columns .entry)) (now (handles .entry)) (now (tree .entry)) (now (nodes .entry)) (now (perm .entry)) (now (hi .entry)) (now (lo .entry)) (now (words .entry)) (now (scratch .entry)) (now (index .entry)) (now (id .entry)) (now (linked .entry)) (now (queue .entry)) (now (starts .entry)) (now (gfloats .entry)) (now (members .entry)) (now (rows .entry)) (now (kept .entry)) (now (edges .entry)))) (now (rows .exit)) (now (kept .exit)) (now (members .exit)) (now (edges .exit)) r ⌝ }
 {
     let lens = [
         columns.len(),
@@ -151,9 +142,6 @@ pub fn planes_of(
         scratch.len(),
         index.len(),
         id.len(),
-        first.len(),
-        next.len(),
-        of.len(),
         linked.len(),
         queue.len(),
         starts.len(),
@@ -192,9 +180,6 @@ pub fn planes_of(
         scratch,
         index,
         id,
-        first,
-        next,
-        of,
         linked,
         queue,
         starts,

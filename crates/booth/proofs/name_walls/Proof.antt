@@ -5,73 +5,64 @@ use Rattle.booth.proofs.name_walls.Tie as tie
 -- `booth::name_walls` meets its contract: each area has its length, and the planes have room in theirs.
 
 slice-aggregate-planes-of : tie.Need-slice-aggregate-planes-of
-slice-aggregate-planes-of c = sym (c .before .before .before .before .before .before .before .before .before .before .before .before .before .before .before .before .before .before .before .before .before .before .before .before .before .fresh-columns .ensures)
+slice-aggregate-planes-of c = sym (c .before .before .before .before .before .before .before .before .before .before .before .before .before .before .before .before .before .before .before .before .before .before .fresh-columns .ensures)
 
 slice-aggregate-planes-of-2 : tie.Need-slice-aggregate-planes-of-2
-slice-aggregate-planes-of-2 c = sym (c .before .before .before .before .before .before .before .before .before .before .before .before .before .before .before .before .before .before .before .before .before .before .before .before .before .fresh-handles .ensures)
+slice-aggregate-planes-of-2 c = sym (c .before .before .before .before .before .before .before .before .before .before .before .before .before .before .before .before .before .before .before .before .before .before .fresh-handles .ensures)
 
 slice-aggregate-planes-of-3 : tie.Need-slice-aggregate-planes-of-3
-slice-aggregate-planes-of-3 c = sym (c .before .before .before .before .before .before .before .before .before .before .before .before .before .before .before .before .before .before .before .before .before .before .before .before .before .fresh-tree .ensures)
+slice-aggregate-planes-of-3 c = sym (c .before .before .before .before .before .before .before .before .before .before .before .before .before .before .before .before .before .before .before .before .before .before .fresh-tree .ensures)
 
 slice-aggregate-planes-of-4 : tie.Need-slice-aggregate-planes-of-4
-slice-aggregate-planes-of-4 c = sym (c .before .before .before .before .before .before .before .before .before .before .before .before .before .before .before .before .before .before .before .before .before .before .before .before .before .fresh-nodes .ensures)
+slice-aggregate-planes-of-4 c = sym (c .before .before .before .before .before .before .before .before .before .before .before .before .before .before .before .before .before .before .before .before .before .before .fresh-nodes .ensures)
 
 slice-aggregate-planes-of-5 : tie.Need-slice-aggregate-planes-of-5
-slice-aggregate-planes-of-5 c = sym (c .before .before .before .before .before .before .before .before .before .before .before .before .before .before .before .before .before .before .before .before .before .before .before .before .before .fresh-perm .ensures)
+slice-aggregate-planes-of-5 c = sym (c .before .before .before .before .before .before .before .before .before .before .before .before .before .before .before .before .before .before .before .before .before .before .fresh-perm .ensures)
 
 slice-aggregate-planes-of-6 : tie.Need-slice-aggregate-planes-of-6
-slice-aggregate-planes-of-6 c = sym (c .before .before .before .before .before .before .before .before .before .before .before .before .before .before .before .before .before .before .before .before .before .before .before .before .before .fresh-hi .ensures)
+slice-aggregate-planes-of-6 c = sym (c .before .before .before .before .before .before .before .before .before .before .before .before .before .before .before .before .before .before .before .before .before .before .fresh-hi .ensures)
 
 slice-aggregate-planes-of-7 : tie.Need-slice-aggregate-planes-of-7
-slice-aggregate-planes-of-7 c = sym (c .before .before .before .before .before .before .before .before .before .before .before .before .before .before .before .before .before .before .before .before .before .before .before .before .before .fresh-lo .ensures)
+slice-aggregate-planes-of-7 c = sym (c .before .before .before .before .before .before .before .before .before .before .before .before .before .before .before .before .before .before .before .before .before .before .fresh-lo .ensures)
 
 slice-aggregate-planes-of-8 : tie.Need-slice-aggregate-planes-of-8
-slice-aggregate-planes-of-8 c = sym (c .before .before .before .before .before .before .before .before .before .before .before .before .before .before .before .before .before .before .before .before .before .before .before .before .before .fresh-words .ensures)
+slice-aggregate-planes-of-8 c = sym (c .before .before .before .before .before .before .before .before .before .before .before .before .before .before .before .before .before .before .before .before .before .before .fresh-words .ensures)
 
 slice-aggregate-planes-of-9 : tie.Need-slice-aggregate-planes-of-9
-slice-aggregate-planes-of-9 c = sym (c .before .before .before .before .before .before .before .before .before .before .before .before .before .before .before .before .before .before .before .before .before .before .before .before .before .fresh-scratch .ensures)
+slice-aggregate-planes-of-9 c = sym (c .before .before .before .before .before .before .before .before .before .before .before .before .before .before .before .before .before .before .before .before .before .before .fresh-scratch .ensures)
 
 slice-aggregate-planes-of-10 : tie.Need-slice-aggregate-planes-of-10
-slice-aggregate-planes-of-10 c = sym (c .before .before .before .before .before .before .before .before .before .before .before .before .before .before .before .before .before .before .before .before .before .before .before .before .before .fresh-index .ensures)
+slice-aggregate-planes-of-10 c = sym (c .before .before .before .before .before .before .before .before .before .before .before .before .before .before .before .before .before .before .before .before .before .before .fresh-index .ensures)
 
 slice-aggregate-planes-of-11 : tie.Need-slice-aggregate-planes-of-11
-slice-aggregate-planes-of-11 c = sym (c .before .before .before .before .before .before .before .before .before .before .before .before .before .before .before .before .before .before .before .before .before .before .before .before .before .fresh-id .ensures)
+slice-aggregate-planes-of-11 c = sym (c .before .before .before .before .before .before .before .before .before .before .before .before .before .before .before .before .before .before .before .before .before .before .fresh-id .ensures)
 
 slice-aggregate-planes-of-12 : tie.Need-slice-aggregate-planes-of-12
-slice-aggregate-planes-of-12 c = sym (c .before .before .before .before .before .before .before .before .before .before .before .before .before .before .before .before .before .before .before .before .before .before .before .before .before .fresh-first .ensures)
+slice-aggregate-planes-of-12 c = sym (c .before .before .before .before .before .before .before .before .before .before .before .before .before .before .before .before .before .before .before .before .before .before .fresh-linked .ensures)
 
 slice-aggregate-planes-of-13 : tie.Need-slice-aggregate-planes-of-13
-slice-aggregate-planes-of-13 c = sym (c .before .before .before .before .before .before .before .before .before .before .before .before .before .before .before .before .before .before .before .before .before .before .before .before .before .fresh-next .ensures)
+slice-aggregate-planes-of-13 c = sym (c .before .before .before .before .before .before .before .before .before .before .before .before .before .before .before .before .before .before .before .before .before .before .fresh-queue .ensures)
 
 slice-aggregate-planes-of-14 : tie.Need-slice-aggregate-planes-of-14
-slice-aggregate-planes-of-14 c = sym (c .before .before .before .before .before .before .before .before .before .before .before .before .before .before .before .before .before .before .before .before .before .before .before .before .before .fresh-of .ensures)
+slice-aggregate-planes-of-14 c = sym (c .before .before .before .before .before .before .before .before .before .before .before .before .before .before .before .before .before .before .before .before .before .before .fresh-starts .ensures)
 
 slice-aggregate-planes-of-15 : tie.Need-slice-aggregate-planes-of-15
-slice-aggregate-planes-of-15 c = sym (c .before .before .before .before .before .before .before .before .before .before .before .before .before .before .before .before .before .before .before .before .before .before .before .before .before .fresh-linked .ensures)
+slice-aggregate-planes-of-15 c = sym (c .before .before .before .before .before .before .before .before .before .before .before .before .before .before .before .before .before .before .before .before .before .before .fresh-gfloats .ensures)
 
 slice-aggregate-planes-of-16 : tie.Need-slice-aggregate-planes-of-16
-slice-aggregate-planes-of-16 c = sym (c .before .before .before .before .before .before .before .before .before .before .before .before .before .before .before .before .before .before .before .before .before .before .before .before .before .fresh-queue .ensures)
+slice-aggregate-planes-of-16 c = sym (c .before .before .before .before .before .before .before .before .before .before .before .before .before .before .before .before .before .before .before .before .before .before .fresh-members .ensures)
 
 slice-aggregate-planes-of-17 : tie.Need-slice-aggregate-planes-of-17
-slice-aggregate-planes-of-17 c = sym (c .before .before .before .before .before .before .before .before .before .before .before .before .before .before .before .before .before .before .before .before .before .before .before .before .before .fresh-starts .ensures)
-
-slice-aggregate-planes-of-18 : tie.Need-slice-aggregate-planes-of-18
-slice-aggregate-planes-of-18 c = sym (c .before .before .before .before .before .before .before .before .before .before .before .before .before .before .before .before .before .before .before .before .before .before .before .before .before .fresh-gfloats .ensures)
-
-slice-aggregate-planes-of-19 : tie.Need-slice-aggregate-planes-of-19
-slice-aggregate-planes-of-19 c = sym (c .before .before .before .before .before .before .before .before .before .before .before .before .before .before .before .before .before .before .before .before .before .before .before .before .before .fresh-members .ensures)
-
-slice-aggregate-planes-of-20 : tie.Need-slice-aggregate-planes-of-20
-slice-aggregate-planes-of-20 c = sym (c .before .before .before .before .before .before .before .before .before .before .before .before .before .before .before .before .before .before .before .before .before .before .before .before .before .before .before .fresh-edges .ensures)
+slice-aggregate-planes-of-17 c = sym (c .before .before .before .before .before .before .before .before .before .before .before .before .before .before .before .before .before .before .before .before .before .before .before .before .fresh-edges .ensures)
 
 list-images-requires : tie.Need-list-images-requires
-list-images-requires c κs = let p = c .before .before .before .before .before .before .before .before .before .before .before .before .before .before .before .before .before .before .before .before .before .before .before .before .before .before .before .before .planes-of .ensures in (p .few, p .floats-room, p .words-room)
+list-images-requires c κs = let p = c .before .before .before .before .before .before .before .before .before .before .before .before .before .before .before .before .before .before .before .before .before .before .before .before .before .planes-of .ensures in (p .few, p .floats-room, p .words-room)
 
 same-length : tie.Need-same-length
-same-length c = c .before .before .before .before .before .before .before .before .before .before .before .before .before .before .before .before .before .before .before .before .before .before .before .before .before .before .before .before .before .before .before .planes-of .kept .1 .1 .1 .1 .1 .1 .1 .1 .1 .1 .1 .1 .1 .1 .1 .1 .1 .1 .1 .0
+same-length c = c .before .before .before .before .before .before .before .before .before .before .before .before .before .before .before .before .before .before .before .before .before .before .before .before .before .before .before .before .planes-of .kept .1 .1 .1 .1 .1 .1 .1 .1 .1 .1 .1 .1 .1 .1 .1 .1 .0
 
 same-length-2 : tie.Need-same-length-2
-same-length-2 c = c .before .before .before .before .before .before .before .before .before .before .before .before .before .before .before .before .before .before .before .before .before .before .before .before .before .before .before .before .before .before .before .planes-of .kept .1 .1 .1 .1 .1 .1 .1 .1 .1 .1 .1 .1 .1 .1 .1 .1 .1 .1 .1 .1 .0
+same-length-2 c = c .before .before .before .before .before .before .before .before .before .before .before .before .before .before .before .before .before .before .before .before .before .before .before .before .before .before .before .before .planes-of .kept .1 .1 .1 .1 .1 .1 .1 .1 .1 .1 .1 .1 .1 .1 .1 .1 .1 .0
 
 same-length-3 : tie.Need-same-length-3
 same-length-3 c = c .before .before .list-images .kept .1 .1 .1 .1 .1 .0
@@ -80,9 +71,6 @@ pub name-walls-spec : {M : Type 1} → statement M
 name-walls-spec =
     tie.close
     (tie.spec
-    (λ c κs. tt)
-    (λ c κs. tt)
-    (λ c κs. tt)
     (λ c κs. tt)
     (λ c κs. tt)
     (λ c κs. tt)
@@ -122,9 +110,6 @@ name-walls-spec =
     slice-aggregate-planes-of-15
     slice-aggregate-planes-of-16
     slice-aggregate-planes-of-17
-    slice-aggregate-planes-of-18
-    slice-aggregate-planes-of-19
-    slice-aggregate-planes-of-20
     (λ c κs. tt)
     (λ c κs. tt)
     list-images-requires

@@ -11,10 +11,10 @@ use Rattle.exports.proofs.put_lengths.Statement.{statement}
 use Rattle.exports.proofs.put_lengths.Tie as tie
 
 abbrev Inv-loop : tie.InvT-loop
-Inv-loop t room lens₀ i₀ lens i = (i ≤ 23) × (length lens ≡ 23) × (take i lens ≡ take i (leastLengths t room))
+Inv-loop t room lens₀ i₀ lens i = (i ≤ 20) × (length lens ≡ 20) × (take i lens ≡ take i (leastLengths t room))
 
 abbrev μ-loop : tie.MeasureT-loop
-μ-loop t room lens₀ i₀ lens i = 23 - i
+μ-loop t room lens₀ i₀ lens i = 20 - i
 
 loop-holds : tie.Need-loop-holds Inv-loop μ-loop
 loop-holds c = (omega arith, omega arith, refl)

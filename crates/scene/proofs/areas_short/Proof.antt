@@ -10,10 +10,10 @@ use Rattle.scene.proofs.areas_short.Statement.{statement}
 use Rattle.scene.proofs.areas_short.Tie as tie
 
 abbrev Inv-loop : tie.InvT-loop
-Inv-loop t c lens room i₀ i = (i ≤ 23) × (shortIn (drop i areaTable) t c (drop i lens) ≡ shortOf t c lens)
+Inv-loop t c lens room i₀ i = (i ≤ 20) × (shortIn (drop i areaTable) t c (drop i lens) ≡ shortOf t c lens)
 
 abbrev μ-loop : tie.MeasureT-loop
-μ-loop t c lens room i₀ i = 23 - i
+μ-loop t c lens room i₀ i = 20 - i
 
 loop-holds : tie.Need-loop-holds Inv-loop μ-loop
 loop-holds c = (omega arith, refl)
@@ -33,13 +33,13 @@ add-if1-2 c = omega (arith, small (c .before .loop .i) (c .before .before .befor
 returns : tie.Need-returns Inv-loop μ-loop
 returns c =
     let a = c .before .before .before .before .args in
-    let len : length (a .t3) ≡ 23 = c .before .before .before .before .good .1 .1 .0 .1 .0 .1 in
+    let len : length (a .t3) ≡ 20 = c .before .before .before .before .good .1 .1 .0 .1 .0 .1 in
     rw (← c .before .before .loop .inv .1, short-step (a .t3) (c .before .before .loop .i) (a .t) (a .c) (omega arith) (omega arith), ← c .before .before .before .wide .ensures .0, lt-ltb _ _ (c .if1 .taken))
 
 loop-again : tie.Need-loop-again Inv-loop μ-loop
 loop-again c =
     let a = c .before .before .before .before .args in
-    let len : length (a .t3) ≡ 23 = c .before .before .before .before .good .1 .1 .0 .1 .0 .1 in
+    let len : length (a .t3) ≡ 20 = c .before .before .before .before .good .1 .1 .0 .1 .0 .1 in
     let at-i = short-step (a .t3) (c .before .before .loop .i) (a .t) (a .c) (omega arith) (omega arith) in
     (omega arith, sym (at-i ∙ rw (← c .before .before .before .wide .ensures .0, le-ltb _ _ (c .if1 .left))) ∙ c .before .before .loop .inv .1)
 

@@ -14,7 +14,7 @@ copied : (all lens : List ℕ) (k : ℕ) → k < length all → k < length lens 
 copied all lens k h m e = rw (add-one, take-suc-set all k (getD lens k 0) h, take-suc lens k 0 m, e)
 
 abbrev Inv-loop : tie.InvT-loop
-Inv-loop lens all₀ k₀ all k = (k ≤ length lens) × (length all ≡ 23) × (take k all ≡ take k lens)
+Inv-loop lens all₀ k₀ all k = (k ≤ length lens) × (length all ≡ 20) × (take k all ≡ take k lens)
 
 abbrev μ-loop : tie.MeasureT-loop
 μ-loop lens all₀ k₀ all k = length lens - k

@@ -1,35 +1,57 @@
--- `taps::write_taps` meets its contract: what is ranked is stored, and the writer takes it (`ended`).
 use borrow.Author.Needs.{needs}
-use Rattle.taps.proofs.Ending.{fewer, pointing, ended}
+use mathlib.Core.Path.{sym, _∙_}
+use lib.ListN.{length}
+use native.Mathlib.Omega.{arith}
+use Rattle.taps.proofs.Ending.{fewer, pointing, ended, exactly, within}
 use Rattle.taps.proofs.write_taps.Statement.{statement}
 use Rattle.taps.proofs.write_taps.Tie as tie
 
+-- `taps::write_taps` meets its contract: what is ranked is stored, and the writer takes it (`ended`).
+
+slice-aggregate-rank-reflections : tie.Need-slice-aggregate-rank-reflections
+slice-aggregate-rank-reflections c = sym (c .before .before .before .before .before .before .fresh-positions .ensures)
+
 rank-reflections-requires : tie.Need-rank-reflections-requires
-rank-reflections-requires c κs = c .before .before .before .before .before .before .before .before .before .before .before .before .before .before .pre .lent
+rank-reflections-requires c κs =
+    let p = c .before .before .before .before .before .before .before .before .before .before .before .before .before .before .pre in
+    record {
+      sortable = p .sortable;
+      for-index = p .for-index;
+      for-words = p .for-words;
+      for-scratch = p .for-scratch;
+      for-out = within (c .before .before .before .before .before .before .fresh-positions .ensures) (p .few);
+    }
+
+slice-aggregate-put-taps : tie.Need-slice-aggregate-put-taps
+slice-aggregate-put-taps c = sym (c .before .before .before .before .before .before .before .before .before .before .rank-reflections .kept .1 .1 .1 .1 .1 .1 .1 .1 .1 .1 .0 ∙ c .before .before .before .before .before .before .before .before .before .before .before .before .before .before .before .before .before .fresh-positions .ensures)
+
+slice-aggregate-put-taps-2 : tie.Need-slice-aggregate-put-taps-2
+slice-aggregate-put-taps-2 c = sym (c .before .before .before .before .before .before .before .before .before .before .before .before .before .before .before .before .before .fresh-taps .ensures)
 
 put-taps-requires : tie.Need-put-taps-requires
 put-taps-requires c κs =
-    let s = c .before .before .before .before .before .before .before .before .before .before .before .before .before .before .before .before .before .before .before .before .before .before .before .before .before .before .before in
-    let a = s .args in
-    let p = s .pre in
-    let k = c .before .before .before .before .before .before .before .before .before .before .before .before .rank-reflections .ensures in (
-      p .lent .sortable .rows,
+    let a = c .before .before .before .before .before .before .before .before .before .before .before .before .before .before .before .before .before .before .before .before .before .before .before .before .before .before .args in
+    let p = c .before .before .before .before .before .before .before .before .before .before .before .before .before .before .before .before .before .before .before .before .before .before .before .before .before .before .pre in
+    let k = c .before .before .before .before .before .before .before .before .before .before .before .rank-reflections .ensures in (
+      p .sortable .rows,
       (
-        pointing (a .speed) (a .rate) (a .limit) (a .n) (a .images) (a .fs .now) (a .ws .now) (a .kept .now) _ _ (p .few) (p .sendable) k,
-        fewer (a .speed) (a .rate) (a .limit) (a .n) (a .images) (a .fs .now) (a .ws .now) (a .kept .now) _ _ (p .few) (p .sendable) k (a .taps .now) (p .for-taps),
+        pointing (a .speed) (a .rate) (a .limit) (a .n) (a .images) (a .fs .now) (a .ws .now) (c .before .before .before .before .before .before .before .before .before .before .before .before .before .before .before .before .before .before .fresh-positions .result) _ _ (p .few) (p .sendable) k,
+        fewer (a .speed) (a .rate) (a .limit) (a .n) (a .images) (a .fs .now) (a .ws .now) (c .before .before .before .before .before .before .before .before .before .before .before .before .before .before .before .before .before .before .fresh-positions .result) _ _ (p .few) (p .sendable) k (c .before .before .before .before .before .before .before .before .before .before .before .before .before .before .before .before .before .fresh-taps .result) (exactly (c .before .before .before .before .before .before .before .before .before .before .before .before .before .before .before .before .before .fresh-taps .ensures)),
       ),
     )
 
+slice-aggregate-write : tie.Need-slice-aggregate-write
+slice-aggregate-write c = sym (c .before .before .put-taps .kept .1 .1 .1 .1 .1 .0 ∙ c .before .before .before .before .before .before .before .before .before .before .before .before .before .before .before .before .before .before .before .before .fresh-taps .ensures)
+
 returns : tie.Need-returns
 returns c =
-    let s = c .before .before .before .before .before .before .before .before .before .before .before .before .before .before .before .before .before .before .before .before .before .before .before .before .before .before .before .before .before .before .before .before .before .before .before .before in
-    let a = s .args in
-    let p = s .pre in
-    ended (a .speed) (a .rate) (a .limit) (a .n) (a .images) (a .fs .now) (a .ws .now) (a .kept .now) _ _ (p .few) (p .sendable)
-    (c .before .before .before .before .before .before .before .before .before .before .before .before .before .before .before .before .before .before .before .before .before .rank-reflections .ensures)
-    (a .taps .now) _ (p .for-taps)
-    (c .before .before .before .before .before .before .before .before .put-taps .kept .1 .1 .1 .1 .1 .0)
-    (c .before .before .before .before .before .before .before .before .put-taps .ensures)
+    let a = c .before .before .before .before .before .before .before .before .before .before .before .before .before .before .before .before .before .before .before .before .before .before .before .before .before .before .before .before .before .before .before .before .before .before .args in
+    let p = c .before .before .before .before .before .before .before .before .before .before .before .before .before .before .before .before .before .before .before .before .before .before .before .before .before .before .before .before .before .before .before .before .before .before .pre in
+    ended (a .speed) (a .rate) (a .limit) (a .n) (a .images) (a .fs .now) (a .ws .now) (c .before .before .before .before .before .before .before .before .before .before .before .before .before .before .before .before .before .before .before .before .before .before .before .before .before .before .fresh-positions .result) _ _ (p .few) (p .sendable)
+    (c .before .before .before .before .before .before .before .before .before .before .before .before .before .before .before .before .before .before .before .rank-reflections .ensures)
+    (c .before .before .before .before .before .before .before .before .before .before .before .before .before .before .before .before .before .before .before .before .before .before .before .before .before .fresh-taps .result) _ (exactly (c .before .before .before .before .before .before .before .before .before .before .before .before .before .before .before .before .before .before .before .before .before .before .before .before .before .fresh-taps .ensures))
+    (c .before .before .before .before .before .before .before .put-taps .kept .1 .1 .1 .1 .1 .0)
+    (c .before .before .before .before .before .before .before .put-taps .ensures)
     (a .rays) _ _ (a .out .now) _ (p .for-out)
     (c .before .before .before .write .ensures .0)
     (c .before .before .before .write .ensures .1)
@@ -39,12 +61,16 @@ pub write-taps-spec : {M : Type 1} → statement M
 write-taps-spec =
     tie.close
     (tie.spec
+    (λ c κs. tt)
+    (λ c κs. tt)
+    slice-aggregate-rank-reflections
     rank-reflections-requires
+    slice-aggregate-put-taps
+    slice-aggregate-put-taps-2
     put-taps-requires
+    slice-aggregate-write
     (λ c κs. tt)
     (λ c κs. tt)
-    (λ c. search needs)
-    (λ c. search needs)
     (λ c. search needs)
     (λ c. search needs)
     (λ c. search needs)

@@ -52,8 +52,8 @@ mod ffi {
             padded: *const f32, padded_len: usize, nodes: *const u32, nodes_len: usize, perm: *const u32, perm_len: usize,
             leaves: *const f32, leaves_len: usize, nodes_count: usize,
             hi: *mut u64, hi_len: usize, lo: *mut u64, lo_len: usize, words: *mut u64, words_len: usize, scratch: *mut u64, scratch_len: usize,
-            index: *mut u32, index_len: usize, id: *mut u32, id_len: usize, first: *mut u32, first_len: usize, next: *mut u32, next_len: usize,
-            of: *mut u32, of_len: usize, linked: *mut u32, linked_len: usize, queue: *mut u32, queue_len: usize, starts: *mut u32, starts_len: usize,
+            index: *mut u32, index_len: usize, id: *mut u32, id_len: usize, linked: *mut u32, linked_len: usize,
+            queue: *mut u32, queue_len: usize, starts: *mut u32, starts_len: usize,
             gfloats: *mut f32, gfloats_len: usize, members: *mut u32, members_len: usize, rows: *mut f32, rows_len: usize,
             kept: *mut u32, kept_len: usize, edges: *mut f32, edges_len: usize,
         ) -> usize;
@@ -190,7 +190,7 @@ pub struct Lent {
 }
 
 /// How many areas a query is lent, the output the last.
-pub const AREAS: usize = 23;
+pub const AREAS: usize = 20;
 
 /// The two areas that `load_scene` writes, and the lengths of those behind them.
 #[derive(Clone, Debug, Default)]
@@ -225,10 +225,7 @@ pub const LEAST: [[usize; 3]; AREAS] = [
     [24, 1, 0], // scratch
     [3, 0, 0], // index
     [3, CANDIDATE_WORDS, 0], // id
-    [1, 0, 0], // first
-    [1, 0, 64], // next
-    [1, 0, 0], // of
-    [24, 0, 4096], // linked
+    [24, 0, 0], // linked
     [3, 1, 0], // queue
     [3, 0, 1], // starts
     [12, CANDIDATE_FLOATS, 0], // gfloats
@@ -476,9 +473,6 @@ pub struct PlaneAreas {
     scratch: Vec<u64>,
     index: Vec<u32>,
     id: Vec<u32>,
-    first: Vec<u32>,
-    next: Vec<u32>,
-    of: Vec<u32>,
     linked: Vec<u32>,
     queue: Vec<u32>,
     starts: Vec<u32>,
@@ -494,9 +488,8 @@ impl PlaneAreas {
         assert!(n <= 4096, "{n} triangles are too many");
         PlaneAreas {
             n, hi: vec![0; 3 * n], lo: vec![0; 3 * n], words: vec![0; 24 * n], scratch: vec![0; 24 * n], index: vec![0; 3 * n], id: vec![0; 3 * n],
-            first: vec![0; n], next: vec![0; n + 1], of: vec![0; n], linked: vec![0; 4096.max(24 * n)], queue: vec![0; 3 * n],
-            starts: vec![0; 3 * n + 1], gfloats: vec![0.0; 12 * n], members: vec![0; n + 1], rows: vec![0.0; 12 * n], kept: vec![0; 5 * n],
-            edges: vec![0.0; 18 * n],
+            linked: vec![0; 24 * n], queue: vec![0; 3 * n], starts: vec![0; 3 * n + 1], gfloats: vec![0.0; 12 * n], members: vec![0; n + 1],
+            rows: vec![0.0; 12 * n], kept: vec![0; 5 * n], edges: vec![0.0; 18 * n],
         }
     }
 
@@ -516,7 +509,6 @@ impl PlaneAreas {
                 tree.rows().as_ptr(), tree.rows().len(), tree.count,
                 self.hi.as_mut_ptr(), self.hi.len(), self.lo.as_mut_ptr(), self.lo.len(), self.words.as_mut_ptr(), self.words.len(),
                 self.scratch.as_mut_ptr(), self.scratch.len(), self.index.as_mut_ptr(), self.index.len(), self.id.as_mut_ptr(), self.id.len(),
-                self.first.as_mut_ptr(), self.first.len(), self.next.as_mut_ptr(), self.next.len(), self.of.as_mut_ptr(), self.of.len(),
                 self.linked.as_mut_ptr(), self.linked.len(), self.queue.as_mut_ptr(), self.queue.len(), self.starts.as_mut_ptr(), self.starts.len(),
                 self.gfloats.as_mut_ptr(), self.gfloats.len(), self.members.as_mut_ptr(), self.members.len(), self.rows.as_mut_ptr(), self.rows.len(),
                 self.kept.as_mut_ptr(), self.kept.len(), self.edges.as_mut_ptr(), self.edges.len(),
@@ -730,7 +722,7 @@ impl Element for u64 {
 
 macro_rules! work {
     ($($name:ident: $t:ty),*) => {
-        /// The 22 work areas of a query (docs/AREAS.md).
+        /// The 19 work areas of a query (docs/AREAS.md).
         #[derive(Clone, Debug, Default)]
         pub struct Work {
             $(pub $name: Vec<$t>),*
@@ -772,7 +764,7 @@ macro_rules! work {
 #[rustfmt::skip]
 work!(
     columns: f32, handles: u32, tree: f32, nodes: u32, perm: u32, hi: u64, lo: u64, words: u64, scratch: u64, index: u32, id: u32,
-    first: u32, next: u32, of: u32, linked: u32, queue: u32, starts: u32, gfloats: f32, members: u32, rows: f32, kept: u32, edges: f32
+    linked: u32, queue: u32, starts: u32, gfloats: f32, members: u32, rows: f32, kept: u32, edges: f32
 );
 
 /// What the whole call answers: a refusal of 1 to 7 with zeros, or 0 with the counts and the packet's length.
@@ -796,7 +788,6 @@ pub fn trace(l: &Lent, work: &mut Work, out: &mut [u8], source: &[f32; 3], liste
             work.tree.as_mut_ptr(), work.tree.len(), work.nodes.as_mut_ptr(), work.nodes.len(), work.perm.as_mut_ptr(), work.perm.len(),
             work.hi.as_mut_ptr(), work.hi.len(), work.lo.as_mut_ptr(), work.lo.len(), work.words.as_mut_ptr(), work.words.len(),
             work.scratch.as_mut_ptr(), work.scratch.len(), work.index.as_mut_ptr(), work.index.len(), work.id.as_mut_ptr(), work.id.len(),
-            work.first.as_mut_ptr(), work.first.len(), work.next.as_mut_ptr(), work.next.len(), work.of.as_mut_ptr(), work.of.len(),
             work.linked.as_mut_ptr(), work.linked.len(), work.queue.as_mut_ptr(), work.queue.len(),
             work.starts.as_mut_ptr(), work.starts.len(), work.gfloats.as_mut_ptr(), work.gfloats.len(),
             work.members.as_mut_ptr(), work.members.len(), work.rows.as_mut_ptr(), work.rows.len(),
