@@ -20,10 +20,10 @@ HEADER = [
     ("the flag of merging turned", "settings->plane_merge ? 1u : 0u", "settings->plane_merge ? 0u : 1u"),
     ("merge offset and buried distance exchanged", "settings->plane_merge_offset, settings->plane_buried_distance, m->", "settings->plane_buried_distance, settings->plane_merge_offset, m->"),
     ("least and greatest distance exchanged", "m->rolloff_factor, m->min_distance, m->max_distance}", "m->rolloff_factor, m->max_distance, m->min_distance}"),
-    ("a curve of another number taken", "if (m->curve <= BIV_LINEAR)", "if (true)"),
+    ("a curve of another number taken", "m->curve};", "m->curve == 0 ? 0u : 1u};"),
     ("images for rays", "answer->rays = (uint32_t)found[2];\n    answer->bytes = found[3];", "answer->rays = (uint32_t)found[1];\n    answer->bytes = found[3];"),
-    ("source and listener exchanged", "source, 3, listener, 3, separated);", "listener, 3, source, 3, separated);"),
-    ("separated not handed on", "listener, 3, separated);", "listener, 3, separated && false);"),
+    ("source and listener exchanged", "source, listener, separated);", "listener, source, separated);"),
+    ("separated not handed on", "listener, separated);", "listener, separated && false);"),
     ("a tap too many read", "memcpy(taps, words, found[0] *", "memcpy(taps, words, (found[0] + 1) *"),
     ("65 taps copied", "if (answer->count <= BIV_MOST_TAPS)", "if (answer->count <= BIV_MOST_TAPS + 1)"),
     ("triples of all indices", "triples += scene->meshes[m + 1] / 3;", "triples += scene->meshes[m + 1];"),
@@ -32,7 +32,7 @@ HEADER = [
 FUZZ = [
     ("query", "an area said to be one longer", "(uint64_t *)area[7], room[7],", "(uint64_t *)area[7], room[7] + 1,"),
     ("query", "positions that end one past theirs", "(const float *)part[2], lens[2],", "(const float *)part[2] + 1, lens[2],"),
-    ("query", "another second answer", "word(data, 22), source, 3, listener, 3,", "word(data, 22), source, 3, turn == 0 ? listener : source, 3,"),
+    ("query", "another second answer", "word(data, 22), source, listener,", "word(data, 22), source, turn == 0 ? listener : source,"),
     ("packet", "a packet said to be one longer", "biv_packet_read(packet, size, taps", "biv_packet_read(packet, size + 1, taps"),
     ("packet", "images written as one more", "(uint32_t)found[1], (uint32_t)found[2], taps", "(uint32_t)found[1] + 1, (uint32_t)found[2], taps"),
 ]

@@ -167,43 +167,43 @@ struct biv_tap {
 
 typedef char biv_tap_is_14_words[sizeof(struct biv_tap) == 14 * sizeof(uint32_t) ? 1 : -1];
 
-/* ---- the functions of the archive, which is for x86-64. A slice is a pointer, never NULL, and then a length; no two overlap. */
+/* ---- the functions of the archive, which is for x86-64. A slice is a pointer, never NULL, and then a length; an array is a pointer to as many elements
+ * as stand in its brackets, which no length follows; no two overlap. That is all they ask: what else is wrong is refused. */
 
 typedef char biv_size_is_64_bits[sizeof(size_t) == 8 ? 1 : -1];
 
 #define BIV_AREAS_LENT 20 /* 19 work areas and the output */
 
 /* exports/specs/Lengths.antt. The least lengths of all areas, in elements, for so many triples and candidates; false for more than 4,096 triples. */
-bool biv_area_lengths(size_t triples, uint32_t c, size_t *lens, size_t lens_len);
+bool biv_area_lengths(size_t triples, uint32_t c, size_t lens[BIV_AREAS_LENT]);
 
-/* packet/specs/Reader.antt. Answers the refusal (5, 8 to 11) or 0; found[0..3] are count, images and rays, 0 after a refusal. */
-uint32_t biv_packet_read(const uint8_t *bytes, size_t bytes_len, uint32_t *taps, size_t taps_len, size_t *found, size_t found_len);
+/* packet/specs/Reader.antt. Answers the refusal (5, 8 to 11) or 0; found gets count, images and rays, 0 after a refusal. */
+uint32_t biv_packet_read(const uint8_t *bytes, size_t bytes_len, uint32_t *taps, size_t taps_len, size_t found[3]);
 
 /* packet/specs/Writer.antt. Answers the refusal (5, 9 to 11) or 0; found[0] is the packet's length, 0 after a refusal. */
 uint32_t biv_packet_write(size_t count, uint32_t images, uint32_t rays, const uint32_t *taps, size_t taps_len, uint8_t *out, size_t out_len,
-                          size_t *found, size_t found_len);
+                          size_t found[1]);
 
-/* query/specs/Trace.antt, Traced. From settings, scene parts and positions to the packet of taps in out. Answers the refusal, or 0. found (4 words
- * or more) gets count, images, rays and the packet's length, zeros after a refusal. The 19 work areas come first, in the order of docs/AREAS.md,
+/* exports/specs/Entry.antt, Entered. From settings, scene parts and positions to the packet of taps in out. Answers the refusal, or 0. found
+ * gets count, images, rays and the packet's length, zeros after a refusal. The 19 work areas come first, in the order of docs/AREAS.md,
  * which has their least lengths in whole triples T and c; short ones are refused. What they hold does not matter. After the refusals 1 to 5 they are
- * as they were, after 6, 7 and a result all zero. out (3,465 bytes or more) gets the packet, and is as it was past it and after a refusal. counts has 5
- * words: max_reflection_order, max_reflections, max_reflection_planes, plane_merge (0 or not), curve (0 is Inverse). setting_floats has 11:
+ * as they were, after 6, 7 and a result all zero. out (3,465 bytes or more) gets the packet, and is as it was past it and after a refusal. counts are
+ * max_reflection_order, max_reflections, max_reflection_planes, plane_merge (0 or not), curve (0 is Inverse, 1 Linear, another refused). setting_floats:
  * reflection_edge_fade, max_reflection_distance, speed_of_sound, sample_rate, plane_merge_cos, plane_merge_offset, plane_buried_distance,
- * reference_distance, rolloff_factor, min_distance, max_distance. source and listener have 3 floats each; c is the candidate room. separated says
- * that source and listener are apart, so that nothing is heard. The caller keeps the lengths of counts, setting_floats, source, listener and found;
- * all others are tested. */
+ * reference_distance, rolloff_factor, min_distance, max_distance. c is the candidate room. separated says that source and listener are apart, so
+ * that nothing is heard. */
 uint32_t biv_trace_early_reflections(float *columns, size_t columns_len, uint32_t *handles, size_t handles_len, float *tree, size_t tree_len,
                                      uint32_t *nodes, size_t nodes_len, uint32_t *perm, size_t perm_len, uint64_t *hi, size_t hi_len,
                                      uint64_t *lo, size_t lo_len, uint64_t *words, size_t words_len, uint64_t *scratch, size_t scratch_len,
                                      uint32_t *index, size_t index_len, uint32_t *id, size_t id_len, uint32_t *linked, size_t linked_len,
                                      uint32_t *queue, size_t queue_len, uint32_t *starts, size_t starts_len, float *gfloats, size_t gfloats_len,
                                      uint32_t *members, size_t members_len, float *rows, size_t rows_len, uint32_t *kept, size_t kept_len,
-                                     float *edges, size_t edges_len, uint8_t *out, size_t out_len, size_t *found, size_t found_len,
-                                     const uint32_t *counts, size_t counts_len, const float *setting_floats, size_t setting_floats_len, uint32_t c,
+                                     float *edges, size_t edges_len, uint8_t *out, size_t out_len, size_t found[4],
+                                     const uint32_t counts[5], const float setting_floats[11], uint32_t c,
                                      const uint32_t *meshes, size_t meshes_len, const float *transforms, size_t transforms_len,
                                      const float *positions, size_t positions_len, const uint32_t *indices, size_t indices_len,
-                                     const float *materials, size_t materials_len, uint32_t rows_count, const float *source, size_t source_len,
-                                     const float *listener, size_t listener_len, bool separated);
+                                     const float *materials, size_t materials_len, uint32_t rows_count, const float source[3],
+                                     const float listener[3], bool separated);
 
 /* ---- the block: all work areas, one behind the other */
 
@@ -234,7 +234,7 @@ static inline size_t biv_block_size(size_t triples, uint32_t c)
 {
     size_t lens[BIV_AREAS_LENT];
     size_t size = BIV_ALIGNMENT - 1; /* the block may begin anywhere */
-    if (!biv_area_lengths(triples, c, lens, BIV_AREAS_LENT))
+    if (!biv_area_lengths(triples, c, lens))
         return 0;
 #define BIV_SIZE(i, name, type) size += biv_area_bytes(lens[i], sizeof(type));
     BIV_WORK(BIV_SIZE)
@@ -251,7 +251,7 @@ static inline bool biv_carve(void *block, size_t size, size_t triples, uint32_t 
     uintptr_t at = fits ? ((uintptr_t)block + BIV_ALIGNMENT - 1) / BIV_ALIGNMENT * BIV_ALIGNMENT : (uintptr_t)&nowhere;
     memset(work->lens, 0, sizeof work->lens);
     if (fits)
-        (void)biv_area_lengths(triples, c, work->lens, BIV_AREAS_LENT);
+        (void)biv_area_lengths(triples, c, work->lens);
 #define BIV_CUT(i, name, type) \
     work->name = (type *)at; \
     at += biv_area_bytes(work->lens[i], sizeof(type));
@@ -284,17 +284,16 @@ static inline uint32_t biv_trace(const struct biv_settings *settings, uint32_t c
                               m->rolloff_factor, m->min_distance, m->max_distance};
     struct biv_work w;
     size_t found[4] = {0, 0, 0, 0};
-    uint32_t refusal = BIV_SETTINGS;
+    uint32_t refusal;
     (void)biv_carve(block, size, biv_triples(scene), c, &w); /* what is too short is refused */
-    if (m->curve <= BIV_LINEAR)
-        refusal = biv_trace_early_reflections(
-            w.columns, w.lens[0], w.handles, w.lens[1], w.tree, w.lens[2], w.nodes, w.lens[3], w.perm, w.lens[4], w.hi, w.lens[5], w.lo, w.lens[6],
-            w.words, w.lens[7], w.scratch, w.lens[8], w.index, w.lens[9], w.id, w.lens[10], w.linked, w.lens[11], w.queue, w.lens[12],
-            w.starts, w.lens[13], w.gfloats, w.lens[14], w.members, w.lens[15], w.rows, w.lens[16], w.kept, w.lens[17], w.edges, w.lens[18],
-            out, out_len, found, 4, counts, 5, floats, 11, c,
-            (const uint32_t *)biv_part(scene->meshes), scene->meshes_len, (const float *)biv_part(scene->transforms), scene->transforms_len,
-            (const float *)biv_part(scene->positions), scene->positions_len, (const uint32_t *)biv_part(scene->indices), scene->indices_len,
-            (const float *)biv_part(scene->materials), scene->materials_len, scene->rows, source, 3, listener, 3, separated);
+    refusal = biv_trace_early_reflections(
+        w.columns, w.lens[0], w.handles, w.lens[1], w.tree, w.lens[2], w.nodes, w.lens[3], w.perm, w.lens[4], w.hi, w.lens[5], w.lo, w.lens[6],
+        w.words, w.lens[7], w.scratch, w.lens[8], w.index, w.lens[9], w.id, w.lens[10], w.linked, w.lens[11], w.queue, w.lens[12],
+        w.starts, w.lens[13], w.gfloats, w.lens[14], w.members, w.lens[15], w.rows, w.lens[16], w.kept, w.lens[17], w.edges, w.lens[18],
+        out, out_len, found, counts, floats, c,
+        (const uint32_t *)biv_part(scene->meshes), scene->meshes_len, (const float *)biv_part(scene->transforms), scene->transforms_len,
+        (const float *)biv_part(scene->positions), scene->positions_len, (const uint32_t *)biv_part(scene->indices), scene->indices_len,
+        (const float *)biv_part(scene->materials), scene->materials_len, scene->rows, source, listener, separated);
     answer->count = found[0];
     answer->images = (uint32_t)found[1];
     answer->rays = (uint32_t)found[2];
@@ -308,7 +307,7 @@ static inline uint32_t biv_read(const uint8_t *bytes, size_t bytes_len, struct b
 {
     uint32_t words[14 * BIV_MOST_TAPS];
     size_t found[3] = {0, 0, 0};
-    uint32_t refusal = biv_packet_read((const uint8_t *)biv_part(bytes), bytes_len, words, 14 * BIV_MOST_TAPS, found, 3);
+    uint32_t refusal = biv_packet_read((const uint8_t *)biv_part(bytes), bytes_len, words, 14 * BIV_MOST_TAPS, found);
     if (refusal == BIV_NO_REFUSAL)
         memcpy(taps, words, found[0] * sizeof(struct biv_tap));
     answer->count = found[0];
@@ -327,7 +326,7 @@ static inline uint32_t biv_write(const struct biv_tap *taps, struct biv_answer *
     uint32_t refusal;
     if (answer->count <= BIV_MOST_TAPS) /* more is refused */
         memcpy(words, biv_part(taps), answer->count * sizeof(struct biv_tap));
-    refusal = biv_packet_write(answer->count, answer->images, answer->rays, words, 14 * BIV_MOST_TAPS, out, out_len, found, 1);
+    refusal = biv_packet_write(answer->count, answer->images, answer->rays, words, 14 * BIV_MOST_TAPS, out, out_len, found);
     answer->bytes = found[0];
     return refusal;
 }

@@ -166,7 +166,7 @@ static void test_block(size_t triples, uint32_t c, size_t offset)
         fprintf(stderr, "test: no memory\n");
         exit(1);
     }
-    CHECK(biv_area_lengths(triples, c, lens, BIV_AREAS_LENT));
+    CHECK(biv_area_lengths(triples, c, lens));
     CHECK(lens[0] == 23 * triples && lens[14] == 12 * triples + 13 * (size_t)c && lens[19] == BIV_OUTPUT_BYTES);
     CHECK(biv_carve(block + offset, size, triples, c, &w));
 #define ONE(i, name, type) \

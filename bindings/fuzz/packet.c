@@ -22,7 +22,7 @@ int LLVMFuzzerTestOneInput(const uint8_t *data, size_t size)
     size_t found[3] = {7, 7, 7}, length[1] = {7};
     const uint8_t *packet = (const uint8_t *)copied(&bytes, data, size);
     uint32_t *taps = (uint32_t *)filled(&words, FILL, TAPS * sizeof(uint32_t));
-    uint32_t refusal = biv_packet_read(packet, size, taps, TAPS, found, 3);
+    uint32_t refusal = biv_packet_read(packet, size, taps, TAPS, found);
     count(refusal);
     if (refusal != BIV_NO_REFUSAL) {
         must(refusal >= BIV_BYTES && refusal <= BIV_TAP_ORDER, "a refusal of the reader");
@@ -32,7 +32,7 @@ int LLVMFuzzerTestOneInput(const uint8_t *data, size_t size)
     }
     must(found[0] <= BIV_MOST_TAPS && all_are(taps, found[0] * 56, TAPS * sizeof(uint32_t), FILL), "nothing past the last tap");
     uint8_t *out = (uint8_t *)filled(&output, FILL, BIV_OUTPUT_BYTES);
-    refusal = biv_packet_write(found[0], (uint32_t)found[1], (uint32_t)found[2], taps, TAPS, out, BIV_OUTPUT_BYTES, length, 1);
+    refusal = biv_packet_write(found[0], (uint32_t)found[1], (uint32_t)found[2], taps, TAPS, out, BIV_OUTPUT_BYTES, length);
     must(refusal == BIV_NO_REFUSAL && length[0] == size && memcmp(out, data, size) == 0, "what is read is written back");
     must(all_are(out, size, BIV_OUTPUT_BYTES, FILL), "nothing past the packet");
     return 0;

@@ -108,7 +108,7 @@ int LLVMFuzzerTestOneInput(const uint8_t *data, size_t size)
     memcpy(source, data + 96, sizeof source);
     memcpy(listener, data + 108, sizeof listener);
     counts[0] = order(counts[0], triples);
-    must(biv_area_lengths(triples <= TRIPLES ? triples : TRIPLES, c <= ROOM ? c : ROOM, room, BIV_AREAS_LENT), "lengths for 64 triples");
+    must(biv_area_lengths(triples <= TRIPLES ? triples : TRIPLES, c <= ROOM ? c : ROOM, room), "lengths for 64 triples");
     if (word(data, 34) % 16 == 1 && room[word(data, 33) % BIV_AREAS_LENT] > 0) /* now and then an area that is one short */
         room[word(data, 33) % BIV_AREAS_LENT]--;
     uint8_t *kept = NULL;
@@ -125,10 +125,11 @@ int LLVMFuzzerTestOneInput(const uint8_t *data, size_t size)
             room[4], (uint64_t *)area[5], room[5], (uint64_t *)area[6], room[6], (uint64_t *)area[7], room[7], (uint64_t *)area[8], room[8],
             (uint32_t *)area[9], room[9], (uint32_t *)area[10], room[10], (uint32_t *)area[11], room[11], (uint32_t *)area[12], room[12],
             (uint32_t *)area[13], room[13], (float *)area[14], room[14], (uint32_t *)area[15], room[15], (float *)area[16], room[16],
-            (uint32_t *)area[17], room[17], (float *)area[18], room[18], out, room[19], found, 4, counts, 5, floats, 11, c, (const uint32_t *)part[0], lens[0],
+            (uint32_t *)area[17], room[17], (float *)area[18], room[18], out, room[19], found, counts, floats, c, (const uint32_t *)part[0], lens[0],
             (const float *)part[1], lens[1], (const float *)part[2], lens[2], (const uint32_t *)part[3], lens[3], (const float *)part[4], lens[4],
-            word(data, 22), source, 3, listener, 3, (word(data, 23) & 1) != 0);
+            word(data, 22), source, listener, (word(data, 23) & 1) != 0);
         must(refusal <= BIV_CANDIDATES, "a refusal of the query");
+        must(counts[4] <= BIV_LINEAR || refusal == BIV_SETTINGS, "another curve refused");
         count(refusal);
         for (int i = 0; i < 19; i++)
             must(all_are(area[i], 0, room[i] * element[i], refusal >= 1 && refusal <= 5 ? fill : 0), "areas as they were after 1 to 5, else zero");

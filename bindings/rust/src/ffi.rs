@@ -1,5 +1,5 @@
 //! The archive's functions that a station calls. Nothing checks these declarations against the Rattle source: compare them with
-//! include/bivelondry.h when either changes.
+//! include/bivelondry.h when either changes. A reference to an array is a pointer that no length follows.
 use crate::Scene;
 
 /// Areas that a query is lent, and how many of them are work areas; the last is the output.
@@ -10,11 +10,11 @@ pub const WORK: usize = AREAS - 1;
 pub const TAP_WORDS: usize = 14;
 
 extern "C" {
-    pub fn biv_area_lengths(triples: usize, c: u32, lens: *mut usize, lens_len: usize) -> bool;
-    pub fn biv_packet_read(bytes: *const u8, bytes_len: usize, taps: *mut u32, taps_len: usize, found: *mut usize, found_len: usize) -> u32;
+    pub fn biv_area_lengths(triples: usize, c: u32, lens: &mut [usize; AREAS]) -> bool;
+    pub fn biv_packet_read(bytes: *const u8, bytes_len: usize, taps: *mut u32, taps_len: usize, found: &mut [usize; 3]) -> u32;
     #[rustfmt::skip]
     pub fn biv_packet_write(
-        count: usize, images: u32, rays: u32, taps: *const u32, taps_len: usize, out: *mut u8, out_len: usize, found: *mut usize, found_len: usize,
+        count: usize, images: u32, rays: u32, taps: *const u32, taps_len: usize, out: *mut u8, out_len: usize, found: &mut [usize; 1],
     ) -> u32;
     #[rustfmt::skip]
     pub fn biv_trace_early_reflections(
@@ -24,11 +24,11 @@ extern "C" {
         id: *mut u32, id_len: usize, linked: *mut u32, linked_len: usize, queue: *mut u32, queue_len: usize, starts: *mut u32, starts_len: usize,
         gfloats: *mut f32, gfloats_len: usize, members: *mut u32, members_len: usize, rows: *mut f32, rows_len: usize,
         kept: *mut u32, kept_len: usize, edges: *mut f32, edges_len: usize, out: *mut u8, out_len: usize,
-        found: *mut usize, found_len: usize, counts: *const u32, counts_len: usize,
-        setting_floats: *const f32, setting_floats_len: usize, c: u32, meshes: *const u32, meshes_len: usize,
+        found: &mut [usize; 4], counts: &[u32; 5],
+        setting_floats: &[f32; 11], c: u32, meshes: *const u32, meshes_len: usize,
         transforms: *const f32, transforms_len: usize, positions: *const f32, positions_len: usize,
         indices: *const u32, indices_len: usize, materials: *const f32, materials_len: usize, rows_count: u32,
-        source: *const f32, source_len: usize, listener: *const f32, listener_len: usize, separated: bool,
+        source: &[f32; 3], listener: &[f32; 3], separated: bool,
     ) -> u32;
 }
 
@@ -47,9 +47,9 @@ pub unsafe fn trace(
     biv_trace_early_reflections(
         f(0), n(0), w(1), n(1), f(2), n(2), w(3), n(3), w(4), n(4), at(5).0, n(5), at(6).0, n(6), at(7).0, n(7), at(8).0, n(8), w(9), n(9),
         w(10), n(10), w(11), n(11), w(12), n(12), w(13), n(13), f(14), n(14), w(15), n(15), f(16), n(16), w(17), n(17), f(18), n(18),
-        out, out_len, found.as_mut_ptr(), found.len(), counts.as_ptr(), counts.len(),
-        floats.as_ptr(), floats.len(), c, s.meshes.as_ptr(), s.meshes.len(), s.transforms.as_ptr(), s.transforms.len(),
+        out, out_len, found, counts,
+        floats, c, s.meshes.as_ptr(), s.meshes.len(), s.transforms.as_ptr(), s.transforms.len(),
         s.positions.as_ptr(), s.positions.len(), s.indices.as_ptr(), s.indices.len(), s.materials.as_ptr(), s.materials.len(), s.rows,
-        source.as_ptr(), source.len(), listener.as_ptr(), listener.len(), separated,
+        source, listener, separated,
     )
 }

@@ -287,8 +287,8 @@ impl Workspace {
         let mut lens = [0usize; ffi::AREAS];
         let mut areas = [(0, 0); ffi::WORK];
         // more candidates are refused before an area is looked at
-        // SAFETY: lens has 20 elements.
-        if self.c > MOST_CANDIDATES || !unsafe { ffi::biv_area_lengths(triples, self.c, lens.as_mut_ptr(), lens.len()) } {
+        // SAFETY: it asks nothing.
+        if self.c > MOST_CANDIDATES || !unsafe { ffi::biv_area_lengths(triples, self.c, &mut lens) } {
             return areas;
         }
         let mut end = 0;
@@ -342,8 +342,8 @@ impl Packet {
     /// Reads a packet: refusals 8 to 11.
     pub fn read(bytes: &[u8]) -> Result<Packet, Refusal> {
         let (mut words, mut found) = ([0u32; ffi::TAP_WORDS * MOST_TAPS], [0usize; 3]);
-        // SAFETY: each pointer goes with its own length, the `&mut` areas are distinct, and found has three.
-        Refusal::check(unsafe { ffi::biv_packet_read(bytes.as_ptr(), bytes.len(), words.as_mut_ptr(), words.len(), found.as_mut_ptr(), found.len()) })?;
+        // SAFETY: each pointer goes with its own length, and the `&mut` areas are distinct.
+        Refusal::check(unsafe { ffi::biv_packet_read(bytes.as_ptr(), bytes.len(), words.as_mut_ptr(), words.len(), &mut found) })?;
         let taps = words.chunks_exact(ffi::TAP_WORDS).take(found[0]).map(Tap::from_words).collect();
         Ok(Packet { images: found[1] as u32, rays: found[2] as u32, taps })
     }
@@ -366,7 +366,7 @@ impl Packet {
         let (mut out, mut found) = (vec![0u8; OUTPUT_BYTES], [0usize; 1]);
         // SAFETY: as for `read`; more than 64 taps are refused.
         Refusal::check(unsafe {
-            ffi::biv_packet_write(self.taps.len(), self.images, self.rays, words.as_ptr(), words.len(), out.as_mut_ptr(), out.len(), found.as_mut_ptr(), found.len())
+            ffi::biv_packet_write(self.taps.len(), self.images, self.rays, words.as_ptr(), words.len(), out.as_mut_ptr(), out.len(), &mut found)
         })?;
         out.truncate(found[0]);
         Ok(out)

@@ -1,32 +1,18 @@
--- Four numbers stored at the front of an area are the answer that was to be stored, and a call's promise under equal names.
-use mathlib.Core.Path.{_≡_, refl}
+-- A call's promise under equal names, and that a number is not at most j and above k where j is at most k.
+use mathlib.Core.Path.{_≡_}
 use mathlib.Core.Bool.{Bool}
-use mathlib.Core.List.{List, [], _∷_}
-use Prim.Native.Nat.{ℕ, _≤_}
+use mathlib.Core.List.{List}
+use Prim.Native.Nat.{ℕ, _≤_, _<_}
 use native.Mathlib.Omega.{arith}
-use lib.ListN.{length, set, drop}
 use Rattle.vector.specs.declared.Vec3.{Vec3}
 use Rattle.scene.specs.declared.Settings.{Settings}
 use Rattle.scene.specs.Scene.{Scene}
 use Rattle.answer.specs.declared.Answered.{Answered}
 use Rattle.query.specs.Areas.{Work}
 use Rattle.query.specs.Trace.{Traced}
-use Rattle.exports.specs.Answers.{answeredFrom}
 
--- the area after the four stores
-abbrev stored : List ℕ → Answered → List ℕ
-stored l a = set (set (set (set l 0 (a .count)) 1 (a .images)) 2 (a .rays)) 3 (a .bytes)
-
-pub record Stored (l : List ℕ) (a : Answered) : Type 0 where
-  pub read : answeredFrom (a .refusal) (stored l a) ≡ a
-  pub past : drop 4 (stored l a) ≡ drop 4 l
-
-pub four : (l : List ℕ) (a : Answered) → 4 ≤ length l → Stored l a
-four [] a h = absurd (omega arith)
-four (x ∷ []) a h = absurd (omega arith)
-four (x ∷ y ∷ []) a h = absurd (omega arith)
-four (x ∷ y ∷ z ∷ []) a h = absurd (omega arith)
-four (x ∷ y ∷ z ∷ w ∷ r) a h = record { read = refl; past = refl }
+pub apart : (n j k : ℕ) → n ≤ j → k < n → j ≤ k → ⊥
+apart n j k a b h = omega arith
 
 pub called :
     (st st′ : Settings) (c : ℕ) (s : Scene) (lens : List ℕ) (source source′ listener listener′ : Vec3) (separated : Bool) (r r′ : Answered) (out out′ : List ℕ) (found left : Work) →

@@ -1,3 +1,5 @@
--- The definitions that the contracts of `exports` cite: how the numbers that a call gives stand for its answer, and the least lengths of the areas.
+-- The definitions that the contracts of `exports` cite: how the numbers that a call gives stand for its answer, what the whole call promises, and the
+-- least lengths of the areas.
 pub mod Lengths
 pub mod Answers
+pub mod Entry

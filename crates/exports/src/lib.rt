@@ -1,31 +1,32 @@
-// What a station calls from C or Rust: the query, the packet and the lengths of the areas, with numbers and slices alone. A `&[T]` passes as a
-// pointer and then a length. include/bivelondry.h declares them, bindings/rust wraps them.
+// What a station calls from C or Rust: the query, the packet and the lengths of the areas, with numbers, slices and arrays alone. A `&[T]` passes as
+// a pointer and then a length, a `&[T; n]` as a pointer to n elements. No function asks anything of its caller: what is wrong is refused.
+// include/bivelondry.h declares them, bindings/rust wraps them.
 use answer::Answered;
 use packet::Reading;
 use packet::Written;
 ghost use mathlib.Core.Path.{_≡_};
 ghost use mathlib.Core.List.{[], _∷_};
 ghost use Prim.Native.Nat.{_≤_, _<_};
-ghost use lib.ListN.{length, drop};
-ghost use lib.Seq.{sets};
 ghost use Rattle.packet.specs.Reader.{readAnswer, readArea, readRefusal, readCounts};
 ghost use Rattle.packet.specs.Writer.{writeAnswer, writeOut, writeRefusal, writeLength};
 ghost use Rattle.scene.specs.Scene.{scene};
 ghost use Rattle.scene.specs.Limits.{mostTriples};
-ghost use Rattle.arguments.specs.Settings.{settingsFrom};
-ghost use Rattle.query.specs.Areas.{work, lengthsOf};
-ghost use Rattle.query.specs.Trace.{Traced as Called};
+ghost use Rattle.arguments.specs.Point.{pointFrom};
+ghost use Rattle.query.specs.Areas.{work};
 ghost use Rattle.exports.specs.Lengths.{leastLengths, LengthsSet};
 ghost use Rattle.exports.specs.Answers.{answeredFrom};
-ghost use Rattle.arguments.specs.Point.{pointFrom};
+ghost use Rattle.exports.specs.Entry.{Entered};
 
 // ---- the packet
 
 // Answers the refusal, or 0. `found` gets count, images and rays, zeros after a refusal.
 #[no_mangle]
-pub extern "C" fn biv_packet_read(bytes: &[u8], taps: &mut [u32], found: &mut [usize]) -> u32
-    requires { ⌜ 3 ≤ length (now found) ⌝ }
-    ensures { λ r. ⌜ (r ≡ readRefusal (readAnswer (now (bytes .entry)) (now (taps .entry)))) × (now (found .exit) ≡ sets (now (found .entry)) 0 (readCounts (readAnswer (now (bytes .entry)) (now (taps .entry))))) × (now (taps .exit) ≡ readArea (now (bytes .entry)) (now (taps .entry))) ⌝ }
+pub extern "C" fn biv_packet_read(bytes: &[u8], taps: &mut [u32], found: &mut [usize; 3]) -> u32
+    ensures { λ r.
+        let answer = readAnswer (now (bytes .entry)) (now (taps .entry)) in
+        ⌜ (r ≡ readRefusal answer) ×
+        (now (found .exit) ≡ readCounts answer) ×
+        (now (taps .exit) ≡ readArea (now (bytes .entry)) (now (taps .entry))) ⌝ }
 {
     let reading = packet::read(bytes, taps);
     match reading {
@@ -34,15 +35,11 @@ pub extern "C" fn biv_packet_read(bytes: &[u8], taps: &mut [u32], found: &mut [u
             images,
             rays,
         } => {
-            found[0] = count;
-            found[1] = images as usize;
-            found[2] = rays as usize;
+            *found = [count, images as usize, rays as usize];
             0
         }
         Reading::Refused(k) => {
-            found[0] = 0;
-            found[1] = 0;
-            found[2] = 0;
+            *found = [0, 0, 0];
             k
         }
     }
@@ -56,19 +53,22 @@ pub extern "C" fn biv_packet_write(
     rays: u32,
     taps: &[u32],
     out: &mut [u8],
-    found: &mut [usize],
+    found: &mut [usize; 1],
 ) -> u32
-    requires { ⌜ 1 ≤ length (now found) ⌝ }
-    ensures { λ r. ⌜ (r ≡ writeRefusal (writeAnswer count images rays (now (taps .entry)) (now (out .entry)))) × (now (found .exit) ≡ sets (now (found .entry)) 0 (writeLength (writeAnswer count images rays (now (taps .entry)) (now (out .entry))) ∷ [])) × (now (out .exit) ≡ writeOut count images rays (now (taps .entry)) (now (out .entry))) ⌝ }
+    ensures { λ r.
+        let answer = writeAnswer count images rays (now (taps .entry)) (now (out .entry)) in
+        ⌜ (r ≡ writeRefusal answer) ×
+        (now (found .exit) ≡ writeLength answer ∷ []) ×
+        (now (out .exit) ≡ writeOut count images rays (now (taps .entry)) (now (out .entry))) ⌝ }
 {
     let written = packet::write(count, images, rays, taps, out);
     match written {
         Written::Bytes(n) => {
-            found[0] = n;
+            *found = [n];
             0
         }
         Written::Refused(k) => {
-            found[0] = 0;
+            *found = [0];
             k
         }
     }
@@ -77,47 +77,45 @@ pub extern "C" fn biv_packet_write(
 // ---- the areas
 
 // The least length of each area, by the table that refusal 5 tests (docs/AREAS.md).
-fn put_lengths(t: usize, room: usize, lens: &mut [usize])
-    requires { ⌜ (t ≤ mostTriples) × (room < 4294967296) × (length (now lens) ≡ 20) ⌝ }
-    ensures { λ _. ⌜ now (lens .exit) ≡ leastLengths t room ⌝ }
+fn least_lengths(t: usize, room: usize) -> [usize; scene::AREAS]
+    requires { ⌜ (t ≤ mostTriples) × (room < 4294967296) ⌝ }
+    ensures { λ r. ⌜ r ≡ leastLengths t room ⌝ }
 {
+    let mut lens = [0; scene::AREAS];
     let mut i = 0;
     while i < scene::AREAS {
         lens[i] = scene::TRIPLES[i] * t + scene::CANDIDATES[i] * room + scene::MORE[i];
         i += 1;
     }
+    lens
 }
 
 // The least lengths of all areas for so many triples and candidates, in the order of docs/AREAS.md. False, and nothing is written, for more
 // triples than a scene may have.
 #[no_mangle]
-pub extern "C" fn biv_area_lengths(triples: usize, c: u32, lens: &mut [usize]) -> bool
-    requires { ⌜ length (now lens) ≡ 20 ⌝ }
+pub extern "C" fn biv_area_lengths(triples: usize, c: u32, lens: &mut [usize; scene::AREAS]) -> bool
     ensures { λ r. ⌜ LengthsSet triples c (now (lens .entry)) r (now (lens .exit)) ⌝ }
 {
     if triples > scene::MOST_TRIPLES {
         return false;
     }
-    put_lengths(triples, c as usize, lens);
+    *lens = least_lengths(triples, c as usize);
     true
 }
 
 // ---- the whole call
 
 // The numbers of an answer: the refusal is handed on, `found` gets count, images, rays and bytes.
-fn put_answer(found: &mut [usize], a: Answered) -> u32
-    requires { ⌜ 4 ≤ length (now found) ⌝ }
-    ensures { λ r. ⌜ (answeredFrom r (now (found .exit)) ≡ a) × (drop 4 (now (found .exit)) ≡ drop 4 (now (found .entry))) ⌝ }
+fn put_answer(found: &mut [usize; 4], a: Answered) -> u32
+    ensures { λ r. ⌜ answeredFrom r (now (found .exit)) ≡ a ⌝ }
 {
-    found[0] = a.count;
-    found[1] = a.images as usize;
-    found[2] = a.rays as usize;
-    found[3] = a.bytes;
+    *found = [a.count, a.images as usize, a.rays as usize, a.bytes];
     a.refusal
 }
 
 // `trace_early_reflections`: from settings, scene parts and positions to the packet. Answers the refusal, or 0. `found` gets count, images, rays
-// and the packet's length, zeros after a refusal. The work areas come first, in the order of docs/AREAS.md, then the output area.
+// and the packet's length, zeros after a refusal. The work areas come first, in the order of docs/AREAS.md, then the output area. `counts` and
+// `setting_floats` are as `arguments::settings_from` has them; a curve other than 0 and 1 is refused with 1.
 #[no_mangle]
 pub extern "C" fn biv_trace_early_reflections(
     columns: &mut [f32],
@@ -140,9 +138,9 @@ pub extern "C" fn biv_trace_early_reflections(
     kept: &mut [u32],
     edges: &mut [f32],
     out: &mut [u8],
-    found: &mut [usize],
-    counts: &[u32],
-    setting_floats: &[f32],
+    found: &mut [usize; 4],
+    counts: &[u32; 5],
+    setting_floats: &[f32; 11],
     c: u32,
     meshes: &[u32],
     transforms: &[f32],
@@ -150,15 +148,27 @@ pub extern "C" fn biv_trace_early_reflections(
     indices: &[u32],
     materials: &[f32],
     rows_count: u32,
-    source: &[f32],
-    listener: &[f32],
+    source: &[f32; 3],
+    listener: &[f32; 3],
     separated: bool,
 ) -> u32
-    requires { ⌜ (length (now counts) ≡ 5) × (length (now «setting_floats») ≡ 11) ⌝ }
-    requires { ⌜ (length (now source) ≡ 3) × (length (now listener) ≡ 3) × (4 ≤ length (now found)) ⌝ }
-    ensures { λ r. ⌜ Called (settingsFrom (now (counts .entry)) (now («setting_floats» .entry))) c (scene (now (meshes .entry)) (now (transforms .entry)) (now (positions .entry)) (now (indices .entry)) (now (materials .entry)) «rows_count») (lengthsOf (work (now (columns .entry)) (now (handles .entry)) (now (tree .entry)) (now (nodes .entry)) (now (perm .entry)) (now (hi .entry)) (now (lo .entry)) (now (words .entry)) (now (scratch .entry)) (now (index .entry)) (now (id .entry)) (now (linked .entry)) (now (queue .entry)) (now (starts .entry)) (now (gfloats .entry)) (now (members .entry)) (now (rows .entry)) (now (kept .entry)) (now (edges .entry))) (now (out .entry))) (pointFrom (now (source .entry))) (pointFrom (now (listener .entry))) separated (answeredFrom r (now (found .exit))) (now (out .entry)) (now (out .exit)) (work (now (columns .entry)) (now (handles .entry)) (now (tree .entry)) (now (nodes .entry)) (now (perm .entry)) (now (hi .entry)) (now (lo .entry)) (now (words .entry)) (now (scratch .entry)) (now (index .entry)) (now (id .entry)) (now (linked .entry)) (now (queue .entry)) (now (starts .entry)) (now (gfloats .entry)) (now (members .entry)) (now (rows .entry)) (now (kept .entry)) (now (edges .entry))) (work (now (columns .exit)) (now (handles .exit)) (now (tree .exit)) (now (nodes .exit)) (now (perm .exit)) (now (hi .exit)) (now (lo .exit)) (now (words .exit)) (now (scratch .exit)) (now (index .exit)) (now (id .exit)) (now (linked .exit)) (now (queue .exit)) (now (starts .exit)) (now (gfloats .exit)) (now (members .exit)) (now (rows .exit)) (now (kept .exit)) (now (edges .exit))) ⌝ }
-    ensures { λ _. ⌜ drop 4 (now (found .exit)) ≡ drop 4 (now (found .entry)) ⌝ }
+    ensures { λ r.
+        let before = work (now (columns .entry)) (now (handles .entry)) (now (tree .entry)) (now (nodes .entry)) (now (perm .entry)) (now (hi .entry))
+        (now (lo .entry)) (now (words .entry)) (now (scratch .entry)) (now (index .entry)) (now (id .entry)) (now (linked .entry))
+        (now (queue .entry)) (now (starts .entry)) (now (gfloats .entry)) (now (members .entry)) (now (rows .entry)) (now (kept .entry))
+        (now (edges .entry)) in
+        let after = work (now (columns .exit)) (now (handles .exit)) (now (tree .exit)) (now (nodes .exit)) (now (perm .exit)) (now (hi .exit))
+        (now (lo .exit)) (now (words .exit)) (now (scratch .exit)) (now (index .exit)) (now (id .exit)) (now (linked .exit))
+        (now (queue .exit)) (now (starts .exit)) (now (gfloats .exit)) (now (members .exit)) (now (rows .exit)) (now (kept .exit))
+        (now (edges .exit)) in
+        let parts = scene (now (meshes .entry)) (now (transforms .entry)) (now (positions .entry)) (now (indices .entry)) (now (materials .entry)) «rows_count» in
+        ⌜ Entered (now (counts .entry)) (now («setting_floats» .entry)) c parts (pointFrom (now (source .entry))) (pointFrom (now (listener .entry))) separated
+        r (now (found .exit)) (now (out .entry)) (now (out .exit)) before after ⌝ }
 {
+    if counts[4] > 1 {
+        *found = [0, 0, 0, 0];
+        return 1;
+    }
     let s = arguments::settings_from(counts, setting_floats);
     let from = arguments::point_from(source);
     let to = arguments::point_from(listener);

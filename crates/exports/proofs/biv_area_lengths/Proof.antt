@@ -10,7 +10,7 @@ returns : tie.Need-returns
 returns c = record { answered = sym (lt-leb _ _ (c .if1 .taken)); lengths = refl }
 
 returns-2 : tie.Need-returns-2
-returns-2 c = record { answered = sym (le-leb _ _ (c .before .before .before .before .if1 .left)); lengths = c .before .before .put-lengths .ensures }
+returns-2 c = record { answered = sym (le-leb _ _ (c .before .if1 .left)); lengths = c .least-lengths .ensures }
 
 pub biv-area-lengths-spec : {M : Type 1} → statement M
-biv-area-lengths-spec = tie.close (tie.spec returns (λ c κs. search needs) (λ c. search needs) returns-2)
+biv-area-lengths-spec = tie.close (tie.spec returns (λ c κs. search needs) returns-2)

@@ -158,8 +158,8 @@ pub const TAPS: usize = 64;
 /// Reads a packet into a tap area; the error is document 01's refusal.
 pub fn packet_read(bytes: &[u8], taps: &mut [u32]) -> Result<Read, u32> {
     let mut found = [0usize; 3];
-    // SAFETY: each pointer goes with its own length, and found has three.
-    match unsafe { ffi::biv_packet_read(bytes.as_ptr(), bytes.len(), taps.as_mut_ptr(), taps.len(), found.as_mut_ptr(), found.len()) } {
+    // SAFETY: each pointer goes with its own length.
+    match unsafe { ffi::biv_packet_read(bytes.as_ptr(), bytes.len(), taps.as_mut_ptr(), taps.len(), &mut found) } {
         0 => Ok(Read { count: found[0], images: found[1] as u32, rays: found[2] as u32 }),
         k => Err(k),
     }
@@ -169,7 +169,7 @@ pub fn packet_read(bytes: &[u8], taps: &mut [u32]) -> Result<Read, u32> {
 pub fn packet_write(count: usize, images: u32, rays: u32, taps: &[u32], out: &mut [u8]) -> Result<usize, u32> {
     let mut found = [0usize];
     // SAFETY: as for `packet_read`.
-    match unsafe { ffi::biv_packet_write(count, images, rays, taps.as_ptr(), taps.len(), out.as_mut_ptr(), out.len(), found.as_mut_ptr(), found.len()) } {
+    match unsafe { ffi::biv_packet_write(count, images, rays, taps.as_ptr(), taps.len(), out.as_mut_ptr(), out.len(), &mut found) } {
         0 => Ok(found[0]),
         k => Err(k),
     }
@@ -244,8 +244,8 @@ pub fn least(i: usize, t: usize, c: usize) -> usize {
 /// The least lengths as the port gives them; none for more than 4,096 triples.
 pub fn area_lengths(t: usize, c: u32) -> Option<[usize; AREAS]> {
     let mut lens = [0; AREAS];
-    // SAFETY: lens has its length.
-    unsafe { ffi::biv_area_lengths(t, c, lens.as_mut_ptr(), lens.len()) }.then_some(lens)
+    // SAFETY: it asks nothing.
+    unsafe { ffi::biv_area_lengths(t, c, &mut lens) }.then_some(lens)
 }
 
 /// Columns of a triangle, floats and words of a candidate, and the least output (docs/AREAS.md).
@@ -780,7 +780,7 @@ pub struct Traced {
 /// `trace_early_reflections`, from the scene's parts to the packet in `out`. Any lengths of the areas will do: those that are short are refused.
 pub fn trace(l: &Lent, work: &mut Work, out: &mut [u8], source: &[f32; 3], listener: &[f32; 3], separated: bool) -> Traced {
     let mut found = [0usize; 4];
-    // SAFETY: each pointer goes with its own length, the `&mut` areas are distinct, and counts, floats, source, listener and found have their lengths.
+    // SAFETY: each pointer goes with its own length, and the `&mut` areas are distinct.
     #[rustfmt::skip]
     let refusal = unsafe {
         ffi::biv_trace_early_reflections(
@@ -792,10 +792,9 @@ pub fn trace(l: &Lent, work: &mut Work, out: &mut [u8], source: &[f32; 3], liste
             work.starts.as_mut_ptr(), work.starts.len(), work.gfloats.as_mut_ptr(), work.gfloats.len(),
             work.members.as_mut_ptr(), work.members.len(), work.rows.as_mut_ptr(), work.rows.len(),
             work.kept.as_mut_ptr(), work.kept.len(), work.edges.as_mut_ptr(), work.edges.len(), out.as_mut_ptr(), out.len(),
-            found.as_mut_ptr(), found.len(), l.counts.as_ptr(), l.counts.len(), l.floats.as_ptr(), l.floats.len(), l.room,
+            &mut found, &l.counts, &l.floats, l.room,
             l.meshes.as_ptr(), l.meshes.len(), l.transforms.as_ptr(), l.transforms.len(), l.positions.as_ptr(), l.positions.len(),
-            l.indices.as_ptr(), l.indices.len(), l.materials.as_ptr(), l.materials.len(), l.rows, source.as_ptr(), source.len(),
-            listener.as_ptr(), listener.len(), separated,
+            l.indices.as_ptr(), l.indices.len(), l.materials.as_ptr(), l.materials.len(), l.rows, source, listener, separated,
         )
     };
     Traced { refusal, count: found[0], images: found[1], rays: found[2], bytes: found[3] }
