@@ -71,9 +71,12 @@ lensOf w =
     length (w .edges) ∷
     outputBytes ∷ []
 
--- where no refusal of 1 to 6 applies and a triangle is kept, the r planes in the areas are those of the query; r is 0 else
+-- where no refusal of 1 to 6 applies and a triangle is kept, the r planes in the areas are those of the query; r is 0 else. What stands in the areas beside
+-- the planes is open: later steps serve themselves of areas that earlier ones are done with
 pub record PlanesOf (st : Settings) (c : ℕ) (s : Scene) (lens : List ℕ) (rows : List Float) (kept members : List ℕ) (edges : List Float) (r : ℕ) : Type 0 where
   pub are : firstRefusal st c s lens ≡ 0 → 0 < length (triangles s) → planesIn rows kept members edges r ≡ planesFor st (triangles s)
+  pub refused : (firstRefusal st c s lens ≡ 0 → ⊥) → r ≡ 0
+  pub bare : length (triangles s) ≡ 0 → r ≡ 0
   pub few : r ≤ mostPlanes
   pub floats-room : planeFloats * r ≤ length rows
   pub words-room : planeWords * r ≤ length kept

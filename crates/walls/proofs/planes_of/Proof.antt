@@ -1,4 +1,4 @@
-use mathlib.Core.Path.{sym, _∙_}
+use mathlib.Core.Path.{refl, sym, _∙_}
 use lib.ListN.{length}
 use native.Mathlib.Omega.{arith}
 use native.Mathlib.Nat.{pos-of-ne-zero}
@@ -34,6 +34,8 @@ returns c = let a = c .before .before .before .before .before .before .before .b
     let is = front-refusal k s (g .result) (f .result) (l .answer) (f .ensures) in
     record {
       are = λ z some. absurd (let fr = fronted k s (g .result) (f .result) (l .answer) (f .ensures) z in let no : ⊥ = omega (arith, fr .kept, some, c .if1 .taken) in no);
+      refused = λ no-answer. refl;
+      bare = λ empty. refl;
       few = omega arith;
       floats-room = omega arith;
       words-room = omega arith;
@@ -166,6 +168,8 @@ returns-2 c = let a = c .before .before .before .before .before .before .before 
     let room = acc .room in let p = c .before .before .before .before .before .before .before .before .before .before .before .before .before .before .before .before .before .before .before .before .before .before .before .before .before .before .before .before .before .before .before .before .before .before .planes-loaded .ensures in let inside = within st (a .c) (acc .settings) in
     record {
       are = λ z some. p .are s (g .last .1 .1 .1 .1 .1 .1 .1 .1 .1 .1 .0) there (c .before .before .before .before .before .before .before .before .before .before .before .before .before .before .before .before .before .before .before .before .before .before .before .before .before .before .before .before .before .before .before .before .before .before .before .before .before .before .before .before .before .before .before .before .before .before .before .before .before .before .before .before .before .before .before .before .clear-from .ensures);
+      refused = λ no-answer. absurd (no-answer (sym is ∙ none));
+      bare = λ empty. absurd (let no : ⊥ = omega (arith, fr .kept, some, empty) in no);
       few = omega (arith, p .most, inside .planes);
       floats-room = p .held .floats-room;
       words-room = p .held .words-room;
