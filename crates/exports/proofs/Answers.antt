@@ -15,8 +15,8 @@ pub apart : (n j k : ℕ) → n ≤ j → k < n → j ≤ k → ⊥
 apart n j k a b h = omega arith
 
 pub called :
-    (st st′ : Settings) (c : ℕ) (s : Scene) (lens : List ℕ) (source source′ listener listener′ : Vec3) (separated : Bool) (r r′ : Answered) (out out′ : List ℕ) (found left : Work) →
+    (st st′ : Settings) (c : ℕ) (s : Scene) (source source′ listener listener′ : Vec3) (separated : Bool) (r r′ : Answered) (out out′ : List ℕ) (found left : Work) →
     st ≡ st′ → source ≡ source′ → listener ≡ listener′ → r′ ≡ r →
-    Traced st c s lens source listener separated r out out′ found left →
-    Traced st′ c s lens source′ listener′ separated r′ out out′ found left
-called st st′ c s lens source source′ listener listener′ separated r r′ out out′ found left a b d e t = rw (e, ← a, ← b, ← d) t
+    Traced st c s source listener separated r out out′ found left →
+    Traced st′ c s source′ listener′ separated r′ out out′ found left
+called st st′ c s source source′ listener listener′ separated r r′ out out′ found left a b d e t = rw (e, ← a, ← b, ← d) t

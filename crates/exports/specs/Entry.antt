@@ -8,7 +8,7 @@ use lib.ListN.{getD}
 use Rattle.vector.specs.declared.Vec3.{Vec3}
 use Rattle.scene.specs.Scene.{Scene}
 use Rattle.arguments.specs.Settings.{settingsFrom}
-use Rattle.query.specs.Areas.{Work, lengthsOf}
+use Rattle.query.specs.Areas.{Work}
 use Rattle.query.specs.Trace.{Traced}
 use Rattle.exports.specs.Answers.{answeredFrom}
 
@@ -31,6 +31,6 @@ pub record Entered
   -- document 01 knows two curves, here 0 and 1: the call is the query's, of the settings that the numbers stand for
   pub called :
       curveIn counts ≤ 1 →
-      Traced (settingsFrom counts floats) c s (lengthsOf before out) source listener separated (answeredFrom r found) out out′ before after
+      Traced (settingsFrom counts floats) c s source listener separated (answeredFrom r found) out out′ before after
   -- a curve of another number is a setting outside its limits: refusal 1, the lowest, whatever else is wrong
   pub refused : 1 < curveIn counts → RefusedCurve r found out out′ before after

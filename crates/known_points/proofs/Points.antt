@@ -11,7 +11,7 @@ use Rattle.taps.specs.Tap.{tapOf, packetOf}
 use Rattle.claim.specs.Query.{Query}
 use Rattle.answer.specs.Answer.{answeredOf, outputOf}
 use Rattle.answer.specs.declared.Answered.{Answered}
-use Rattle.query.specs.Areas.{Work}
+use Rattle.query.specs.Areas.{Work, lengthsOf}
 use Rattle.query.specs.Trace.{workAfter, Traced}
 use Rattle.sequences.proofs.Points.{table}
 use Rattle.known_points.specs.CaseA.{settings, room, floor, source, listener, separated, tap, packet}
@@ -32,13 +32,13 @@ put-out lens enough out =
     ap (λ (q : Query). outputOf q out) (case-a lens enough) ∙ ap (λ (bytes : List ℕ). bytes ++ drop (length bytes) out) packet-is
 
 received :
-    (lens : List ℕ) (r : Answered) (out out′ : List ℕ) (found left : Work) → Enough lens →
-    Traced settings room floor lens source listener separated r out out′ found left → Received r out out′ found left
-received lens r out out′ found left enough t =
+    (r : Answered) (out out′ : List ℕ) (found left : Work) → Enough (lengthsOf found out) →
+    Traced settings room floor source listener separated r out out′ found left → Received r out out′ found left
+received r out out′ found left enough t =
     record {
-      answered = t .answer ∙ answered lens enough;
-      output = t .output ∙ put-out lens enough out;
-      areas = t .areas ∙ ap (λ (k : ℕ). workAfter k found) (not-refused lens enough);
+      answered = t .answer ∙ answered (lengthsOf found out) enough;
+      output = t .output ∙ put-out (lengthsOf found out) enough out;
+      areas = t .areas ∙ ap (λ (k : ℕ). workAfter k found) (not-refused (lengthsOf found out) enough);
     }
 
 pub known-points : KnownPoints

@@ -13,7 +13,7 @@ use Rattle.claim.specs.Answer.{Answer}
 use Rattle.claim.specs.Query.{Query, given}
 use Rattle.answer.specs.Query.{planesFor}
 use Rattle.answer.specs.declared.Answered.{Answered}
-use Rattle.query.specs.Areas.{Work, zeroed}
+use Rattle.query.specs.Areas.{Work, zeroed, lengthsOf}
 use Rattle.query.specs.Trace.{traceOf, Traced}
 use Rattle.sequences.proofs.Points.{Table}
 use Rattle.vector.specs.declared.Vec3.{Vec3}
@@ -44,8 +44,8 @@ pub record KnownPoints : Type 0 where
       ≡ made (bounce ∷ []) (0 ∷ []) (whole 1)
   -- A, for a caller of `trace_early_reflections`, whose contract is `Traced`
   pub case-a-caller :
-      (lens : List ℕ) (r : Answered) (out out′ : List ℕ) (found left : Work) → Enough lens →
-      Traced settings room floor lens source listener separated r out out′ found left → Received r out out′ found left
+      (r : Answered) (out out′ : List ℕ) (found left : Work) → Enough (lengthsOf found out) →
+      Traced settings room floor source listener separated r out out′ found left → Received r out out′ found left
   -- the least lengths that docs/ gives for the areas are enough
   pub case-a-areas : Enough leastLengths
   -- "In A with source y = 0.00005, images is 0"

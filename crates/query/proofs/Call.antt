@@ -42,8 +42,8 @@ use Rattle.answer.specs.declared.Answered.{Answered}
 use Rattle.answer.proofs.Silence.{used-most}
 use Rattle.front.specs.declared.Front.{Front}
 use Rattle.front.specs.Asked.{frontOf, earlyOf, searchOrder}
-use Rattle.query.specs.Areas.{Work, zeroed}
-use Rattle.query.specs.Trace.{silentOf, usedOrder, orderOf, limitOf, queryIn, byRefusal, traceOf, workAfter, mostRays, Traced}
+use Rattle.query.specs.Areas.{Work, zeroed, lengthsOf}
+use Rattle.query.specs.Trace.{silentOf, usedOrder, orderOf, limitOf, queryIn, byRefusal, traceOf, callOf, workAfter, mostRays, Traced}
 
 -- ---- what loading answers
 
@@ -224,24 +224,24 @@ given-rays on order speed rate limit room path a e = go (ltb room (length (found
 
 -- a call that answers as the definition and leaves the areas as it says is as it promises
 pub traced :
-    (st : Settings) (c : ℕ) (s : Scene) (lens : List ℕ) (source listener : Vec3) (separated : Bool) (r : Answered) (out out′ : List ℕ) (found left : Work) →
-    Answers (traceOf st c s lens source listener separated) r out out′ → left ≡ workAfter (firstRefusal st c s lens) found →
-    Traced st c s lens source listener separated r out out′ found left
-traced st c s lens source listener separated r out out′ found left h w =
+    (st : Settings) (c : ℕ) (s : Scene) (source listener : Vec3) (separated : Bool) (r : Answered) (out out′ : List ℕ) (found left : Work) →
+    Answers (callOf st c s source listener separated found out) r out out′ → left ≡ workAfter (firstRefusal st c s (lengthsOf found out)) found →
+    Traced st c s source listener separated r out out′ found left
+traced st c s source listener separated r out out′ found left h w =
     record {
       answer = h .answer;
       output = h .output;
       areas = w;
       complete = λ a e.
-          let g = given-only (firstRefusal st c s lens) (queryIn st c s source listener separated) a e in
-          let p = settings-within st c s lens (g .0) in
+          let g = given-only (firstRefusal st c s (lengthsOf found out)) (queryIn st c s source listener separated) a e in
+          let p = settings-within st c s (lengthsOf found out) (g .0) in
           let few = used-most (silentOf separated source listener (length (triangles s))) (min (st .«max_reflection_order») maxOrder) (omega arith) in
           query-complete (onOf (planesFor st (triangles s)) source) (orderOf st s source listener separated) (st .«speed_of_sound») (st .«sample_rate») (limitOf st)
           (pathFor st (triangles s) (s .materials) source listener) (small (orderOf st s source listener separated) few)
           (paths-proper st (planesFor st (triangles s)) (triangleAt (triangles s)) (treeOf (triangles s)) (s .materials) source listener (p .rates)
           (onOf (planesFor st (triangles s)) source) (orderOf st s source listener separated)) c a (g .1);
       rays = λ a e.
-          let g = given-only (firstRefusal st c s lens) (queryIn st c s source listener separated) a e in
+          let g = given-only (firstRefusal st c s (lengthsOf found out)) (queryIn st c s source listener separated) a e in
           let same =
           given-rays (onOf (planesFor st (triangles s)) source) (orderOf st s source listener separated) (st .«speed_of_sound») (st .«sample_rate») (limitOf st) c
           (pathFor st (triangles s) (s .materials) source listener) a (g .1)

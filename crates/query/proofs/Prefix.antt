@@ -48,8 +48,8 @@ use Rattle.taps.specs.Tap.{packetOf}
 use Rattle.answer.specs.Query.{planesFor, pathFor}
 use Rattle.answer.specs.Answer.{answeredOf, outputOf}
 use Rattle.answer.specs.declared.Answered.{Answered}
-use Rattle.query.specs.Areas.{Work}
-use Rattle.query.specs.Trace.{byRefusal, orderOf, limitOf, queryIn, traceOf, Traced}
+use Rattle.query.specs.Areas.{Work, lengthsOf}
+use Rattle.query.specs.Trace.{byRefusal, orderOf, limitOf, queryIn, traceOf, callOf, Traced}
 use Rattle.query.specs.Lists.{withList, FirstOf, ShortAndLong}
 
 -- ---- what does not read it
@@ -232,13 +232,18 @@ module _ (st : Settings) (a b : ℕ) (h : a ≤ b) (s : Scene) (source listener 
 
   -- of two calls with equal C and areas of equal lengths, whatever the areas held
   pub prefix-calls :
-      (c : ℕ) (lens : List ℕ) (short long : Answered) (out out₁ out′ out₁′ : List ℕ) (found left found′ left′ : Work) →
-      Traced (withList st a) c s lens source listener separated short out out₁ found left →
-      Traced (withList st b) c s lens source listener separated long out′ out₁′ found′ left′ →
-      ShortAndLong a short long out₁ out₁′
-  prefix-calls c lens short long out out₁ out′ out₁′ found left found′ left′ t t′ =
-      carried a (traceOf (withList st a) c s lens source listener separated) (traceOf (withList st b) c s lens source listener separated) short long out out₁ out′ out₁′
-      (t .answer) (t′ .answer) (t .output) (t′ .output) (both-answers c lens out out′)
+      (c : ℕ) (short long : Answered) (out out₁ out′ out₁′ : List ℕ) (found left found′ left′ : Work) →
+      Traced (withList st a) c s source listener separated short out out₁ found left →
+      Traced (withList st b) c s source listener separated long out′ out₁′ found′ left′ →
+      lengthsOf found out ≡ lengthsOf found′ out′ → ShortAndLong a short long out₁ out₁′
+  prefix-calls c short long out out₁ out′ out₁′ found left found′ left′ t t′ lengths =
+      carried a (callOf (withList st a) c s source listener separated found out) (callOf (withList st b) c s source listener separated found′ out′) short long out out₁ out′ out₁′
+      (t .answer) (t′ .answer) (t .output) (t′ .output)
+      (subst
+      (λ (l : List ℕ).
+      let q = traceOf (withList st a) c s (lengthsOf found out) source listener separated in
+      let q′ = traceOf (withList st b) c s l source listener separated in
+      ShortAndLong a (answeredOf q) (answeredOf q′) (outputOf q out) (outputOf q′ out′)) lengths (both-answers c (lengthsOf found out) out out′))
 
 -- a query's answer with no refusal is one that was given
 given-told :
@@ -278,11 +283,13 @@ module _ (st : Settings) (a b : ℕ) (h : a ≤ b) (s : Scene) (source listener 
 
   -- of two stations: C and the lengths of the areas may differ, where both calls give a result
   pub prefix-stations :
-      (c c′ : ℕ) (lens lens′ : List ℕ) (short long : Answered) (out out₁ out′ out₁′ : List ℕ) (found left found′ left′ : Work) →
-      Traced (withList st a) c s lens source listener separated short out out₁ found left →
-      Traced (withList st b) c′ s lens′ source listener separated long out′ out₁′ found′ left′ →
+      (c c′ : ℕ) (short long : Answered) (out out₁ out′ out₁′ : List ℕ) (found left found′ left′ : Work) →
+      Traced (withList st a) c s source listener separated short out out₁ found left →
+      Traced (withList st b) c′ s source listener separated long out′ out₁′ found′ left′ →
       short .refusal ≡ 0 → long .refusal ≡ 0 → ShortAndLong a short long out₁ out₁′
-  prefix-stations c c′ lens lens′ short long out out₁ out′ out₁′ found left found′ left′ t t′ z z′ =
+  prefix-stations c c′ short long out out₁ out′ out₁′ found left found′ left′ t t′ z z′ =
+      let lens = lengthsOf found out in
+      let lens′ = lengthsOf found′ out′ in
       let e = answer-told a c lens short (t .answer) z in
       let e′ = answer-told b c′ lens′ long (t′ .answer) z′ in
       let first = prefix-answers st a b h s source listener separated c c′ lens lens′ (answer a) (answer b) e e′ in

@@ -21,7 +21,7 @@ use Rattle.answer.specs.Answer.{queryFor, answeredOf, outputOf}
 use Rattle.answer.specs.declared.Answered.{Answered}
 pub use Rattle.front.specs.Asked.{finitePoint, silentOf, usedOrder, limitOf}
 pub use Rattle.answer.specs.Answer.{byRefusal}
-use Rattle.query.specs.Areas.{Work, zeroed}
+use Rattle.query.specs.Areas.{Work, zeroed, lengthsOf}
 
 -- "order and `max_reflections` any u32 (used as at most 8 and 64)": the order of the search, 0 where nothing is searched (`silentOf` of front/specs/Asked)
 abbrev pub orderOf : Settings → Scene → Vec3 → Vec3 → Bool → ℕ
@@ -44,20 +44,24 @@ unfoldable pub mostRays : List (List ℕ) → ℕ
 mostRays [] = 0
 mostRays (q ∷ qs) = 162 * (length q + 1) + mostRays qs
 
+-- THE ANSWER of a call that is lent these work areas and this output area
+abbrev pub callOf : Settings → ℕ → Scene → Vec3 → Vec3 → Bool → Work → List ℕ → Query
+callOf st c s source listener separated found out = traceOf st c s (lengthsOf found out) source listener separated
+
 -- What a call promises, for any settings, scene, positions and areas
 pub record Traced
-    (st : Settings) (c : ℕ) (s : Scene) (lens : List ℕ) (source listener : Vec3) (separated : Bool) (r : Answered) (out out′ : List ℕ) (found left : Work)
+    (st : Settings) (c : ℕ) (s : Scene) (source listener : Vec3) (separated : Bool) (r : Answered) (out out′ : List ℕ) (found left : Work)
     : Type 0 where
   -- the refusal's number and counts 0, or the counts of the answer and the packet's length
-  pub answer : r ≡ answeredOf (traceOf st c s lens source listener separated)
+  pub answer : r ≡ answeredOf (callOf st c s source listener separated found out)
   -- the packet and what stood past it, or the output area as found
-  pub output : out′ ≡ outputOf (traceOf st c s lens source listener separated) out
-  pub areas : left ≡ workAfter (firstRefusal st c s lens) found
+  pub output : out′ ≡ outputOf (callOf st c s source listener separated found out) out
+  pub areas : left ≡ workAfter (firstRefusal st c s (lengthsOf found out)) found
   -- DEMAND 3, one claim about the answer's count and list together
   pub complete :
-      (a : Answer) → traceOf st c s lens source listener separated ≡ given a →
+      (a : Answer) → callOf st c s source listener separated found out ≡ given a →
       Complete (onOf (planesFor st (triangles s)) source) (orderOf st s source listener separated) (st .«speed_of_sound») (st .«sample_rate») (limitOf st)
       (pathFor st (triangles s) (s .materials) source listener) a
   pub rays :
-      (a : Answer) → traceOf st c s lens source listener separated ≡ given a →
+      (a : Answer) → callOf st c s source listener separated found out ≡ given a →
       a .rays ≤ mostRays (visited (onOf (planesFor st (triangles s)) source) (orderOf st s source listener separated))

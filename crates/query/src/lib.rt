@@ -4,7 +4,7 @@ use answer::Answered;
 use scene::Settings;
 use vector::Vec3;
 ghost use Rattle.scene.specs.Scene.{scene};
-ghost use Rattle.query.specs.Areas.{work, lengthsOf};
+ghost use Rattle.query.specs.Areas.{work};
 ghost use Rattle.query.specs.Trace.{Traced};
 
 // The call. The work areas come first, in the order of docs/AREAS.md, then the output area; c is the candidate room, `rows_count` the rows of the
@@ -42,7 +42,16 @@ pub fn trace_early_reflections(
     listener: Vec3,
     separated: bool,
 ) -> Answered
-    ensures { λ r. ⌜ Traced settings c (scene (now (meshes .entry)) (now (transforms .entry)) (now (positions .entry)) (now (indices .entry)) (now (materials .entry)) «rows_count») (lengthsOf (work (now (columns .entry)) (now (handles .entry)) (now (tree .entry)) (now (nodes .entry)) (now (perm .entry)) (now (hi .entry)) (now (lo .entry)) (now (words .entry)) (now (scratch .entry)) (now (index .entry)) (now (id .entry)) (now (linked .entry)) (now (queue .entry)) (now (starts .entry)) (now (gfloats .entry)) (now (members .entry)) (now (rows .entry)) (now (kept .entry)) (now (edges .entry))) (now (out .entry))) source listener separated r (now (out .entry)) (now (out .exit)) (work (now (columns .entry)) (now (handles .entry)) (now (tree .entry)) (now (nodes .entry)) (now (perm .entry)) (now (hi .entry)) (now (lo .entry)) (now (words .entry)) (now (scratch .entry)) (now (index .entry)) (now (id .entry)) (now (linked .entry)) (now (queue .entry)) (now (starts .entry)) (now (gfloats .entry)) (now (members .entry)) (now (rows .entry)) (now (kept .entry)) (now (edges .entry))) (work (now (columns .exit)) (now (handles .exit)) (now (tree .exit)) (now (nodes .exit)) (now (perm .exit)) (now (hi .exit)) (now (lo .exit)) (now (words .exit)) (now (scratch .exit)) (now (index .exit)) (now (id .exit)) (now (linked .exit)) (now (queue .exit)) (now (starts .exit)) (now (gfloats .exit)) (now (members .exit)) (now (rows .exit)) (now (kept .exit)) (now (edges .exit))) ⌝ }
+    ensures { λ r.
+        let s = scene (now (meshes .entry)) (now (transforms .entry)) (now (positions .entry)) (now (indices .entry)) (now (materials .entry)) «rows_count» in
+        let found = work (now (columns .entry)) (now (handles .entry)) (now (tree .entry)) (now (nodes .entry)) (now (perm .entry)) (now (hi .entry))
+        (now (lo .entry)) (now (words .entry)) (now (scratch .entry)) (now (index .entry)) (now (id .entry)) (now (linked .entry))
+        (now (queue .entry)) (now (starts .entry)) (now (gfloats .entry)) (now (members .entry)) (now (rows .entry)) (now (kept .entry))
+        (now (edges .entry)) in
+        let left = work (now (columns .exit)) (now (handles .exit)) (now (tree .exit)) (now (nodes .exit)) (now (perm .exit)) (now (hi .exit)) (now (lo .exit))
+        (now (words .exit)) (now (scratch .exit)) (now (index .exit)) (now (id .exit)) (now (linked .exit)) (now (queue .exit))
+        (now (starts .exit)) (now (gfloats .exit)) (now (members .exit)) (now (rows .exit)) (now (kept .exit)) (now (edges .exit)) in
+        ⌜ Traced settings c s source listener separated r (now (out .entry)) (now (out .exit)) found left ⌝ }
 {
     let lens = [
         columns.len(),

@@ -29,7 +29,7 @@ use Rattle.front.specs.Asked.{silentOf, usedOrder, searchOrder, limitOf}
 use Rattle.answer.specs.Query.{planesFor, pathFor}
 use Rattle.answer.specs.declared.Answered.{Answered}
 use Rattle.query.specs.Areas.{Work}
-use Rattle.query.specs.Trace.{traceOf, Traced}
+use Rattle.query.specs.Trace.{callOf, Traced}
 use Rattle.walls.specs.Walls.{PlanesOf, wallsIn, ListsImages}
 
 -- the path by way of the walls of t's number passes, and what it gives is t
@@ -74,14 +74,14 @@ none-seen on seen n v low high =
 
 -- the planes as `planes_of` leaves them, the records as `list_images` does over them, the answer that the call gives
 pub call-walls :
-    (st : Settings) (c : ℕ) (s : Scene) (lens lens′ : List ℕ) (source listener : Vec3) (separated : Bool) (r : Answered) (out out′ : List ℕ) (found left : Work)
+    (st : Settings) (c : ℕ) (s : Scene) (lens′ : List ℕ) (source listener : Vec3) (separated : Bool) (r : Answered) (out out′ : List ℕ) (found left : Work)
     (rows : List Float) (kept members : List ℕ) (edges : List Float) (p : ℕ) (records records′ : List ℕ) →
-    Traced st c s lens source listener separated r out out′ found left → PlanesOf st c s lens′ rows kept members edges p → firstRefusal st c s lens′ ≡ 0 →
+    Traced st c s source listener separated r out out′ found left → PlanesOf st c s lens′ rows kept members edges p → firstRefusal st c s lens′ ≡ 0 →
     0 < length (triangles s) → ListsImages (onOf (planesIn rows kept members edges p) source) (searchOrder st) records records′ →
     fits (onOf (planesIn rows kept members edges p) source) (searchOrder st) records ≡ true → (a : Answer) →
-    traceOf st c s lens source listener separated ≡ given a → (t : Candidate) → Has t (a .taps) →
+    callOf st c s source listener separated found out ≡ given a → (t : Candidate) → Has t (a .taps) →
     Walled (pathFor st (triangles s) (s .materials) source listener) records′ t
-call-walls st c s lens lens′ source listener separated r out out′ found left rows kept members edges p records records′ traced planes none some lists room a is t h =
+call-walls st c s lens′ source listener separated r out out′ found left rows kept members edges p records records′ traced planes none some lists room a is t h =
     by (silentOf separated source listener (length (triangles s))) (traced .complete a is)
   where
     same : planesIn rows kept members edges p ≡ planesFor st (triangles s)

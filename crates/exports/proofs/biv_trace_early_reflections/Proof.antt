@@ -177,7 +177,7 @@ returns-2 c =
     let p8 = p7 .before .before .before in
     record {
       called = λ h.
-          called _ _ _ _ _ _ _ _ _ _ _ _ _ _ _ _ (p7 .settings-from .ensures) (p6 .point-from .ensures) (p5 .point-from2 .ensures)
+          called _ _ _ _ _ _ _ _ _ _ _ _ _ _ _ (p7 .settings-from .ensures) (p6 .point-from .ensures) (p5 .point-from2 .ensures)
           (c .put-answer .ensures) (p3 .trace-early-reflections .ensures);
       refused = λ h. absurd (apart _ _ 1 (p8 .if1 .left) h (omega arith));
     }

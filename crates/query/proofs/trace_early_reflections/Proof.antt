@@ -43,7 +43,7 @@ returns c = let a = c .before .before .before .before .before .before .before .b
     let e : earlyOf k ≡ true = sym (ap (λ (j : ℕ). earlyOf j) is) ∙ sym (c .before .before .early .ensures) ∙ c .before .if1 .taken in
     let some = early-some k e in
     let less = early-less k e in
-    traced st (a .c) s lens (a .source) (a .listener) (a .separated) (c .refused .result) (a .out .now) (a .out .now) w
+    traced st (a .c) s (a .source) (a .listener) (a .separated) (c .refused .result) (a .out .now) (a .out .now) w
     (work (g .last .1 .1 .1 .1 .1 .1 .1 .1 .1 .0) (g .last .1 .1 .1 .1 .1 .1 .1 .1 .1 .1 .0) (a .tree .now) (a .nodes .now) (a .perm .now) (a .hi .now) (a .lo .now) (a .words .now) (a .scratch .now) (a .index .now) (a .id .now) (a .linked .now) (a .queue .now) (a .starts .now) (a .gfloats .now) (a .members .now) (a .rows .now) (a .kept .now) (a .edges .now))
     (refused-answers k (queryIn st (a .c) s (a .source) (a .listener) (a .separated)) (c .refused .result) (a .out .now) (a .out .now) some
     (c .refused .ensures ∙ ap (λ j. answeredOf (refused j)) is) refl)
@@ -173,7 +173,7 @@ returns-2 c = let u = c .before .before .before .before .before .before .before 
     let is = front-refusal k s (g .result) (f .result) (l .answer) (f .ensures) in
     let e : earlyOf k ≡ false = sym (ap (λ (j : ℕ). earlyOf j) is) ∙ sym (c .before .before .before .before .before .before .before .before .before .before .before .before .before .before .before .before .before .before .before .before .before .before .before .before .before .before .before .before .before .before .before .before .before .before .before .before .before .before .before .before .before .before .before .before .before .before .before .before .before .before .before .before .before .before .before .before .before .before .before .before .before .before .early .ensures) ∙ c .before .before .before .before .before .before .before .before .before .before .before .before .before .before .before .before .before .before .before .before .before .before .before .before .before .before .before .before .before .before .before .before .before .before .before .before .before .before .before .before .before .before .before .before .before .before .before .before .before .before .before .before .before .before .before .before .before .before .before .before .before .if1 .left in
     let left = work (u .last .0) (u .last .1 .0) (u .last .1 .1 .0) (u .last .1 .1 .1 .0) (u .last .1 .1 .1 .1 .0) (u .last .1 .1 .1 .1 .1 .0) (u .last .1 .1 .1 .1 .1 .1 .0) (u .last .1 .1 .1 .1 .1 .1 .1 .0) (u .last .1 .1 .1 .1 .1 .1 .1 .1 .0) (u .last .1 .1 .1 .1 .1 .1 .1 .1 .1 .0) (u .last .1 .1 .1 .1 .1 .1 .1 .1 .1 .1 .0) (u .last .1 .1 .1 .1 .1 .1 .1 .1 .1 .1 .1 .0) (u .last .1 .1 .1 .1 .1 .1 .1 .1 .1 .1 .1 .1 .0) (u .last .1 .1 .1 .1 .1 .1 .1 .1 .1 .1 .1 .1 .1 .0) (u .last .1 .1 .1 .1 .1 .1 .1 .1 .1 .1 .1 .1 .1 .1 .0) (u .last .1 .1 .1 .1 .1 .1 .1 .1 .1 .1 .1 .1 .1 .1 .1 .0) (u .last .1 .1 .1 .1 .1 .1 .1 .1 .1 .1 .1 .1 .1 .1 .1 .1 .0) (u .last .1 .1 .1 .1 .1 .1 .1 .1 .1 .1 .1 .1 .1 .1 .1 .1 .1 .0) (u .last .1 .1 .1 .1 .1 .1 .1 .1 .1 .1 .1 .1 .1 .1 .1 .1 .1 .1 .0) in
-    traced st (a .c) s lens (a .source) (a .listener) (a .separated) (u .result) (a .out .now) (u .last .1 .1 .1 .1 .1 .1 .1 .1 .1 .1 .1 .1 .1 .1 .1 .1 .1 .1 .1 .0) w left
+    traced st (a .c) s (a .source) (a .listener) (a .separated) (u .result) (a .out .now) (u .last .1 .1 .1 .1 .1 .1 .1 .1 .1 .1 .1 .1 .1 .1 .1 .1 .1 .1 .1 .0) w left
     (loaded-answers st (a .c) s lens (a .source) (a .listener) (a .separated) (f .result .refusal) (f .result .kept) (u .result) (a .out .now) (u .last .1 .1 .1 .1 .1 .1 .1 .1 .1 .1 .1 .1 .1 .1 .1 .1 .1 .1 .1 .0) is
     (λ none. let fr = fronted k s (g .result) (f .result) (l .answer) (f .ensures) (sym is ∙ none) in fr .kept)
     (u .ensures .0 .over s (λ none.
