@@ -9,7 +9,7 @@ use Rattle.clearing.proofs.clear_floats.Tie as tie
 -- `clearing::clear_floats` meets its contract.
 
 returns : tie.Need-returns
-returns c = (zero-of zero32 (length (c .before .before .before .before .before .before .before .before .before .before .before .before .before .before .before .args .a .now)) _ (c .before .before .before .before .before .before .before .before .before .before .clear-f32 .ensures), zero-of zero32 (length (c .before .before .before .before .before .before .before .before .before .before .before .before .before .before .before .args .b .now)) _ (c .before .before .before .before .before .before .clear-f322 .ensures), zero-of zero32 (length (c .before .before .before .before .before .before .before .before .before .before .before .before .before .before .before .args .c .now)) _ (c .before .before .clear-f323 .ensures))
+returns c = (zero-of zero32 (length (c .before .before .before .before .before .before .before .before .before .before .before .before .before .before .before .args .a .now)) _ (c .before .before .before .before .before .before .before .before .before .before .wipe-f32 .ensures), zero-of zero32 (length (c .before .before .before .before .before .before .before .before .before .before .before .before .before .before .before .args .b .now)) _ (c .before .before .before .before .before .before .wipe-f322 .ensures), zero-of zero32 (length (c .before .before .before .before .before .before .before .before .before .before .before .before .before .before .before .args .c .now)) _ (c .before .before .wipe-f323 .ensures))
 
 pub clear-floats-spec : {M : Type 1} → statement M
 clear-floats-spec =

@@ -8,7 +8,7 @@ use Rattle.clearing.proofs.clear_lists.Tie as tie
 -- `clearing::clear_lists` meets its contract.
 
 returns : tie.Need-returns
-returns c = (zero-of 0 (length (c .before .before .before .before .before .before .before .before .before .before .before .before .before .before .before .before .before .before .before .before .before .before .before .before .before .args .a .now)) _ (c .before .before .before .before .before .before .before .before .before .before .before .before .before .before .before .before .before .before .clear-u32 .ensures), zero-of 0 (length (c .before .before .before .before .before .before .before .before .before .before .before .before .before .before .before .before .before .before .before .before .before .before .before .before .before .args .b .now)) _ (c .before .before .before .before .before .before .before .before .before .before .before .before .before .before .clear-u322 .ensures), zero-of 0 (length (c .before .before .before .before .before .before .before .before .before .before .before .before .before .before .before .before .before .before .before .before .before .before .before .before .before .args .c .now)) _ (c .before .before .before .before .before .before .before .before .before .before .clear-u323 .ensures), zero-of 0 (length (c .before .before .before .before .before .before .before .before .before .before .before .before .before .before .before .before .before .before .before .before .before .before .before .before .before .args .d .now)) _ (c .before .before .before .before .before .before .clear-u324 .ensures), zero-of 0 (length (c .before .before .before .before .before .before .before .before .before .before .before .before .before .before .before .before .before .before .before .before .before .before .before .before .before .args .e .now)) _ (c .before .before .clear-u325 .ensures))
+returns c = (zero-of 0 (length (c .before .before .before .before .before .before .before .before .before .before .before .before .before .before .before .before .before .before .before .before .before .before .before .before .before .args .a .now)) _ (c .before .before .before .before .before .before .before .before .before .before .before .before .before .before .before .before .before .before .wipe-u32 .ensures), zero-of 0 (length (c .before .before .before .before .before .before .before .before .before .before .before .before .before .before .before .before .before .before .before .before .before .before .before .before .before .args .b .now)) _ (c .before .before .before .before .before .before .before .before .before .before .before .before .before .before .wipe-u322 .ensures), zero-of 0 (length (c .before .before .before .before .before .before .before .before .before .before .before .before .before .before .before .before .before .before .before .before .before .before .before .before .before .args .c .now)) _ (c .before .before .before .before .before .before .before .before .before .before .wipe-u323 .ensures), zero-of 0 (length (c .before .before .before .before .before .before .before .before .before .before .before .before .before .before .before .before .before .before .before .before .before .before .before .before .before .args .d .now)) _ (c .before .before .before .before .before .before .wipe-u324 .ensures), zero-of 0 (length (c .before .before .before .before .before .before .before .before .before .before .before .before .before .before .before .before .before .before .before .before .before .before .before .before .before .args .e .now)) _ (c .before .before .wipe-u325 .ensures))
 
 pub clear-lists-spec : {M : Type 1} → statement M
 clear-lists-spec =

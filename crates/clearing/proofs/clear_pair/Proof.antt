@@ -8,7 +8,7 @@ use Rattle.clearing.proofs.clear_pair.Tie as tie
 -- `clearing::clear_pair` meets its contract.
 
 returns : tie.Need-returns
-returns c = (zero-of 0 (length (c .before .before .before .before .before .before .before .before .before .before .args .a .now)) _ (c .before .before .before .before .before .before .clear-u32 .ensures), zero-of 0 (length (c .before .before .before .before .before .before .before .before .before .before .args .b .now)) _ (c .before .before .clear-u322 .ensures))
+returns c = (zero-of 0 (length (c .before .before .before .before .before .before .before .before .before .before .args .a .now)) _ (c .before .before .before .before .before .before .wipe-u32 .ensures), zero-of 0 (length (c .before .before .before .before .before .before .before .before .before .before .args .b .now)) _ (c .before .before .wipe-u322 .ensures))
 
 pub clear-pair-spec : {M : Type 1} → statement M
 clear-pair-spec =
