@@ -297,7 +297,8 @@ impl Workspace {
             end += (len * element).div_ceil(8);
         }
         if self.block.len() < end {
-            self.block.resize(end, 0);
+            // zero pages of the system: what no query reaches is read, and stays one of them
+            self.block = vec![0; end];
         }
         areas
     }
