@@ -17,6 +17,7 @@ struct Coverage {
     calls: u64,
     refusals: BTreeMap<u32, u64>,
     triangles: u64,
+    far: u64,
     most: usize,
     searches: u64,
     images: u64,
@@ -88,7 +89,7 @@ impl Coverage {
         for (k, n) in &self.refusals {
             println!("  refusal {k}: {n} calls");
         }
-        println!("  triangles: {}, at most {} in a scene", self.triangles, self.most);
+        println!("  triangles: {}, at most {} in a scene; passes that met a far corner: {}", self.triangles, self.most, self.far);
         println!("  trees: {}, {} nodes, at most {} deep; {} rays, {} hits", self.trees, self.nodes, self.deepest, self.rays, self.hits);
         let b = &self.built;
         println!("  planes: {}, {} fitted, of {} triangles, {} border edges; {} patches buried, {} planes past the limit", b.planes, b.fitted, b.triangles, b.edges, b.buried, b.cut);
@@ -159,6 +160,7 @@ fn slip_of(mut k: usize) -> (usize, usize) {
 #[derive(Clone, Copy)]
 struct Went {
     answer: Loaded,
+    far: u64,
     traced: Traced,
     built: Built,
     walked: Walked,
@@ -168,7 +170,7 @@ struct Went {
 
 impl Went {
     fn none() -> Went {
-        Went { answer: Loaded::Refused(0), traced: Traced::default(), built: Built::default(), walked: Walked::default(), heard: Heard::default(), called: Called::default() }
+        Went { answer: Loaded::Refused(0), far: 0, traced: Traced::default(), built: Built::default(), walked: Walked::default(), heard: Heard::default(), called: Called::default() }
     }
 }
 
@@ -185,7 +187,7 @@ fn stages(c: &Case, d: Damage, planted: Option<usize>) -> Option<Result<Went, St
         Ok(left) => left,
         Err(words) => return Some(Err(words)),
     };
-    let mut went = Went { answer: left.answer, ..Went::none() };
+    let mut went = Went { answer: left.answer, far: left.far, ..Went::none() };
     let mut backend = matches!(left.answer, Loaded::Triangles { .. }).then(|| oracle::built(c, true));
     if planted.is_none() {
         match calls::run(c, d, backend.as_ref(), None)? {
@@ -232,6 +234,7 @@ fn check(c: &Case, cover: &mut Coverage) {
         match stages(c, d, None) {
             Some(Ok(went)) => {
                 cover.add(went.answer);
+                cover.far += went.far;
                 cover.add_tree(went.traced);
                 cover.add_planes(went.built);
                 cover.add_paths(went.walked);

@@ -105,10 +105,11 @@ fn same_floats(a: &[f32], b: &[f32]) -> bool {
     a.len() == b.len() && a.iter().zip(b).all(|(x, y)| x.to_bits() == y.to_bits())
 }
 
-/// What the port left: its answer and its areas.
+/// What the port left: its answer and its areas; and how often the pass alone refused.
 pub struct Left {
     pub answer: Loaded,
     pub areas: Areas,
+    pub far: u64,
 }
 
 /// What differs between the port's answer to a case and the Rust's, in words.
@@ -163,16 +164,45 @@ fn row(a: [f32; 3], b: [f32; 3], c: [f32; 3], normal: [f32; 3]) -> Vec<f32> {
     [a, b, c, normal, e1, e2].into_iter().flatten().chain([1e-9 * scale, d00, d01, d11, d00 * d11 - d01 * d01]).collect()
 }
 
-/// The pass alone, where no setting is in its way: its refusal and its placings, also where a corner is too far.
-fn pass_differs(c: &Case, planted: Option<usize>) -> Option<String> {
-    let (expected, mut a) = (oracle::placings(c), areas(triples(c), 0));
-    let mut placed = port::triangles_from_scene(&lent(c), &mut a)?;
-    if planted == Some(PLACED_ON) {
-        placed.placings += 3;
+/// A case and the same with a corner moved far away: one of the first triple, one of the last, and any point, which may stand in a triple that is skipped, or in none.
+fn with_far_corners(c: &Case) -> Vec<Case> {
+    let far = |mesh: usize, point: Option<usize>| {
+        let mut moved = c.clone();
+        *moved.meshes.get_mut(mesh)?.positions.get_mut(point?)? = [-4e4, 3e4, 5e4];
+        Some(moved)
+    };
+    let index = |i: Option<&u32>| i.map(|&i| i as usize);
+    let last = c.meshes.len().saturating_sub(1);
+    let whole = |m: &oracle::Mesh| m.indices.len() / 3 * 3;
+    let any = c.name.bytes().fold(7, |h: usize, b| h.wrapping_mul(31) + b as usize);
+    let moved = [
+        far(0, index(c.meshes.first().and_then(|m| m.indices.first()))),
+        far(last, index(c.meshes.last().and_then(|m| m.indices[..whole(m)].last()))),
+        c.meshes.first().filter(|m| !m.positions.is_empty()).and_then(|m| far(0, Some(any % m.positions.len()))),
+    ];
+    [c.clone()].into_iter().chain(moved.into_iter().flatten()).collect()
+}
+
+/// The pass alone, where no setting is in its way: its refusal, triangles and placings, also where a corner is too far. How many refused.
+fn passes(c: &Case, planted: Option<usize>) -> Result<u64, String> {
+    let mut refused = 0;
+    for c in with_far_corners(c) {
+        let (expected, mut a) = (oracle::placings(&c), areas(triples(&c), 0));
+        let Some(mut placed) = port::triangles_from_scene(&lent(&c), &mut a) else { continue };
+        if planted == Some(PLACED_ON) && expected.far {
+            placed.placings += 3;
+        }
+        let kept = if expected.far { 0 } else { oracle::built(&c, false).oracle_triangles().len() };
+        let theirs = port::Placed { far: expected.far, kept, placings: expected.made };
+        if placed != theirs {
+            return Err(format!("the pass answers {placed:?}, not {theirs:?}"));
+        }
+        if expected.far && (a.columns.iter().any(|x| x.to_bits() != 0) || a.handles.iter().any(|&h| h != 0)) {
+            return Err("after the pass refused, an area is not zero".to_string());
+        }
+        refused += expected.far as u64;
     }
-    let kept = if expected.far { 0 } else { oracle::built(c, false).oracle_triangles().len() };
-    let theirs = port::Placed { far: expected.far, kept, placings: expected.made };
-    (placed != theirs).then(|| format!("the pass answers {placed:?}, not {theirs:?}"))
+    Ok(refused)
 }
 
 /// Planted slips: the port's answer changed as a fault would. The last is a pass that goes on after a far corner.
@@ -192,7 +222,7 @@ fn slip(left: &mut Left, kind: usize) -> bool {
             if a.columns[x].to_bits() == a.columns[y].to_bits() { return false; }
             a.columns.swap(x, y) // first x of the first and the second corner
         }
-        (PLACED_ON, Loaded::Refused(6)) => {}
+        (PLACED_ON, Loaded::Triangles { kept, .. }) if *kept > 0 => {}
         _ => return false,
     }
     true
@@ -205,16 +235,21 @@ pub fn run(c: &Case, d: Damage, planted: Option<usize>) -> Option<Result<Left, S
     if !damage(&mut l, &mut found, d) {
         return None;
     }
-    let mut left = Left { answer: Loaded::Refused(0), areas: found.clone() };
+    let mut left = Left { answer: Loaded::Refused(0), areas: found.clone(), far: 0 };
     left.answer = port::load_scene(&l, &mut left.areas);
     if let Some(k) = planted {
         if !slip(&mut left, k) {
             return None;
         }
     }
-    let pass = if d == Damage::None { pass_differs(c, planted) } else { None };
-    Some(match difference(c, d, &found, &left).or(pass) {
-        None => Ok(left),
-        Some(words) => Err(words),
-    })
+    if let Some(words) = difference(c, d, &found, &left) {
+        return Some(Err(words));
+    }
+    if d == Damage::None {
+        match passes(c, planted) {
+            Ok(refused) => left.far = refused,
+            Err(words) => return Some(Err(words)),
+        }
+    }
+    Some(Ok(left))
 }
