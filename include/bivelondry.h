@@ -167,8 +167,8 @@ struct biv_tap {
 
 typedef char biv_tap_is_14_words[sizeof(struct biv_tap) == 14 * sizeof(uint32_t) ? 1 : -1];
 
-/* ---- the functions of the archive, which is for x86-64. A slice is a pointer, never NULL, and then a length; an array is a pointer to as many elements
- * as stand in its brackets, which no length follows; no two overlap. That is all they ask: what else is wrong is refused. */
+/* ---- the functions of the archive, which is for x86-64. A slice is a pointer, never NULL, and then a length; an array is a pointer, never NULL, to as many
+ * elements as stand in its brackets, which no length follows; no two overlap, and all was set once. That is all they ask: what else is wrong is refused. */
 
 typedef char biv_size_is_64_bits[sizeof(size_t) == 8 ? 1 : -1];
 

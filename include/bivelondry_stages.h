@@ -82,7 +82,7 @@ bool biv_intersect(const float *padded, size_t padded_len, const uint32_t *nodes
 /* planes/specs/Build.antt, planesOf. The mirror planes of the first m triangles of columns of n floats (what biv_load_scene left, with its
  * handles; m <= n <= 4,096), over their tree of nodes_count above 0 nodes in padded, nodes, perm and leaves (rows of biv_build_flat_bvh), by
  * the settings counts and setting_floats (as for biv_load_scene). Answers how many planes there are; they stand in rows (12 floats each),
- * kept (5 words each), members and edges, as biv_path takes them. Lengths: hi, lo and index 3 n exactly; at least words and scratch 24 n, id
+ * kept (5 words each), members and edges, as biv_path takes them. Least lengths: hi, lo and index 3 n, words and scratch 24 n, id
  * and queue 3 n, members n + 1, starts 3 n + 1, linked 24 n, kept 5 n, rows and gfloats 12 n, edges 18 n.
  * The caller keeps them. */
 size_t biv_build_planes(const float *columns, size_t columns_len, const uint32_t *handles, size_t handles_len, size_t n, size_t m,

@@ -20,7 +20,7 @@
 //! ```
 //!
 //! What is proved is what the archive holds (`target/staticlib/libexports.a`, by `rt staticlib exports`); this crate hands on to it. Its `unsafe`
-//! calls pass slices of their own lengths, and of the few lengths that the archive does not test they keep those that its contracts ask.
+//! calls pass slices of their own lengths and arrays of the length that their types say; no function of the archive asks more.
 
 /// The archive's functions as they are, for the comparison with the Rust, which hands over what no caller should.
 #[doc(hidden)]
@@ -382,7 +382,7 @@ pub fn trace_packet<'w>(settings: &Settings, scene: &Scene, source: [f32; 3], li
     let block = workspace.block.as_mut_ptr();
     let (out, out_len) = (workspace.output.as_mut_ptr(), workspace.output.len());
     // SAFETY: `areas` lays the areas one behind the other into the block, at multiples of 8 bytes, and they have their own lengths; scene parts go
-    // with their own lengths; counts, floats, positions and found have those that the contract asks.
+    // with their own lengths; counts, floats, positions and found are arrays.
     let refusal = unsafe {
         let at = |i: usize| (block.add(areas[i].0), areas[i].1);
         ffi::trace(at, out, out_len, &mut found, &counts, &floats, workspace.c, scene, &source, &listener, separated)
