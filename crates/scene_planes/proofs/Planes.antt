@@ -15,9 +15,11 @@ use Rattle.scene_planes.specs.ScenePlanes.{planesFor}
 
 module _ (ts : List Triangle) (columns : List Float) (handles : List ℕ) (n m : ℕ) (materials : List Float) (read : TrianglesRead ts columns handles n m materials) where
   pub planes-are :
-      (st : Settings) (padded : List Float) (nodes perm : List ℕ) (leaves : List Float) (nodes-count : ℕ) (floats : List Float) (words members : List ℕ) (edges : List Float) (count : ℕ) →
+      (st : Settings) (padded : List Float) (nodes perm : List ℕ) (leaves : List Float) (nodes-count : ℕ) (floats : List Float) (words members : List ℕ)
+      (edges : List Float) (count : ℕ) →
       TreeStands ts padded nodes perm leaves handles nodes-count →
-      ((tri : ℕ → Triangle) (k : Tree) → Traced tri k padded nodes perm leaves handles → planesIn floats words members edges count ≡ planesOf (planeSettings st) (probeOf tri k) (trianglesIn columns handles n m)) →
+      ((tri : ℕ → Triangle) (k : Tree) → Traced tri k padded nodes perm leaves handles →
+      planesIn floats words members edges count ≡ planesOf (planeSettings st) (probeOf tri k) (trianglesIn columns handles n m)) →
       planesIn floats words members edges count ≡ planesFor st ts
   unfolding planesFor
   planes-are st padded nodes perm leaves nodes-count floats words members edges count tree are =
