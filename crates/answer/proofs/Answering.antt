@@ -14,7 +14,8 @@ use Rattle.ranking.specs.Candidate.{ranked}
 use Rattle.claim.specs.Query.{Search, search, Query, refused, given, ended}
 use Rattle.search.specs.Outcome.{onOf}
 use Rattle.search.proofs.Answers.{search-answers}
-use Rattle.answer.specs.Query.{planesFor, pathFor, searchFor}
+use Rattle.scene_planes.specs.ScenePlanes.{planesFor}
+use Rattle.answer.specs.Query.{pathFor, searchFor}
 use Rattle.taps.specs.Tap.{packetOf}
 use Rattle.taps.specs.Areas.{Sends}
 use Rattle.answer.specs.declared.Answered.{Answered}

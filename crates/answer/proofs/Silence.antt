@@ -15,7 +15,8 @@ use Rattle.claim.specs.Query.{Search, search}
 use Rattle.search.specs.Outcome.{onOf}
 use Rattle.search.proofs.Ends.{searched-none}
 use Rattle.front.specs.Asked.{finitePoint, silentOf, usedOrder}
-use Rattle.answer.specs.Query.{planesFor, pathFor, searchFor}
+use Rattle.scene_planes.specs.ScenePlanes.{planesFor}
+use Rattle.answer.specs.Query.{pathFor, searchFor}
 
 -- nothing is found at order 0
 pub silent-finds :

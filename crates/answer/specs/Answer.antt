@@ -14,8 +14,9 @@ use Rattle.paths.specs.Numbers.{ModelFits}
 use Rattle.claim.specs.Query.{Query, refused, given, queryOf}
 use Rattle.search.specs.Outcome.{onOf}
 use Rattle.taps.specs.Tap.{packetOf}
+use Rattle.scene_planes.specs.ScenePlanes.{planesFor}
 use Rattle.answer.specs.declared.Answered.{Answered}
-use Rattle.answer.specs.Query.{planesFor, pathFor}
+use Rattle.answer.specs.Query.{pathFor}
 
 -- the claim's query over the scene's planes and paths, with the list cut at `limit`
 abbrev pub queryFor : Settings → List Triangle → List Float → Vec3 → Vec3 → ℕ → ℕ → ℕ → Query

@@ -1,10 +1,9 @@
 -- A loaded scene: what is asked of it and of the areas, the end of the search over it, and the answer.
-use Prim.Native.Nat.{ℕ, _*_, _≤_}
+use Prim.Native.Nat.{ℕ, _≤_}
 use mathlib.Core.Path.{_≡_}
 use mathlib.Core.Bool.{Bool}
 use mathlib.Core.List.{List}
 use lib.Ieee.{Float}
-use lib.ListN.{length}
 use Rattle.vector.specs.declared.Vec3.{Vec3}
 use Rattle.scene.specs.declared.Settings.{Settings}
 use Rattle.scene.specs.Scene.{Scene}
@@ -17,15 +16,10 @@ use Rattle.claim.specs.Query.{search}
 use Rattle.search.specs.declared.Found.{Found}
 use Rattle.front.specs.Asked.{silentOf, usedOrder, searchOrder, limitOf}
 use Rattle.scene_bvh.specs.SceneTree.{clearedFrom, SceneLoaded}
+use Rattle.scene_planes.specs.ScenePlanes.{TreeRoom}
 use Rattle.answer.specs.declared.Answered.{Answered}
 use Rattle.answer.specs.Query.{searchFor}
 use Rattle.answer.specs.Answer.{queryFor, byRefusal, Answers, Sane, SendRoom}
-
--- what the tree takes beside the areas of the planes, for columns of n triples: padded boxes and rows of the leaves' triangles, links, leaf order
-pub record TreeRoom (n : ℕ) (tree : List Float) (nodes perm : List ℕ) : Type 0 where
-  pub tree-room : 22 * n ≤ length tree
-  pub nodes-room : 8 * n ≤ length nodes
-  pub perm-room : n ≤ length perm
 
 -- ---- the search
 

@@ -1,4 +1,4 @@
--- What a query searches, over the list of a scene's triangles: its planes, the path of each sequence, and the search of them.
+-- What a query searches, over the list of a scene's triangles: the path of each sequence of its planes, and the search of them.
 use Prim.Native.Nat.{ℕ}
 use mathlib.Core.List.{List}
 use lib.Ieee.{Float}
@@ -6,17 +6,11 @@ use Rattle.vector.specs.declared.Vec3.{Vec3}
 use Rattle.geometry.specs.declared.Triangle.{Triangle}
 use Rattle.scene.specs.declared.Settings.{Settings}
 use Rattle.patches.specs.Triangles.{triangleAt}
-use Rattle.buried.specs.Probe.{probeOf}
-use Rattle.mirror.specs.Plane.{Plane}
-use Rattle.planes.specs.Build.{planeSettings, planesOf}
 use Rattle.scene_bvh.specs.SceneTree.{treeOf}
+use Rattle.scene_planes.specs.ScenePlanes.{planesFor}
 use Rattle.claim.specs.Answer.{Outcome}
 use Rattle.claim.specs.Query.{Search, searched}
 use Rattle.search.specs.Outcome.{onOf, outcomesOf}
-
--- `build_bvh`, `build_planes`: the mirror planes of the triangles
-unfoldable pub planesFor : Settings → List Triangle → List Plane
-planesFor st ts = planesOf (planeSettings st) (probeOf (triangleAt ts) (treeOf ts)) ts
 
 -- what the path by way of a sequence comes to; nothing of any other sequence is given
 abbrev pub pathFor : Settings → List Triangle → List Float → Vec3 → Vec3 → List ℕ → Outcome

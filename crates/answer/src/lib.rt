@@ -5,22 +5,13 @@ use search::Found;
 use vector::Vec3;
 ghost use mathlib.Core.Path.{_≡_};
 ghost use mathlib.Core.Bool.{false};
-ghost use mathlib.Core.List.{List};
 ghost use Prim.Native.Nat.{_≤_};
-ghost use Rattle.geometry.specs.declared.Triangle.{Triangle};
-ghost use Rattle.segments.specs.Areas.{Traceable};
-ghost use Rattle.bounces.specs.Areas.{maxOrder};
-ghost use Rattle.ranked.specs.Areas.{TrianglesLent};
-ghost use Rattle.planes.specs.Areas.{PlanesRoom};
-ghost use Rattle.sequences.specs.Allowed.{mostPlanes};
-ghost use Rattle.ranking.specs.Rows.{Rows, candidatesIn};
+ghost use Rattle.ranking.specs.Rows.{candidatesIn};
 ghost use Rattle.claim.specs.Query.{search};
 ghost use Rattle.claim.specs.Query as query;
 ghost use Rattle.taps.specs.Areas.{Sends};
 ghost use Rattle.front.specs.Asked.{silentOf, limitOf};
 ghost use Rattle.clearing.specs.Zero.{PlanesZero, SceneZero};
-ghost use Rattle.scene_bvh.specs.SceneTree.{TrianglesRead, TreeStands};
-ghost use Rattle.answer.specs.Query.{searchFor};
 ghost use Rattle.answer.specs.Answer.{answeredOf, byRefusal, Answers};
 ghost use Rattle.answer.specs.Loaded.{Heard, Finds, Ready, AnswersLoaded};
 
@@ -33,101 +24,8 @@ pub struct Answered {
     pub bytes: usize,
 }
 
-// The planes of a scene whose tree stands, and the search for paths by way of them. The candidates stand in rows of gfloats and id, the
-// planes in rows, kept, members and edges.
-fn search_scene(
-    hi: &mut [u64],
-    lo: &mut [u64],
-    words: &mut [u64],
-    scratch: &mut [u64],
-    index: &mut [u32],
-    id: &mut [u32],
-    linked: &mut [u32],
-    queue: &mut [u32],
-    starts: &mut [u32],
-    gfloats: &mut [f32],
-    members: &mut [u32],
-    rows: &mut [f32],
-    kept: &mut [u32],
-    edges: &mut [f32],
-    columns: &[f32],
-    handles: &[u32],
-    n: usize,
-    m: usize,
-    settings: Settings,
-    padded: &[f32],
-    nodes: &[u32],
-    perm: &[u32],
-    leaves: &[f32],
-    nodes_count: usize,
-    materials: &[f32],
-    source: Vec3,
-    listener: Vec3,
-    order: usize,
-    room: usize,
-) -> Found
-    requires { ⌜ TrianglesLent (now columns) (now handles) n m ⌝ }
-    requires { ⌜ Traceable (now padded) (now nodes) (now perm) (now leaves) (now handles) «nodes_count» (now materials) ⌝ }
-    requires { ⌜ PlanesRoom n (now hi) (now lo) (now words) (now scratch) (now index) (now id) (now linked) (now queue) (now starts) (now members) (now kept) (now rows) (now gfloats) (now edges) ⌝ }
-    requires { ⌜ (order ≤ maxOrder) × (settings .«max_reflection_planes» ≤ mostPlanes) ⌝ }
-    requires { ⌜ Rows room (now gfloats) (now id) ⌝ }
-    ensures { λ r. ⌜ ((ts : List Triangle) → TrianglesRead ts (now (columns .entry)) (now (handles .entry)) n m (now (materials .entry)) → TreeStands ts (now (padded .entry)) (now (nodes .entry)) (now (perm .entry)) (now (leaves .entry)) (now (handles .entry)) «nodes_count» → search (r .images) (r .rays) (candidatesIn (r .found) (now (gfloats .exit)) (now (id .exit))) (r .over) ≡ searchFor settings ts (now (materials .entry)) source listener order room) ⌝ }
-    ensures { λ r. ⌜ r .found ≤ room ⌝ }
-{
-    let count = planes::build_planes(
-        columns,
-        handles,
-        n,
-        m,
-        settings,
-        padded,
-        nodes,
-        perm,
-        leaves,
-        nodes_count,
-        hi,
-        lo,
-        words,
-        scratch,
-        index,
-        id,
-        linked,
-        queue,
-        starts,
-        gfloats,
-        members,
-        rows,
-        kept,
-        edges,
-    );
-    search::search_images(
-        padded,
-        nodes,
-        perm,
-        leaves,
-        handles,
-        nodes_count,
-        materials,
-        columns,
-        n,
-        rows,
-        kept,
-        members,
-        edges,
-        count,
-        settings,
-        source,
-        listener,
-        order,
-        room,
-        gfloats,
-        id,
-    )
-}
-
-// The search over a loaded scene, its handles made ready: nothing where no sequence is allowed, else its tree, its planes and the paths by way of them.
-// Areas of the planes serve the tree before: hi holds the keys of the three axes, rows the triangles' boxes, edges their surface areas, gfloats the boxes
-// of the nodes.
+// The search over a loaded scene, its handles made ready: nothing where no sequence is allowed, else its tree and its planes are built, and the paths by
+// way of them searched. The candidates stand in rows of gfloats and id.
 fn find(
     tree: &mut [f32],
     nodes: &mut [u32],
@@ -170,24 +68,10 @@ fn find(
         };
     }
     let order = front::search_order(settings);
-    let nodes_count = scene_bvh::scene_bvh(
-        columns,
-        handles,
-        n,
-        m,
-        rows,
-        hi,
-        perm,
-        words,
-        scratch,
-        edges,
-        gfloats,
-        nodes,
+    let built = scene_planes::build_scene(
         tree,
-    );
-    let from = 12 * m;
-    let to = 22 * m;
-    search_scene(
+        nodes,
+        perm,
         hi,
         lo,
         words,
@@ -207,16 +91,31 @@ fn find(
         n,
         m,
         settings,
+    );
+    let from = 12 * m;
+    let to = 22 * m;
+    search::search_images(
         &tree[0..from],
         nodes,
         &perm[..m],
         &tree[from..to],
-        nodes_count,
+        handles,
+        built.nodes,
         materials,
+        columns,
+        n,
+        rows,
+        kept,
+        members,
+        edges,
+        built.planes,
+        settings,
         source,
         listener,
         order,
         room,
+        gfloats,
+        id,
     )
 }
 

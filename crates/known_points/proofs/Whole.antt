@@ -24,7 +24,8 @@ use Rattle.sequences.specs.Allowed.{visited}
 use Rattle.claim.specs.Answer.{Answer, passes}
 use Rattle.claim.specs.Query.{given}
 use Rattle.search.specs.Outcome.{onOf, outcomeOf}
-use Rattle.answer.specs.Query.{planesFor, pathFor}
+use Rattle.scene_planes.specs.ScenePlanes.{planesFor}
+use Rattle.answer.specs.Query.{pathFor}
 use Rattle.front.specs.Asked.{finitePoint, silentOf, usedOrder}
 use Rattle.answer.specs.Answer.{queryFor, byRefusal}
 use Rattle.query.specs.Trace.{queryIn}

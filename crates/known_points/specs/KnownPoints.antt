@@ -11,7 +11,7 @@ use Rattle.bounces.specs.Image.{imageOf}
 use Rattle.bounces.specs.Bounces.{made, bouncesOf}
 use Rattle.claim.specs.Answer.{Answer}
 use Rattle.claim.specs.Query.{Query, given}
-use Rattle.answer.specs.Query.{planesFor}
+use Rattle.scene_planes.specs.ScenePlanes.{planesFor}
 use Rattle.answer.specs.declared.Answered.{Answered}
 use Rattle.query.specs.Areas.{Work, zeroed, lengthsOf}
 use Rattle.query.specs.Trace.{traceOf, Traced}

@@ -36,7 +36,8 @@ use Rattle.claim.proofs.Searching.{query-complete}
 use Rattle.search.specs.Outcome.{onOf, byFate, outcomeOf, outcomesOf}
 use Rattle.search.proofs.Answers.{paths-proper}
 use Rattle.scene_bvh.specs.SceneTree.{treeOf}
-use Rattle.answer.specs.Query.{planesFor, pathFor}
+use Rattle.scene_planes.specs.ScenePlanes.{planesFor}
+use Rattle.answer.specs.Query.{pathFor}
 use Rattle.answer.specs.Answer.{queryFor, Answers, answeredOf, outputOf}
 use Rattle.answer.specs.declared.Answered.{Answered}
 use Rattle.answer.proofs.Silence.{used-most}

@@ -45,7 +45,8 @@ use Rattle.claim.specs.Query.{Query, refused, given, queryOf}
 use Rattle.search.specs.Outcome.{onOf, outcomeOf}
 use Rattle.scene_bvh.specs.SceneTree.{treeOf}
 use Rattle.taps.specs.Tap.{packetOf}
-use Rattle.answer.specs.Query.{planesFor, pathFor}
+use Rattle.scene_planes.specs.ScenePlanes.{planesFor}
+use Rattle.answer.specs.Query.{pathFor}
 use Rattle.answer.specs.Answer.{answeredOf, outputOf}
 use Rattle.answer.specs.declared.Answered.{Answered}
 use Rattle.query.specs.Areas.{Work, lengthsOf}

@@ -16,7 +16,8 @@ use Rattle.claim.specs.Answer.{Answer}
 use Rattle.claim.specs.Complete.{Complete}
 use Rattle.claim.specs.Query.{Query, given}
 use Rattle.search.specs.Outcome.{onOf}
-use Rattle.answer.specs.Query.{planesFor, pathFor}
+use Rattle.scene_planes.specs.ScenePlanes.{planesFor}
+use Rattle.answer.specs.Query.{pathFor}
 use Rattle.answer.specs.Answer.{queryFor, answeredOf, outputOf}
 use Rattle.answer.specs.declared.Answered.{Answered}
 pub use Rattle.front.specs.Asked.{finitePoint, silentOf, usedOrder, limitOf}

@@ -2,3 +2,4 @@
 pub mod Marking
 pub mod Naming
 pub mod Taps
+pub mod Unbuilt

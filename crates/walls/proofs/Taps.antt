@@ -26,11 +26,12 @@ use Rattle.claim.specs.Complete.{Complete}
 use Rattle.claim.specs.Query.{given}
 use Rattle.search.specs.Outcome.{onOf}
 use Rattle.front.specs.Asked.{silentOf, usedOrder, searchOrder, limitOf}
-use Rattle.answer.specs.Query.{planesFor, pathFor}
+use Rattle.scene_planes.specs.ScenePlanes.{planesFor}
+use Rattle.answer.specs.Query.{pathFor}
 use Rattle.answer.specs.declared.Answered.{Answered}
 use Rattle.query.specs.Areas.{Work}
 use Rattle.query.specs.Trace.{callOf, Traced}
-use Rattle.walls.specs.Walls.{PlanesOf, wallsIn, ListsImages}
+use Rattle.walls.specs.Walls.{lensOf, PlanesOf, wallsIn, ListsImages}
 
 -- the path by way of the walls of t's number passes, and what it gives is t
 pub record Walled (path : List ℕ → Outcome) (records : List ℕ) (t : Candidate) : Type 0 where
@@ -74,17 +75,17 @@ none-seen on seen n v low high =
 
 -- the planes as `planes_of` leaves them, the records as `list_images` does over them, the answer that the call gives
 pub call-walls :
-    (st : Settings) (c : ℕ) (s : Scene) (lens′ : List ℕ) (source listener : Vec3) (separated : Bool) (r : Answered) (out out′ : List ℕ) (found left : Work)
-    (rows : List Float) (kept members : List ℕ) (edges : List Float) (p : ℕ) (records records′ : List ℕ) →
-    Traced st c s source listener separated r out out′ found left → PlanesOf st c s lens′ rows kept members edges p → firstRefusal st c s lens′ ≡ 0 →
-    0 < length (triangles s) → ListsImages (onOf (planesIn rows kept members edges p) source) (searchOrder st) records records′ →
-    fits (onOf (planesIn rows kept members edges p) source) (searchOrder st) records ≡ true → (a : Answer) →
+    (st : Settings) (c : ℕ) (s : Scene) (source listener : Vec3) (separated : Bool) (r : Answered) (out out′ : List ℕ) (found left found′ left′ : Work) (p : ℕ)
+    (records records′ : List ℕ) →
+    Traced st c s source listener separated r out out′ found left → PlanesOf st c s found′ left′ p → firstRefusal st c s (lensOf found′) ≡ 0 →
+    0 < length (triangles s) → ListsImages (onOf (planesIn (left′ .rows) (left′ .kept) (left′ .members) (left′ .edges) p) source) (searchOrder st) records records′ →
+    fits (onOf (planesIn (left′ .rows) (left′ .kept) (left′ .members) (left′ .edges) p) source) (searchOrder st) records ≡ true → (a : Answer) →
     callOf st c s source listener separated found out ≡ given a → (t : Candidate) → Has t (a .taps) →
     Walled (pathFor st (triangles s) (s .materials) source listener) records′ t
-call-walls st c s lens′ source listener separated r out out′ found left rows kept members edges p records records′ traced planes none some lists room a is t h =
+call-walls st c s source listener separated r out out′ found left found′ left′ p records records′ traced planes none some lists room a is t h =
     by (silentOf separated source listener (length (triangles s))) (traced .complete a is)
   where
-    same : planesIn rows kept members edges p ≡ planesFor st (triangles s)
+    same : planesIn (left′ .rows) (left′ .kept) (left′ .members) (left′ .edges) p ≡ planesFor st (triangles s)
     same = planes .are none some
 
     by : (b : Bool) → Complete (onOf (planesFor st (triangles s)) source) (usedOrder b (searchOrder st)) (st .«speed_of_sound») (st .«sample_rate») (limitOf st) (pathFor st (triangles s) (s .materials) source listener) a → Walled (pathFor st (triangles s) (s .materials) source listener) records′ t

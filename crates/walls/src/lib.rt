@@ -14,7 +14,7 @@ ghost use Rattle.sequences.specs.Allowed.{mostPlanes};
 ghost use Rattle.sequences.specs.Contract.{areaOf};
 ghost use Rattle.search.specs.Outcome.{onOf};
 ghost use Rattle.query.specs.Areas.{work};
-ghost use Rattle.walls.specs.Walls.{PlanesReady, PlanesStand, lensOf, PlanesOf, wallsIn, ListsImages};
+ghost use Rattle.walls.specs.Walls.{PlanesOf, wallsIn, ListsImages};
 
 // The longest packet, which `load_scene` asks room for; nothing is written here.
 const OUTPUT: usize = 3465;
@@ -23,82 +23,8 @@ const MOST_PLANES: usize = 256;
 
 // ---- the planes
 
-// The planes of a loaded scene of at least one triangle: their number; they stand in rows, kept, members and edges. As in `answer::find`, areas
-// of the planes serve the tree before.
-fn planes_loaded(
-    tree: &mut [f32],
-    nodes: &mut [u32],
-    perm: &mut [u32],
-    hi: &mut [u64],
-    lo: &mut [u64],
-    words: &mut [u64],
-    scratch: &mut [u64],
-    index: &mut [u32],
-    id: &mut [u32],
-    linked: &mut [u32],
-    queue: &mut [u32],
-    starts: &mut [u32],
-    gfloats: &mut [f32],
-    members: &mut [u32],
-    rows: &mut [f32],
-    kept: &mut [u32],
-    edges: &mut [f32],
-    columns: &[f32],
-    handles: &[u32],
-    n: usize,
-    m: usize,
-    settings: Settings,
-) -> usize
-    requires { ⌜ PlanesReady n m (now columns) (now handles) (now tree) (now nodes) (now perm) (now hi) (now lo) (now words) (now scratch) (now index) (now id) (now linked) (now queue) (now starts) (now members) (now kept) (now rows) (now gfloats) (now edges) ⌝ }
-    ensures { λ r. ⌜ PlanesStand settings n m (now (columns .entry)) (now (handles .entry)) (now (rows .exit)) (now (kept .exit)) (now (members .exit)) (now (edges .exit)) r ⌝ }
-{
-    let nodes_count = scene_bvh::scene_bvh(
-        columns,
-        handles,
-        n,
-        m,
-        rows,
-        hi,
-        perm,
-        words,
-        scratch,
-        edges,
-        gfloats,
-        nodes,
-        tree,
-    );
-    let from = 12 * m;
-    let to = 22 * m;
-    planes::build_planes(
-        columns,
-        handles,
-        n,
-        m,
-        settings,
-        &tree[0..from],
-        nodes,
-        &perm[..m],
-        &tree[from..to],
-        nodes_count,
-        hi,
-        lo,
-        words,
-        scratch,
-        index,
-        id,
-        linked,
-        queue,
-        starts,
-        gfloats,
-        members,
-        rows,
-        kept,
-        edges,
-    )
-}
-
 // The planes of a scene: their number, 0 where loading refuses it or keeps no triangle. They stand in rows, kept, members and edges. The areas
-// are those of the query, which leaves them zero.
+// are those of the query, which leaves them zero; where nothing is built they are as found, after refusal 6 with columns and handles zero.
 pub fn planes_of(
     columns: &mut [f32],
     handles: &mut [u32],
@@ -128,7 +54,16 @@ pub fn planes_of(
     materials: &[f32],
     rows_count: u32,
 ) -> usize
-    ensures { λ r. ⌜ PlanesOf settings c (scene (now (meshes .entry)) (now (transforms .entry)) (now (positions .entry)) (now (indices .entry)) (now (materials .entry)) «rows_count») (lensOf (work (now (columns .entry)) (now (handles .entry)) (now (tree .entry)) (now (nodes .entry)) (now (perm .entry)) (now (hi .entry)) (now (lo .entry)) (now (words .entry)) (now (scratch .entry)) (now (index .entry)) (now (id .entry)) (now (linked .entry)) (now (queue .entry)) (now (starts .entry)) (now (gfloats .entry)) (now (members .entry)) (now (rows .entry)) (now (kept .entry)) (now (edges .entry)))) (now (rows .exit)) (now (kept .exit)) (now (members .exit)) (now (edges .exit)) r ⌝ }
+    ensures { λ r.
+        let s = scene (now (meshes .entry)) (now (transforms .entry)) (now (positions .entry)) (now (indices .entry)) (now (materials .entry)) «rows_count» in
+        let found = work (now (columns .entry)) (now (handles .entry)) (now (tree .entry)) (now (nodes .entry)) (now (perm .entry)) (now (hi .entry))
+        (now (lo .entry)) (now (words .entry)) (now (scratch .entry)) (now (index .entry)) (now (id .entry)) (now (linked .entry))
+        (now (queue .entry)) (now (starts .entry)) (now (gfloats .entry)) (now (members .entry)) (now (rows .entry)) (now (kept .entry))
+        (now (edges .entry)) in
+        let left = work (now (columns .exit)) (now (handles .exit)) (now (tree .exit)) (now (nodes .exit)) (now (perm .exit)) (now (hi .exit)) (now (lo .exit))
+        (now (words .exit)) (now (scratch .exit)) (now (index .exit)) (now (id .exit)) (now (linked .exit)) (now (queue .exit))
+        (now (starts .exit)) (now (gfloats .exit)) (now (members .exit)) (now (rows .exit)) (now (kept .exit)) (now (edges .exit)) in
+        ⌜ PlanesOf settings c s found left r ⌝ }
 {
     let lens = [
         columns.len(),
@@ -170,7 +105,7 @@ pub fn planes_of(
         return 0;
     }
     scene_bvh::clear_from(handles, front.kept);
-    planes_loaded(
+    let built = scene_planes::build_scene(
         tree,
         nodes,
         perm,
@@ -193,7 +128,8 @@ pub fn planes_of(
         front.triples,
         front.kept,
         settings,
-    )
+    );
+    built.planes
 }
 
 // ---- the sequences

@@ -12,7 +12,7 @@ use Rattle.scene_bvh.specs.SceneTree.{treeOf}
 use Rattle.taps.proofs.Found.{search-sendable}
 use Rattle.taps.proofs.Ending.{sendable-rankable}
 use Rattle.front.specs.Asked.{silentOf, usedOrder, searchOrder, limitOf}
-use Rattle.answer.specs.Query.{planesFor}
+use Rattle.scene_planes.specs.ScenePlanes.{planesFor}
 use Rattle.answer.specs.Answer.{queryFor}
 use Rattle.answer.proofs.Answering.{end-is, by-same}
 use Rattle.answer.proofs.Silence.{used-most, silent-some, unrefused, within-area}

@@ -1,0 +1,2 @@
+-- The laws of the planes of a loaded scene.
+pub mod Planes

@@ -1,0 +1,2 @@
+-- The tree and the planes of a loaded scene: the definitions that the contracts cite.
+pub mod ScenePlanes
