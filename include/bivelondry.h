@@ -192,13 +192,13 @@ uint32_t biv_packet_write(size_t count, uint32_t images, uint32_t rays, const ui
  * reflection_edge_fade, max_reflection_distance, speed_of_sound, sample_rate, plane_merge_cos, plane_merge_offset, plane_buried_distance,
  * reference_distance, rolloff_factor, min_distance, max_distance. c is the candidate room. separated says that source and listener are apart, so
  * that nothing is heard. */
-uint32_t biv_trace_early_reflections(float *columns, size_t columns_len, uint32_t *handles, size_t handles_len, float *tree, size_t tree_len,
-                                     uint32_t *nodes, size_t nodes_len, uint32_t *perm, size_t perm_len, uint64_t *hi, size_t hi_len,
-                                     uint64_t *lo, size_t lo_len, uint64_t *words, size_t words_len, uint64_t *scratch, size_t scratch_len,
-                                     uint32_t *index, size_t index_len, uint32_t *id, size_t id_len, uint32_t *linked, size_t linked_len,
-                                     uint32_t *queue, size_t queue_len, uint32_t *starts, size_t starts_len, float *gfloats, size_t gfloats_len,
-                                     uint32_t *members, size_t members_len, float *rows, size_t rows_len, uint32_t *kept, size_t kept_len,
-                                     float *edges, size_t edges_len, uint8_t *out, size_t out_len, size_t found[4],
+uint32_t biv_trace_early_reflections(float *triangles, size_t triangles_len, uint32_t *handles, size_t handles_len, float *tree, size_t tree_len,
+                                     uint32_t *nodes, size_t nodes_len, uint32_t *leaf_order, size_t leaf_order_len, uint64_t *keys, size_t keys_len,
+                                     uint64_t *low_keys, size_t low_keys_len, uint64_t *words, size_t words_len, uint64_t *scratch, size_t scratch_len,
+                                     uint32_t *index, size_t index_len, uint32_t *numbers, size_t numbers_len, uint32_t *adjacency, size_t adjacency_len,
+                                     uint32_t *queue, size_t queue_len, uint32_t *offsets, size_t offsets_len, float *floats, size_t floats_len,
+                                     uint32_t *plane_triangles, size_t plane_triangles_len, float *plane_floats, size_t plane_floats_len, uint32_t *plane_words, size_t plane_words_len,
+                                     float *plane_edges, size_t plane_edges_len, uint8_t *out, size_t out_len, size_t found[4],
                                      const uint32_t counts[5], const float setting_floats[11], uint32_t c,
                                      const uint32_t *meshes, size_t meshes_len, const float *transforms, size_t transforms_len,
                                      const float *positions, size_t positions_len, const uint32_t *indices, size_t indices_len,
@@ -209,10 +209,10 @@ uint32_t biv_trace_early_reflections(float *columns, size_t columns_len, uint32_
 
 /* The work areas in the order of docs/AREAS.md, with their elements. */
 #define BIV_WORK(AREA) \
-    AREA(0, columns, float) AREA(1, handles, uint32_t) AREA(2, tree, float) AREA(3, nodes, uint32_t) AREA(4, perm, uint32_t) \
-    AREA(5, hi, uint64_t) AREA(6, lo, uint64_t) AREA(7, words, uint64_t) AREA(8, scratch, uint64_t) AREA(9, index, uint32_t) \
-    AREA(10, id, uint32_t) AREA(11, linked, uint32_t) AREA(12, queue, uint32_t) AREA(13, starts, uint32_t) AREA(14, gfloats, float) \
-    AREA(15, members, uint32_t) AREA(16, rows, float) AREA(17, kept, uint32_t) AREA(18, edges, float)
+    AREA(0, triangles, float) AREA(1, handles, uint32_t) AREA(2, tree, float) AREA(3, nodes, uint32_t) AREA(4, leaf_order, uint32_t) \
+    AREA(5, keys, uint64_t) AREA(6, low_keys, uint64_t) AREA(7, words, uint64_t) AREA(8, scratch, uint64_t) AREA(9, index, uint32_t) \
+    AREA(10, numbers, uint32_t) AREA(11, adjacency, uint32_t) AREA(12, queue, uint32_t) AREA(13, offsets, uint32_t) AREA(14, floats, float) \
+    AREA(15, plane_triangles, uint32_t) AREA(16, plane_floats, float) AREA(17, plane_words, uint32_t) AREA(18, plane_edges, float)
 
 #define BIV_FIELD(i, name, type) type *name;
 struct biv_work {
@@ -287,9 +287,9 @@ static inline uint32_t biv_trace(const struct biv_settings *settings, uint32_t c
     uint32_t refusal;
     (void)biv_carve(block, size, biv_triples(scene), c, &w); /* what is too short is refused */
     refusal = biv_trace_early_reflections(
-        w.columns, w.lens[0], w.handles, w.lens[1], w.tree, w.lens[2], w.nodes, w.lens[3], w.perm, w.lens[4], w.hi, w.lens[5], w.lo, w.lens[6],
-        w.words, w.lens[7], w.scratch, w.lens[8], w.index, w.lens[9], w.id, w.lens[10], w.linked, w.lens[11], w.queue, w.lens[12],
-        w.starts, w.lens[13], w.gfloats, w.lens[14], w.members, w.lens[15], w.rows, w.lens[16], w.kept, w.lens[17], w.edges, w.lens[18],
+        w.triangles, w.lens[0], w.handles, w.lens[1], w.tree, w.lens[2], w.nodes, w.lens[3], w.leaf_order, w.lens[4], w.keys, w.lens[5], w.low_keys, w.lens[6],
+        w.words, w.lens[7], w.scratch, w.lens[8], w.index, w.lens[9], w.numbers, w.lens[10], w.adjacency, w.lens[11], w.queue, w.lens[12],
+        w.offsets, w.lens[13], w.floats, w.lens[14], w.plane_triangles, w.lens[15], w.plane_floats, w.lens[16], w.plane_words, w.lens[17], w.plane_edges, w.lens[18],
         out, out_len, found, counts, floats, c,
         (const uint32_t *)biv_part(scene->meshes), scene->meshes_len, (const float *)biv_part(scene->transforms), scene->transforms_len,
         (const float *)biv_part(scene->positions), scene->positions_len, (const uint32_t *)biv_part(scene->indices), scene->indices_len,

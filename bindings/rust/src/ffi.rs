@@ -18,12 +18,12 @@ extern "C" {
     ) -> u32;
     #[rustfmt::skip]
     pub fn biv_trace_early_reflections(
-        columns: *mut f32, columns_len: usize, handles: *mut u32, handles_len: usize, tree: *mut f32, tree_len: usize,
-        nodes: *mut u32, nodes_len: usize, perm: *mut u32, perm_len: usize, hi: *mut u64, hi_len: usize, lo: *mut u64, lo_len: usize,
+        triangles: *mut f32, triangles_len: usize, handles: *mut u32, handles_len: usize, tree: *mut f32, tree_len: usize,
+        nodes: *mut u32, nodes_len: usize, leaf_order: *mut u32, leaf_order_len: usize, keys: *mut u64, keys_len: usize, low_keys: *mut u64, low_keys_len: usize,
         words: *mut u64, words_len: usize, scratch: *mut u64, scratch_len: usize, index: *mut u32, index_len: usize,
-        id: *mut u32, id_len: usize, linked: *mut u32, linked_len: usize, queue: *mut u32, queue_len: usize, starts: *mut u32, starts_len: usize,
-        gfloats: *mut f32, gfloats_len: usize, members: *mut u32, members_len: usize, rows: *mut f32, rows_len: usize,
-        kept: *mut u32, kept_len: usize, edges: *mut f32, edges_len: usize, out: *mut u8, out_len: usize,
+        numbers: *mut u32, numbers_len: usize, adjacency: *mut u32, adjacency_len: usize, queue: *mut u32, queue_len: usize, offsets: *mut u32, offsets_len: usize,
+        floats: *mut f32, floats_len: usize, plane_triangles: *mut u32, plane_triangles_len: usize, plane_floats: *mut f32, plane_floats_len: usize,
+        plane_words: *mut u32, plane_words_len: usize, plane_edges: *mut f32, plane_edges_len: usize, out: *mut u8, out_len: usize,
         found: &mut [usize; 4], counts: &[u32; 5],
         setting_floats: &[f32; 11], c: u32, meshes: *const u32, meshes_len: usize,
         transforms: *const f32, transforms_len: usize, positions: *const f32, positions_len: usize,

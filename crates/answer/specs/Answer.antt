@@ -50,9 +50,9 @@ pub record Sane (st : Settings) : Type 0 where
   pub fit : ModelFits (st .«distance_model»)
 
 -- the areas of ranking and the packet, beside those of the planes
-pub record SendRoom (room limit : ℕ) (hi queue words scratch out : List ℕ) : Type 0 where
+pub record SendRoom (room limit : ℕ) (keys queue words scratch out : List ℕ) : Type 0 where
   pub few : limit ≤ mostTaps
-  pub hi-room : room ≤ length hi
+  pub keys-room : room ≤ length keys
   pub queue-room : room ≤ length queue
   pub words-room : room ≤ length words
   pub scratch-room : room ≤ length scratch

@@ -33,22 +33,22 @@ pub record HeldScene (columns : List Float) (handles : List ℕ) (n m : ℕ) (ma
 
 -- where something is searched: such a scene, and room for its tree, its planes and the candidates
 pub record Heard
-    (st : Settings) (n m room : ℕ) (columns : List Float) (handles : List ℕ) (materials tree : List Float) (nodes perm hi lo words scratch index id linked queue starts members kept : List ℕ) (rows gfloats edges : List Float)
+    (st : Settings) (n m room : ℕ) (columns : List Float) (handles : List ℕ) (materials tree : List Float) (nodes leaf-order keys low-keys words scratch index numbers adjacency queue offsets plane-triangles plane-words : List ℕ) (plane-floats floats plane-edges : List Float)
     : Type 0 where
   pub held : HeldScene columns handles n m materials
   pub lent : TrianglesLent columns handles n m
-  pub for-tree : TreeRoom n tree nodes perm
-  pub for-planes : PlanesRoom n hi lo words scratch index id linked queue starts members kept rows gfloats edges
+  pub for-tree : TreeRoom n tree nodes leaf-order
+  pub for-planes : PlanesRoom n keys low-keys words scratch index numbers adjacency queue offsets plane-triangles plane-words plane-floats floats plane-edges
   pub few : st .«max_reflection_planes» ≤ mostPlanes
-  pub for-found : Rows room gfloats id
+  pub for-found : Rows room floats numbers
 
 -- the search's end is that over the triangles of the scene that was loaded
 pub record Finds
-    (st : Settings) (source listener : Vec3) (separated : Bool) (room n m : ℕ) (columns : List Float) (handles : List ℕ) (materials : List Float) (r : Found) (gfloats : List Float)
-    (id : List ℕ)
+    (st : Settings) (source listener : Vec3) (separated : Bool) (room n m : ℕ) (columns : List Float) (handles : List ℕ) (materials : List Float) (r : Found) (floats : List Float)
+    (numbers : List ℕ)
     : Type 0 where
   pub over : (s : Scene) (found : List ℕ) → SceneLoaded s columns found n m → handles ≡ clearedFrom m found → s .materials ≡ materials →
-      search (r .images) (r .rays) (candidatesIn (r .found) gfloats id) (r .over) ≡
+      search (r .images) (r .rays) (candidatesIn (r .found) floats numbers) (r .over) ≡
       searchFor st (triangles s) (s .materials) source listener (usedOrder (silentOf separated source listener m) (searchOrder st)) room
 
 -- ---- the answer
@@ -61,17 +61,17 @@ pub record LoadedScene (columns : List Float) (handles : List ℕ) (n m : ℕ) (
 
 -- where no refusal of 1 to 6 applies: such a scene, settings within their limits, and room for all
 pub record Ready
-    (st : Settings) (n m room : ℕ) (columns : List Float) (handles : List ℕ) (materials tree : List Float) (nodes perm hi lo words scratch index id linked queue starts members kept : List ℕ) (rows gfloats edges : List Float)
+    (st : Settings) (n m room : ℕ) (columns : List Float) (handles : List ℕ) (materials tree : List Float) (nodes leaf-order keys low-keys words scratch index numbers adjacency queue offsets plane-triangles plane-words : List ℕ) (plane-floats floats plane-edges : List Float)
     (out : List ℕ)
     : Type 0 where
   pub scene : LoadedScene columns handles n m materials
   pub lent : TrianglesLent columns handles n m
-  pub for-tree : TreeRoom n tree nodes perm
-  pub for-planes : PlanesRoom n hi lo words scratch index id linked queue starts members kept rows gfloats edges
+  pub for-tree : TreeRoom n tree nodes leaf-order
+  pub for-planes : PlanesRoom n keys low-keys words scratch index numbers adjacency queue offsets plane-triangles plane-words plane-floats floats plane-edges
   pub few : st .«max_reflection_planes» ≤ mostPlanes
-  pub for-found : Rows room gfloats id
+  pub for-found : Rows room floats numbers
   pub sane : Sane st
-  pub for-list : SendRoom room (limitOf st) hi queue words scratch out
+  pub for-list : SendRoom room (limitOf st) keys queue words scratch out
 
 -- the answer is the refusal k, or where that is 0 that of the query over the triangles of the scene that was loaded
 pub record AnswersLoaded

@@ -25,26 +25,26 @@ pub struct Answered {
 }
 
 // The search over a loaded scene, its handles made ready: nothing where no sequence is allowed, else its tree and its planes are built, and the paths by
-// way of them searched. The candidates stand in rows of gfloats and id.
+// way of them searched. The candidates stand in rows of floats and numbers.
 fn find(
     tree: &mut [f32],
     nodes: &mut [u32],
-    perm: &mut [u32],
-    hi: &mut [u64],
-    lo: &mut [u64],
+    leaf_order: &mut [u32],
+    keys: &mut [u64],
+    low_keys: &mut [u64],
     words: &mut [u64],
     scratch: &mut [u64],
     index: &mut [u32],
-    id: &mut [u32],
-    linked: &mut [u32],
+    numbers: &mut [u32],
+    adjacency: &mut [u32],
     queue: &mut [u32],
-    starts: &mut [u32],
-    gfloats: &mut [f32],
-    members: &mut [u32],
-    rows: &mut [f32],
-    kept: &mut [u32],
-    edges: &mut [f32],
-    columns: &[f32],
+    offsets: &mut [u32],
+    floats: &mut [f32],
+    plane_triangles: &mut [u32],
+    plane_floats: &mut [f32],
+    plane_words: &mut [u32],
+    plane_edges: &mut [f32],
+    triangles: &[f32],
     handles: &[u32],
     n: usize,
     m: usize,
@@ -55,8 +55,13 @@ fn find(
     separated: bool,
     room: usize,
 ) -> Found
-    requires { ⌜ (silentOf separated source listener m ≡ false → Heard settings n m room (now columns) (now handles) (now materials) (now tree) (now nodes) (now perm) (now hi) (now lo) (now words) (now scratch) (now index) (now id) (now linked) (now queue) (now starts) (now members) (now kept) (now rows) (now gfloats) (now edges)) ⌝ }
-    ensures { λ r. ⌜ Finds settings source listener separated room n m (now (columns .entry)) (now (handles .entry)) (now (materials .entry)) r (now (gfloats .exit)) (now (id .exit)) ⌝ }
+    requires { ⌜ (silentOf separated source listener m ≡ false →
+        Heard settings n m room (now triangles) (now handles) (now materials) (now tree) (now nodes) (now «leaf_order») (now keys) (now «low_keys»)
+        (now words) (now scratch) (now index) (now numbers) (now adjacency) (now queue) (now offsets) (now «plane_triangles») (now «plane_words»)
+        (now «plane_floats») (now floats) (now «plane_edges»)) ⌝ }
+    ensures { λ r.
+        ⌜ Finds settings source listener separated room n m (now (triangles .entry)) (now (handles .entry)) (now (materials .entry)) r (now (floats .exit))
+        (now (numbers .exit)) ⌝ }
     ensures { λ r. ⌜ r .found ≤ room ⌝ }
 {
     if front::silent(separated, source, listener, m) {
@@ -71,22 +76,22 @@ fn find(
     let built = scene_planes::build_scene(
         tree,
         nodes,
-        perm,
-        hi,
-        lo,
+        leaf_order,
+        keys,
+        low_keys,
         words,
         scratch,
         index,
-        id,
-        linked,
+        numbers,
+        adjacency,
         queue,
-        starts,
-        gfloats,
-        members,
-        rows,
-        kept,
-        edges,
-        columns,
+        offsets,
+        floats,
+        plane_triangles,
+        plane_floats,
+        plane_words,
+        plane_edges,
+        triangles,
         handles,
         n,
         m,
@@ -97,25 +102,25 @@ fn find(
     search::search_images(
         &tree[0..from],
         nodes,
-        &perm[..m],
+        &leaf_order[..m],
         &tree[from..to],
         handles,
         built.nodes,
         materials,
-        columns,
+        triangles,
         n,
-        rows,
-        kept,
-        members,
-        edges,
+        plane_floats,
+        plane_words,
+        plane_triangles,
+        plane_edges,
         built.planes,
         settings,
         source,
         listener,
         order,
         room,
-        gfloats,
-        id,
+        floats,
+        numbers,
     )
 }
 
@@ -131,22 +136,27 @@ pub fn refused(k: u32) -> Answered
     }
 }
 
-// What the search found as an answer: the refusal handed in, refusal 7, or the packet of the best taps at the front of out. hi holds the keys, queue the
+// What the search found as an answer: the refusal handed in, refusal 7, or the packet of the best taps at the front of out. queue holds their
 // order.
 fn send(
-    hi: &mut [u64],
+    keys: &mut [u64],
     queue: &mut [u32],
     words: &mut [u64],
     scratch: &mut [u64],
     out: &mut [u8],
-    fs: &[f32],
-    ws: &[u32],
+    candidate_floats: &[f32],
+    candidate_words: &[u32],
     refusal: u32,
     found: Found,
     settings: Settings,
 ) -> Answered
-    requires { ⌜ (refusal ≡ 0 → Sends (found .found) (limitOf settings) (found .images) (now fs) (now ws) (now hi) (now queue) (now words) (now scratch) (now out)) ⌝ }
-    ensures { λ r. ⌜ Answers (byRefusal refusal (query.ended (settings .«speed_of_sound») (settings .«sample_rate») (limitOf settings) (search (found .images) (found .rays) (candidatesIn (found .found) (now (fs .entry)) (now (ws .entry))) (found .over)))) r (now (out .entry)) (now (out .exit)) ⌝ }
+    requires { ⌜ (refusal ≡ 0 →
+        Sends (found .found) (limitOf settings) (found .images) (now «candidate_floats») (now «candidate_words») (now keys) (now queue) (now words)
+        (now scratch) (now out)) ⌝ }
+    ensures { λ r.
+        ⌜ Answers (byRefusal refusal (query.ended (settings .«speed_of_sound») (settings .«sample_rate») (limitOf settings) (search (found .images)
+        (found .rays) (candidatesIn (found .found) (now («candidate_floats» .entry)) (now («candidate_words» .entry))) (found .over)))) r (now (out .entry))
+        (now (out .exit)) ⌝ }
 {
     if refusal != 0 {
         return refused(refusal);
@@ -156,15 +166,15 @@ fn send(
     }
     let limit = front::list_limit(settings);
     let p = taps::write_taps(
-        fs,
-        ws,
+        candidate_floats,
+        candidate_words,
         found.found,
         settings.speed_of_sound,
         settings.sample_rate,
         limit,
         found.images,
         found.rays,
-        hi,
+        keys,
         queue,
         words,
         scratch,
@@ -181,25 +191,25 @@ fn send(
 
 // The answer to a scene as it was loaded, or to the refusal 6 that loading gave. All work areas are zero afterwards.
 pub fn answer_loaded(
-    columns: &mut [f32],
+    triangles: &mut [f32],
     handles: &mut [u32],
     tree: &mut [f32],
     nodes: &mut [u32],
-    perm: &mut [u32],
-    hi: &mut [u64],
-    lo: &mut [u64],
+    leaf_order: &mut [u32],
+    keys: &mut [u64],
+    low_keys: &mut [u64],
     words: &mut [u64],
     scratch: &mut [u64],
     index: &mut [u32],
-    id: &mut [u32],
-    linked: &mut [u32],
+    numbers: &mut [u32],
+    adjacency: &mut [u32],
     queue: &mut [u32],
-    starts: &mut [u32],
-    gfloats: &mut [f32],
-    members: &mut [u32],
-    rows: &mut [f32],
-    kept: &mut [u32],
-    edges: &mut [f32],
+    offsets: &mut [u32],
+    floats: &mut [f32],
+    plane_triangles: &mut [u32],
+    plane_floats: &mut [f32],
+    plane_words: &mut [u32],
+    plane_edges: &mut [f32],
     out: &mut [u8],
     refusal: u32,
     n: usize,
@@ -211,32 +221,40 @@ pub fn answer_loaded(
     separated: bool,
     room: usize,
 ) -> Answered
-    requires { ⌜ (refusal ≡ 0 → Ready settings n m room (now columns) (now handles) (now materials) (now tree) (now nodes) (now perm) (now hi) (now lo) (now words) (now scratch) (now index) (now id) (now linked) (now queue) (now starts) (now members) (now kept) (now rows) (now gfloats) (now edges) (now out)) ⌝ }
+    requires { ⌜ (refusal ≡ 0 →
+        Ready settings n m room (now triangles) (now handles) (now materials) (now tree) (now nodes) (now «leaf_order») (now keys) (now «low_keys»)
+        (now words) (now scratch) (now index) (now numbers) (now adjacency) (now queue) (now offsets) (now «plane_triangles») (now «plane_words»)
+        (now «plane_floats») (now floats) (now «plane_edges») (now out)) ⌝ }
     requires { ⌜ ((refusal ≡ 0 → ⊥) → m ≡ 0) ⌝ }
-    ensures { λ r. ⌜ AnswersLoaded refusal settings source listener separated room n m (now (columns .entry)) (now (handles .entry)) (now (materials .entry)) r (now (out .entry)) (now (out .exit)) ⌝ }
-    ensures { λ _. ⌜ PlanesZero (now (hi .exit)) (now (lo .exit)) (now (words .exit)) (now (scratch .exit)) (now (index .exit)) (now (id .exit)) (now (linked .exit)) (now (queue .exit)) (now (starts .exit)) (now (members .exit)) (now (kept .exit)) (now (rows .exit)) (now (gfloats .exit)) (now (edges .exit)) ⌝ }
-    ensures { λ _. ⌜ SceneZero (now (columns .exit)) (now (handles .exit)) (now (tree .exit)) (now (nodes .exit)) (now (perm .exit)) ⌝ }
+    ensures { λ r.
+        ⌜ AnswersLoaded refusal settings source listener separated room n m (now (triangles .entry)) (now (handles .entry)) (now (materials .entry)) r
+        (now (out .entry)) (now (out .exit)) ⌝ }
+    ensures { λ _.
+        ⌜ PlanesZero (now (keys .exit)) (now («low_keys» .exit)) (now (words .exit)) (now (scratch .exit)) (now (index .exit)) (now (numbers .exit))
+        (now (adjacency .exit)) (now (queue .exit)) (now (offsets .exit)) (now («plane_triangles» .exit)) (now («plane_words» .exit))
+        (now («plane_floats» .exit)) (now (floats .exit)) (now («plane_edges» .exit)) ⌝ }
+    ensures { λ _. ⌜ SceneZero (now (triangles .exit)) (now (handles .exit)) (now (tree .exit)) (now (nodes .exit)) (now («leaf_order» .exit)) ⌝ }
 {
     scene_bvh::clear_from(handles, m);
     let found = find(
         tree,
         nodes,
-        perm,
-        hi,
-        lo,
+        leaf_order,
+        keys,
+        low_keys,
         words,
         scratch,
         index,
-        id,
-        linked,
+        numbers,
+        adjacency,
         queue,
-        starts,
-        gfloats,
-        members,
-        rows,
-        kept,
-        edges,
-        columns,
+        offsets,
+        floats,
+        plane_triangles,
+        plane_floats,
+        plane_words,
+        plane_edges,
+        triangles,
         handles,
         n,
         m,
@@ -248,21 +266,21 @@ pub fn answer_loaded(
         room,
     );
     let r = send(
-        hi,
+        keys,
         queue,
         words,
         scratch,
         out,
-        gfloats,
-        id,
+        floats,
+        numbers,
         refusal,
         found,
         settings,
     );
-    clearing::clear_keys(hi, lo, words, scratch);
-    clearing::clear_lists(index, id, linked, queue, starts);
-    clearing::clear_pair(members, kept);
-    clearing::clear_floats(rows, gfloats, edges);
-    clearing::clear_scene(columns, handles, tree, nodes, perm);
+    clearing::clear_keys(keys, low_keys, words, scratch);
+    clearing::clear_lists(index, numbers, adjacency, queue, offsets);
+    clearing::clear_pair(plane_triangles, plane_words);
+    clearing::clear_floats(plane_floats, floats, plane_edges);
+    clearing::clear_scene(triangles, handles, tree, nodes, leaf_order);
     r
 }

@@ -304,7 +304,8 @@ fn ask(
     indices: &[u32],
     materials: &[f32],
 ) -> Named
-    requires { ⌜ (192 ≤ length (now meshes)) × (1024 ≤ length (now transforms)) × (6144 ≤ length (now positions)) × (1536 ≤ length (now indices)) × (1024 ≤ length (now materials)) ⌝ }
+    requires { ⌜ (192 ≤ length (now meshes)) × (1024 ≤ length (now transforms)) × (6144 ≤ length (now positions)) × (1536 ≤ length (now indices)) ×
+        (1024 ≤ length (now materials)) ⌝ }
 {
     let rows = 16 * limited(casefile::word(w, 7), 64);
     let mesh_words = 3 * limited(casefile::word(w, 8), 64);

@@ -53,48 +53,64 @@ pub struct Trail {
 // ---- images
 
 // Whether the source lies on plane p, so that a sequence may not begin with it.
-pub fn lies_on(floats: &[f32], words: &[u32], p: usize, source: Vec3) -> bool
-    requires { ⌜ (planeFloats * p + planeFloats ≤ length (now floats)) × (planeWords * p + planeWords ≤ length (now words)) ⌝ }
-    ensures { λ r. ⌜ ((members : List ℕ) (edges : List Float) (count : ℕ) → p < count → r ≡ liesOnOf (planeAt (planesIn (now (floats .entry)) (now (words .entry)) members edges count) p) source) ⌝ }
+pub fn lies_on(plane_floats: &[f32], plane_words: &[u32], p: usize, source: Vec3) -> bool
+    requires { ⌜ (planeFloats * p + planeFloats ≤ length (now «plane_floats»)) × (planeWords * p + planeWords ≤ length (now «plane_words»)) ⌝ }
+    ensures { λ r.
+        ⌜ ((members : List ℕ) (edges : List Float) (count : ℕ) → p < count →
+        r ≡ liesOnOf (planeAt (planesIn (now («plane_floats» .entry)) (now («plane_words» .entry)) members edges count) p) source) ⌝ }
 {
-    float::abs(mirror::signed_distance(mirror::plane_at(floats, words, p), source))
+    float::abs(mirror::signed_distance(mirror::plane_at(plane_floats, plane_words, p), source))
         < mirror::PLANE_SIDE_EPS
 }
 
 // The image of an image in plane p.
-pub fn next_image(floats: &[f32], words: &[u32], p: usize, image: Vec3) -> Vec3
-    requires { ⌜ (planeFloats * p + planeFloats ≤ length (now floats)) × (planeWords * p + planeWords ≤ length (now words)) ⌝ }
-    ensures { λ r. ⌜ ((members : List ℕ) (edges : List Float) (count : ℕ) → p < count → r ≡ mirrorOf (planeAt (planesIn (now (floats .entry)) (now (words .entry)) members edges count) p) image) ⌝ }
+pub fn next_image(plane_floats: &[f32], plane_words: &[u32], p: usize, image: Vec3) -> Vec3
+    requires { ⌜ (planeFloats * p + planeFloats ≤ length (now «plane_floats»)) × (planeWords * p + planeWords ≤ length (now «plane_words»)) ⌝ }
+    ensures { λ r.
+        ⌜ ((members : List ℕ) (edges : List Float) (count : ℕ) → p < count →
+        r ≡ mirrorOf (planeAt (planesIn (now («plane_floats» .entry)) (now («plane_words» .entry)) members edges count) p) image) ⌝ }
 {
-    mirror::mirror(mirror::plane_at(floats, words, p), image)
+    mirror::mirror(mirror::plane_at(plane_floats, plane_words, p), image)
 }
 
 // ---- bounces
 
 // The bounce on plane p, between `prev` and the image `target`.
 fn bounce_on(
-    columns: &[f32],
+    triangles: &[f32],
     n: usize,
-    floats: &[f32],
-    words: &[u32],
-    members: &[u32],
-    edges: &[f32],
+    plane_floats: &[f32],
+    plane_words: &[u32],
+    plane_triangles: &[u32],
+    plane_edges: &[f32],
     count: usize,
     fade: f32,
     p: usize,
     prev: Vec3,
     target: Vec3,
 ) -> Bounce
-    requires { ⌜ PlanesLent (now columns) n (now floats) (now words) (now members) (now edges) count ⌝ }
+    requires { ⌜ PlanesLent (now triangles) n (now «plane_floats») (now «plane_words») (now «plane_triangles») (now «plane_edges») count ⌝ }
     requires { ⌜ p < count ⌝ }
-    ensures { λ r. ⌜ ((tri : ℕ → Triangle) → PlanesRead tri (now (columns .entry)) n (now (floats .entry)) (now (words .entry)) (now (members .entry)) count → r ≡ bounceOf tri fade (planeAt (planesIn (now (floats .entry)) (now (words .entry)) (now (members .entry)) (now (edges .entry)) count) p) prev target) ⌝ }
+    ensures { λ r.
+        ⌜ ((tri : ℕ → Triangle) →
+        PlanesRead tri (now (triangles .entry)) n (now («plane_floats» .entry)) (now («plane_words» .entry)) (now («plane_triangles» .entry)) count →
+        r ≡ bounceOf tri fade
+        (planeAt (planesIn (now («plane_floats» .entry)) (now («plane_words» .entry)) (now («plane_triangles» .entry)) (now («plane_edges» .entry)) count) p)
+        prev target) ⌝ }
 {
-    let plane = mirror::plane_at(floats, words, p);
+    let plane = mirror::plane_at(plane_floats, plane_words, p);
     let PlaneCrossing::At(b) = mirror::crossing(plane, prev, target) else {
         return Bounce::NotCrossed;
     };
-    let Located::On(i, w, q) = mirror::locate_on_plane(columns, n, plane, members, edges, fade, b)
-    else {
+    let Located::On(i, w, q) = mirror::locate_on_plane(
+        triangles,
+        n,
+        plane,
+        plane_triangles,
+        plane_edges,
+        fade,
+        b,
+    ) else {
         return Bounce::OffSurface;
     };
     Bounce::On(i, w, q)
@@ -143,12 +159,12 @@ pub fn no_bounces() -> Trail
 
 // The k bounces next to the source, from `prev` on, before the others of `order` bounces, which t has.
 pub fn back(
-    columns: &[f32],
+    triangles: &[f32],
     n: usize,
-    floats: &[f32],
-    words: &[u32],
-    members: &[u32],
-    edges: &[f32],
+    plane_floats: &[f32],
+    plane_words: &[u32],
+    plane_triangles: &[u32],
+    plane_edges: &[f32],
     count: usize,
     fade: f32,
     seq: [u32; 8],
@@ -158,11 +174,16 @@ pub fn back(
     prev: Vec3,
     t: Trail,
 ) -> Trail
-    requires { ⌜ PlanesLent (now columns) n (now floats) (now words) (now members) (now edges) count ⌝ }
+    requires { ⌜ PlanesLent (now triangles) n (now «plane_floats») (now «plane_words») (now «plane_triangles») (now «plane_edges») count ⌝ }
     requires { ⌜ (k ≤ order) × (order ≤ maxOrder) ⌝ }
     requires { ⌜ ((j : ℕ) → j < order → getD seq j 0 < count) ⌝ }
     requires { ⌜ Going t ⌝ }
-    ensures { λ r. ⌜ ((tri : ℕ → Triangle) → PlanesRead tri (now (columns .entry)) n (now (floats .entry)) (now (words .entry)) (now (members .entry)) count → trailOf r order ≡ backOf tri fade (planeOn (planesIn (now (floats .entry)) (now (words .entry)) (now (members .entry)) (now (edges .entry)) count) seq) (λ j. getD images j noPoint) k prev (t .weight) (slice k order (t .points)) (slice k order (t .tris))) ⌝ }
+    ensures { λ r.
+        ⌜ ((tri : ℕ → Triangle) →
+        PlanesRead tri (now (triangles .entry)) n (now («plane_floats» .entry)) (now («plane_words» .entry)) (now («plane_triangles» .entry)) count →
+        trailOf r order ≡ backOf tri fade (planeOn
+        (planesIn (now («plane_floats» .entry)) (now («plane_words» .entry)) (now («plane_triangles» .entry)) (now («plane_edges» .entry)) count) seq) (λ j.
+        getD images j noPoint) k prev (t .weight) (slice k order (t .points)) (slice k order (t .tris))) ⌝ }
     ensures { λ r. ⌜ (r .fate ≡ madeFate → Going r) ⌝ }
 {
     if k == 0 {
@@ -172,12 +193,12 @@ pub fn back(
     let p = seq[d] as usize;
     let target = images[k];
     match bounce_on(
-        columns,
+        triangles,
         n,
-        floats,
-        words,
-        members,
-        edges,
+        plane_floats,
+        plane_words,
+        plane_triangles,
+        plane_edges,
         count,
         fade,
         p,
@@ -187,12 +208,12 @@ pub fn back(
         Bounce::NotCrossed => failed(t, NOT_CROSSED),
         Bounce::OffSurface => failed(t, OFF_SURFACE),
         Bounce::On(i, w, q) => back(
-            columns,
+            triangles,
             n,
-            floats,
-            words,
-            members,
-            edges,
+            plane_floats,
+            plane_words,
+            plane_triangles,
+            plane_edges,
             count,
             fade,
             seq,
@@ -210,27 +231,32 @@ pub fn back(
 // The bounce on plane p as in `bounce_on`, but its edges are not weighed. The row is read anew once the plane is crossed: the crossing takes four
 // of its seventeen values.
 fn turn_on(
-    columns: &[f32],
+    triangles: &[f32],
     n: usize,
-    floats: &[f32],
-    words: &[u32],
-    members: &[u32],
-    edges: &[f32],
+    plane_floats: &[f32],
+    plane_words: &[u32],
+    plane_triangles: &[u32],
+    plane_edges: &[f32],
     count: usize,
     p: usize,
     prev: Vec3,
     target: Vec3,
 ) -> Turn
-    requires { ⌜ PlanesLent (now columns) n (now floats) (now words) (now members) (now edges) count ⌝ }
+    requires { ⌜ PlanesLent (now triangles) n (now «plane_floats») (now «plane_words») (now «plane_triangles») (now «plane_edges») count ⌝ }
     requires { ⌜ p < count ⌝ }
-    ensures { λ r. ⌜ ((tri : ℕ → Triangle) (fade : Float) → PlanesRead tri (now (columns .entry)) n (now (floats .entry)) (now (words .entry)) (now (members .entry)) count → r ≡ turnOf (bounceOf tri fade (planeAt (planesIn (now (floats .entry)) (now (words .entry)) (now (members .entry)) (now (edges .entry)) count) p) prev target)) ⌝ }
+    ensures { λ r.
+        ⌜ ((tri : ℕ → Triangle) (fade : Float) →
+        PlanesRead tri (now (triangles .entry)) n (now («plane_floats» .entry)) (now («plane_words» .entry)) (now («plane_triangles» .entry)) count →
+        r ≡ turnOf (bounceOf tri fade
+        (planeAt (planesIn (now («plane_floats» .entry)) (now («plane_words» .entry)) (now («plane_triangles» .entry)) (now («plane_edges» .entry)) count) p)
+        prev target)) ⌝ }
 {
-    let side = mirror::plane_at(floats, words, p);
+    let side = mirror::plane_at(plane_floats, plane_words, p);
     let PlaneCrossing::At(b) = mirror::crossing(side, prev, target) else {
         return Turn::NotCrossed;
     };
-    let plane = mirror::plane_at(floats, words, p);
-    let Spot::Inside(_, q) = mirror::surface(columns, n, plane, members, b) else {
+    let plane = mirror::plane_at(plane_floats, plane_words, p);
+    let Spot::Inside(_, q) = mirror::surface(triangles, n, plane, plane_triangles, b) else {
         return Turn::OffSurface;
     };
     Turn::On(q)
@@ -239,22 +265,27 @@ fn turn_on(
 // The fate of the bounces on the first `order` planes, whose images stand in `images`. Nothing is kept of them: of the sequences that a search
 // visits nearly all fail here, most at the first or second bounce.
 pub fn fate_back(
-    columns: &[f32],
+    triangles: &[f32],
     n: usize,
-    floats: &[f32],
-    words: &[u32],
-    members: &[u32],
-    edges: &[f32],
+    plane_floats: &[f32],
+    plane_words: &[u32],
+    plane_triangles: &[u32],
+    plane_edges: &[f32],
     count: usize,
     seq: &[u32],
     images: &[f32],
     order: usize,
     listener: Vec3,
 ) -> u32
-    requires { ⌜ PlanesLent (now columns) n (now floats) (now words) (now members) (now edges) count ⌝ }
+    requires { ⌜ PlanesLent (now triangles) n (now «plane_floats») (now «plane_words») (now «plane_triangles») (now «plane_edges») count ⌝ }
     requires { ⌜ (order ≤ length (now seq)) × (pointFloats * order + pointFloats ≤ length (now images)) ⌝ }
     requires { ⌜ ((j : ℕ) → j < order → getD (now seq) j 0 < count) ⌝ }
-    ensures { λ r. ⌜ ((tri : ℕ → Triangle) (fade : Float) → PlanesRead tri (now (columns .entry)) n (now (floats .entry)) (now (words .entry)) (now (members .entry)) count → r ≡ fateOf (backOf tri fade (planeOn (planesIn (now (floats .entry)) (now (words .entry)) (now (members .entry)) (now (edges .entry)) count) (now (seq .entry))) (pointIn (now (images .entry))) order listener one32 [] [])) ⌝ }
+    ensures { λ r.
+        ⌜ ((tri : ℕ → Triangle) (fade : Float) →
+        PlanesRead tri (now (triangles .entry)) n (now («plane_floats» .entry)) (now («plane_words» .entry)) (now («plane_triangles» .entry)) count →
+        r ≡ fateOf (backOf tri fade (planeOn
+        (planesIn (now («plane_floats» .entry)) (now («plane_words» .entry)) (now («plane_triangles» .entry)) (now («plane_edges» .entry)) count)
+        (now (seq .entry))) (pointIn (now (images .entry))) order listener one32 [] [])) ⌝ }
 {
     let mut prev = listener;
     let mut k = order;
@@ -263,12 +294,12 @@ pub fn fate_back(
         k -= 1;
         let p = seq[k] as usize;
         match turn_on(
-            columns,
+            triangles,
             n,
-            floats,
-            words,
-            members,
-            edges,
+            plane_floats,
+            plane_words,
+            plane_triangles,
+            plane_edges,
             count,
             p,
             prev,

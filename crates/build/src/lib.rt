@@ -83,16 +83,19 @@ fn put_leaf(
     n: usize,
     lo: usize,
     hi: usize,
-    perm: &[u32],
+    leaf_order: &[u32],
     boxes: &mut [f32],
     nodes: &mut [u32],
     next: usize,
 ) -> usize
-    requires { ⌜ Listed (now extents) n lo hi (now perm) ⌝ }
+    requires { ⌜ Listed (now extents) n lo hi (now «leaf_order») ⌝ }
     requires { ⌜ Room lo hi (now boxes) (now nodes) next ⌝ }
-    ensures { λ r. ⌜ ((fuel : ℕ) → Built (leafOf (aabbAtOf (now (extents .entry))) (part lo hi (now (perm .entry)))) (fuel + 1) n lo hi next r (now (perm .entry)) (now (perm .entry)) (now (boxes .entry)) (now (boxes .exit)) (now (nodes .entry)) (now (nodes .exit))) ⌝ }
+    ensures { λ r.
+        ⌜ ((fuel : ℕ) →
+        Built (leafOf (aabbAtOf (now (extents .entry))) (part lo hi (now («leaf_order» .entry)))) (fuel + 1) n lo hi next r (now («leaf_order» .entry))
+        (now («leaf_order» .entry)) (now (boxes .entry)) (now (boxes .exit)) (now (nodes .entry)) (now (nodes .exit))) ⌝ }
 {
-    let b = split::bounds(extents, n, &perm[lo..hi]);
+    let b = split::bounds(extents, n, &leaf_order[lo..hi]);
     put_node(boxes, nodes, next, b, 0, 0, lo as u32, (hi - lo) as u32);
     next + 1
 }
@@ -106,14 +109,14 @@ fn split_part(
     n: usize,
     lo: usize,
     hi: usize,
-    perm: &mut [u32],
+    leaf_order: &mut [u32],
     words: &mut [u64],
     scratch: &mut [u64],
     areas: &mut [f32],
 ) -> usize
-    requires { ⌜ Listed (now extents) n lo hi (now perm) ⌝ }
+    requires { ⌜ Listed (now extents) n lo hi (now «leaf_order») ⌝ }
     requires { ⌜ Sorts (now kx) (now ky) (now kz) (now extents) n (now words) (now scratch) (now areas) ⌝ }
-    ensures { λ r. ⌜ Parted (aabbAtOf (now (extents .entry))) (centroidAtOf (now (extents .entry))) n lo hi r (now (perm .entry)) (now (perm .exit)) ⌝ }
+    ensures { λ r. ⌜ Parted (aabbAtOf (now (extents .entry))) (centroidAtOf (now (extents .entry))) n lo hi r (now («leaf_order» .entry)) (now («leaf_order» .exit)) ⌝ }
 {
     split::split(
         kx,
@@ -121,7 +124,7 @@ fn split_part(
         kz,
         extents,
         n,
-        &mut perm[lo..hi],
+        &mut leaf_order[lo..hi],
         words,
         scratch,
         areas,
@@ -138,14 +141,16 @@ fn split_node(
     levels: usize,
     lo: usize,
     hi: usize,
-    perm: &mut [u32],
+    leaf_order: &mut [u32],
     words: &mut [u64],
     scratch: &mut [u64],
     areas: &mut [f32],
 ) -> usize
-    requires { ⌜ Listed (now extents) n lo hi (now perm) ⌝ }
+    requires { ⌜ Listed (now extents) n lo hi (now «leaf_order») ⌝ }
     requires { ⌜ Sorts (now kx) (now ky) (now kz) (now extents) n (now words) (now scratch) (now areas) ⌝ }
-    ensures { λ r. ⌜ Chosen (aabbAtOf (now (extents .entry))) (centroidAtOf (now (extents .entry))) levels n lo hi r (now (perm .entry)) (now (perm .exit)) ⌝ }
+    ensures { λ r.
+        ⌜ Chosen (aabbAtOf (now (extents .entry))) (centroidAtOf (now (extents .entry))) levels n lo hi r (now («leaf_order» .entry))
+        (now («leaf_order» .exit)) ⌝ }
 {
     if levels == 0 {
         return 0;
@@ -153,13 +158,27 @@ fn split_node(
     if hi - lo <= 4 {
         return 0;
     }
-    split_part(kx, ky, kz, extents, n, lo, hi, perm, words, scratch, areas)
+    split_part(
+        kx,
+        ky,
+        kz,
+        extents,
+        n,
+        lo,
+        hi,
+        leaf_order,
+        words,
+        scratch,
+        areas,
+    )
 }
 
 // The node over the trees at next + 1 and at right.
 fn put_inner(boxes: &mut [f32], nodes: &mut [u32], next: usize, right: usize)
     requires { ⌜ (next < right) × (6 * right + 6 ≤ length (now boxes)) × (4 * right + 4 ≤ length (now nodes)) × (right < 2 ^ 32) ⌝ }
-    ensures { λ _. ⌜ Wrote next (unionOf (boxAtOf (now (boxes .entry)) (next + 1)) (boxAtOf (now (boxes .entry)) right)) (linksOf (next + 1) right 0 0) (now (boxes .entry)) (now (boxes .exit)) (now (nodes .entry)) (now (nodes .exit)) ⌝ }
+    ensures { λ _.
+        ⌜ Wrote next (unionOf (boxAtOf (now (boxes .entry)) (next + 1)) (boxAtOf (now (boxes .entry)) right)) (linksOf (next + 1) right 0 0)
+        (now (boxes .entry)) (now (boxes .exit)) (now (nodes .entry)) (now (nodes .exit)) ⌝ }
 {
     let b = geometry::union(box_at(boxes, next + 1), box_at(boxes, right));
     put_node(boxes, nodes, next, b, (next + 1) as u32, right as u32, 0, 0);
@@ -175,7 +194,7 @@ pub fn build_sah(
     levels: usize,
     lo: usize,
     hi: usize,
-    perm: &mut [u32],
+    leaf_order: &mut [u32],
     words: &mut [u64],
     scratch: &mut [u64],
     areas: &mut [f32],
@@ -183,10 +202,13 @@ pub fn build_sah(
     nodes: &mut [u32],
     next: usize,
 ) -> usize
-    requires { ⌜ Listed (now extents) n lo hi (now perm) ⌝ }
+    requires { ⌜ Listed (now extents) n lo hi (now «leaf_order») ⌝ }
     requires { ⌜ Sorts (now kx) (now ky) (now kz) (now extents) n (now words) (now scratch) (now areas) ⌝ }
     requires { ⌜ Room lo hi (now boxes) (now nodes) next ⌝ }
-    ensures { λ r. ⌜ Built (buildSahOf (aabbAtOf (now (extents .entry))) (centroidAtOf (now (extents .entry))) levels (part lo hi (now (perm .entry)))) (levels + 1) n lo hi next r (now (perm .entry)) (now (perm .exit)) (now (boxes .entry)) (now (boxes .exit)) (now (nodes .entry)) (now (nodes .exit)) ⌝ }
+    ensures { λ r.
+        ⌜ Built (buildSahOf (aabbAtOf (now (extents .entry))) (centroidAtOf (now (extents .entry))) levels (part lo hi (now («leaf_order» .entry))))
+        (levels + 1) n lo hi next r (now («leaf_order» .entry)) (now («leaf_order» .exit)) (now (boxes .entry)) (now (boxes .exit)) (now (nodes .entry))
+        (now (nodes .exit)) ⌝ }
 {
     let at = split_node(
         kx,
@@ -197,13 +219,13 @@ pub fn build_sah(
         levels,
         lo,
         hi,
-        perm,
+        leaf_order,
         words,
         scratch,
         areas,
     );
     if at == 0 {
-        return put_leaf(extents, n, lo, hi, perm, boxes, nodes, next);
+        return put_leaf(extents, n, lo, hi, leaf_order, boxes, nodes, next);
     }
     let mid = lo + at;
     let right = build_sah(
@@ -215,7 +237,7 @@ pub fn build_sah(
         levels - 1,
         lo,
         mid,
-        perm,
+        leaf_order,
         words,
         scratch,
         areas,
@@ -232,7 +254,7 @@ pub fn build_sah(
         levels - 1,
         mid,
         hi,
-        perm,
+        leaf_order,
         words,
         scratch,
         areas,

@@ -65,17 +65,20 @@ fn probe_ray(t: Triangle, reach: f32, s: f32) -> Ray
 fn probe(
     padded: &[f32],
     nodes: &[u32],
-    perm: &[u32],
+    leaf_order: &[u32],
     leaves: &[f32],
     handles: &[u32],
     count: usize,
     ray: Ray,
 ) -> bool
-    requires { ⌜ Held (now padded) (now nodes) (now perm) (now leaves) count ⌝ }
+    requires { ⌜ Held (now padded) (now nodes) (now «leaf_order») (now leaves) count ⌝ }
     requires { ⌜ 0 < count ⌝ }
-    ensures { λ r. ⌜ ((tri : ℕ → Triangle) (t : Tree) → Traced tri t (now (padded .entry)) (now (nodes .entry)) (now (perm .entry)) (now (leaves .entry)) (now (handles .entry)) → r ≡ probeOf tri t ray) ⌝ }
+    ensures { λ r.
+        ⌜ ((tri : ℕ → Triangle) (t : Tree) →
+        Traced tri t (now (padded .entry)) (now (nodes .entry)) (now («leaf_order» .entry)) (now (leaves .entry)) (now (handles .entry)) →
+        r ≡ probeOf tri t ray) ⌝ }
 {
-    match trace::intersect(padded, nodes, perm, leaves, handles, count, ray) {
+    match trace::intersect(padded, nodes, leaf_order, leaves, handles, count, ray) {
         trace::Hit::At(_) => true,
         trace::Hit::Nothing => false,
     }
@@ -85,21 +88,24 @@ fn probe(
 fn is_between(
     padded: &[f32],
     nodes: &[u32],
-    perm: &[u32],
+    leaf_order: &[u32],
     leaves: &[f32],
     handles: &[u32],
     count: usize,
     t: Triangle,
     reach: f32,
 ) -> bool
-    requires { ⌜ Held (now padded) (now nodes) (now perm) (now leaves) count ⌝ }
+    requires { ⌜ Held (now padded) (now nodes) (now «leaf_order») (now leaves) count ⌝ }
     requires { ⌜ 0 < count ⌝ }
-    ensures { λ r. ⌜ ((tri : ℕ → Triangle) (k : Tree) → Traced tri k (now (padded .entry)) (now (nodes .entry)) (now (perm .entry)) (now (leaves .entry)) (now (handles .entry)) → r ≡ isBetween (probeOf tri k) t reach) ⌝ }
+    ensures { λ r.
+        ⌜ ((tri : ℕ → Triangle) (k : Tree) →
+        Traced tri k (now (padded .entry)) (now (nodes .entry)) (now («leaf_order» .entry)) (now (leaves .entry)) (now (handles .entry)) →
+        r ≡ isBetween (probeOf tri k) t reach) ⌝ }
 {
     let front = probe_ray(t, reach, 1.0);
     let back = probe_ray(t, reach, -1.0);
-    if probe(padded, nodes, perm, leaves, handles, count, front) {
-        return probe(padded, nodes, perm, leaves, handles, count, back);
+    if probe(padded, nodes, leaf_order, leaves, handles, count, front) {
+        return probe(padded, nodes, leaf_order, leaves, handles, count, back);
     }
     false
 }
@@ -122,7 +128,9 @@ fn reset(areas: &mut [f32], largest: &mut [u32], np: usize)
 // Triangle t, of area a, is met in patch p.
 fn larger(areas: &mut [f32], largest: &mut [u32], p: usize, t: usize, a: f32)
     requires { ⌜ (p < length (now areas)) × (p < length (now largest)) × (t < 4294967295) ⌝ }
-    ensures { λ _. ⌜ ((ts : List Triangle) → a ≡ triangleAreaOf (triangleAt ts t) → bestAt (now (areas .exit)) (now (largest .exit)) p ≡ bestOf ts (bestAt (now (areas .entry)) (now (largest .entry)) p) t) ⌝ }
+    ensures { λ _.
+        ⌜ ((ts : List Triangle) → a ≡ triangleAreaOf (triangleAt ts t) →
+        bestAt (now (areas .exit)) (now (largest .exit)) p ≡ bestOf ts (bestAt (now (areas .entry)) (now (largest .entry)) p) t) ⌝ }
     ensures { λ _. ⌜ ((q : ℕ) → (q ≡ p → ⊥) → bestAt (now (areas .exit)) (now (largest .exit)) q ≡ bestAt (now (areas .entry)) (now (largest .entry)) q) ⌝ }
 {
     if areas[p] < a {
@@ -138,7 +146,7 @@ fn larger(areas: &mut [f32], largest: &mut [u32], p: usize, t: usize, a: f32)
 
 // Triangle t, where it has a patch.
 fn meet(
-    area: &[f32],
+    triangles: &[f32],
     handles: &[u32],
     n: usize,
     t: usize,
@@ -147,21 +155,24 @@ fn meet(
     areas: &mut [f32],
     largest: &mut [u32],
 )
-    requires { ⌜ (columnCount * n ≤ length (now area)) × (n ≤ length (now handles)) × (t < n) × (t < 4294967295) ⌝ }
+    requires { ⌜ (columnCount * n ≤ length (now triangles)) × (n ≤ length (now handles)) × (t < n) × (t < 4294967295) ⌝ }
     requires { ⌜ (np ≤ length (now areas)) × (np ≤ length (now largest)) ⌝ }
     requires { ⌜ (p < np) ⊎ (p ≡ noneOf) ⌝ }
-    ensures { λ _. ⌜ ((ts : List Triangle) → triangleAt ts t ≡ triangleAtOf (now (area .entry)) (now (handles .entry)) n t → (q : ℕ) → q < np → np ≤ noneOf → bestAt (now (areas .exit)) (now (largest .exit)) q ≡ cond (eqb p q) (bestOf ts (bestAt (now (areas .entry)) (now (largest .entry)) q) t) (bestAt (now (areas .entry)) (now (largest .entry)) q)) ⌝ }
+    ensures { λ _.
+        ⌜ ((ts : List Triangle) → triangleAt ts t ≡ triangleAtOf (now (triangles .entry)) (now (handles .entry)) n t → (q : ℕ) → q < np → np ≤ noneOf →
+        bestAt (now (areas .exit)) (now (largest .exit)) q ≡
+        cond (eqb p q) (bestOf ts (bestAt (now (areas .entry)) (now (largest .entry)) q) t) (bestAt (now (areas .entry)) (now (largest .entry)) q)) ⌝ }
 {
     if p == patches::NONE {
         return;
     }
-    let a = geometry::triangle_area(columns::triangle_at(area, handles, n, t));
+    let a = geometry::triangle_area(columns::triangle_at(triangles, handles, n, t));
     larger(areas, largest, p as usize, t, a);
 }
 
 // For each patch the largest area of its triangles, and the first triangle that has it.
 fn largest_triangles(
-    area: &[f32],
+    triangles: &[f32],
     handles: &[u32],
     n: usize,
     m: usize,
@@ -170,16 +181,18 @@ fn largest_triangles(
     areas: &mut [f32],
     largest: &mut [u32],
 )
-    requires { ⌜ (columnCount * n ≤ length (now area)) × (n ≤ length (now handles)) × (m ≤ n) × (m ≤ 4294967295) × (m ≤ length (now of)) ⌝ }
+    requires { ⌜ (columnCount * n ≤ length (now triangles)) × (n ≤ length (now handles)) × (m ≤ n) × (m ≤ 4294967295) × (m ≤ length (now of)) ⌝ }
     requires { ⌜ (np ≤ m) × (np ≤ length (now areas)) × (np ≤ length (now largest)) ⌝ }
     requires { ⌜ Numbered (now of) m np ⌝ }
-    ensures { λ _. ⌜ ((p : ℕ) → p < np → bestAt (now (areas .exit)) (now (largest .exit)) p ≡ foldl (bestOf (trianglesIn (now (area .entry)) (now (handles .entry)) n m)) (neg one32, noneOf) (trisIn (now (of .entry)) m p)) ⌝ }
+    ensures { λ _.
+        ⌜ ((p : ℕ) → p < np → bestAt (now (areas .exit)) (now (largest .exit)) p ≡
+        foldl (bestOf (trianglesIn (now (triangles .entry)) (now (handles .entry)) n m)) (neg one32, noneOf) (trisIn (now (of .entry)) m p)) ⌝ }
 {
     reset(areas, largest, np);
     let mut t = 0;
     while t < m {
         let p = of[t];
-        meet(area, handles, n, t, p, np, areas, largest);
+        meet(triangles, handles, n, t, p, np, areas, largest);
         t += 1;
     }
 }
@@ -207,30 +220,34 @@ fn flag(buried: bool) -> u32
 
 // The flag of each patch, by its largest triangle.
 fn mark_open(
-    area: &[f32],
+    triangles: &[f32],
     handles: &[u32],
     n: usize,
     reach: f32,
     padded: &[f32],
     nodes: &[u32],
-    perm: &[u32],
+    leaf_order: &[u32],
     leaves: &[f32],
     count: usize,
     largest: &[u32],
     np: usize,
     flags: &mut [u32],
 )
-    requires { ⌜ (columnCount * n ≤ length (now area)) × (n ≤ length (now handles)) × (np ≤ length (now largest)) × (np ≤ length (now flags)) × (np ≤ 4294967295) ⌝ }
-    requires { ⌜ Held (now padded) (now nodes) (now perm) (now leaves) count ⌝ }
+    requires { ⌜ (columnCount * n ≤ length (now triangles)) × (n ≤ length (now handles)) × (np ≤ length (now largest)) × (np ≤ length (now flags)) × (np ≤ 4294967295) ⌝ }
+    requires { ⌜ Held (now padded) (now nodes) (now «leaf_order») (now leaves) count ⌝ }
     requires { ⌜ 0 < count ⌝ }
     requires { ⌜ ((p : ℕ) → p < np → orZero (getD (now largest) p 0) < n) ⌝ }
-    ensures { λ _. ⌜ ((p : ℕ) → p < np → (tri : ℕ → Triangle) (k : Tree) → Traced tri k (now (padded .entry)) (now (nodes .entry)) (now (perm .entry)) (now (leaves .entry)) (now (handles .entry)) → eqb (getD (now (flags .exit)) p 0) 0 ≡ isBetween (probeOf tri k) (triangleAtOf (now (area .entry)) (now (handles .entry)) n (orZero (getD (now (largest .entry)) p 0))) reach) ⌝ }
+    ensures { λ _.
+        ⌜ ((p : ℕ) → p < np → (tri : ℕ → Triangle) (k : Tree) →
+        Traced tri k (now (padded .entry)) (now (nodes .entry)) (now («leaf_order» .entry)) (now (leaves .entry)) (now (handles .entry)) →
+        eqb (getD (now (flags .exit)) p 0) 0 ≡
+        isBetween (probeOf tri k) (triangleAtOf (now (triangles .entry)) (now (handles .entry)) n (orZero (getD (now (largest .entry)) p 0))) reach) ⌝ }
 {
     let mut p = 0;
     while p < np {
         let i = or_zero(largest[p]) as usize;
-        let t = columns::triangle_at(area, handles, n, i);
-        let buried = is_between(padded, nodes, perm, leaves, handles, count, t, reach);
+        let t = columns::triangle_at(triangles, handles, n, i);
+        let buried = is_between(padded, nodes, leaf_order, leaves, handles, count, t, reach);
         flags[p] = flag(buried);
         p += 1;
     }
@@ -243,7 +260,9 @@ fn close_row(flags: &[u32], p: usize, w: usize, rows: &mut [f32], numbers: &mut 
     requires { ⌜ (patchFloats * p + patchFloats ≤ length (now rows)) × (w ≤ p) × (p < 4294967295) × (p < length (now flags)) × (p < length (now numbers)) ⌝ }
     ensures { λ r. ⌜ r ≡ cond (isOpen (now (flags .entry)) p) (suc w) w ⌝ }
     ensures { λ r. ⌜ now (numbers .exit) ≡ set (now (numbers .entry)) p (cond (isOpen (now (flags .entry)) p) w noneOf) ⌝ }
-    ensures { λ r. ⌜ ((q : ℕ) → rowIn (now (rows .exit)) q ≡ cond (isOpen (now (flags .entry)) p) (cond (eqb q w) (rowIn (now (rows .entry)) p) (rowIn (now (rows .entry)) q)) (rowIn (now (rows .entry)) q)) ⌝ }
+    ensures { λ r.
+        ⌜ ((q : ℕ) → rowIn (now (rows .exit)) q ≡
+        cond (isOpen (now (flags .entry)) p) (cond (eqb q w) (rowIn (now (rows .entry)) p) (rowIn (now (rows .entry)) q)) (rowIn (now (rows .entry)) q)) ⌝ }
 {
     if flags[p] == 0 {
         numbers[p] = patches::NONE;
@@ -297,14 +316,14 @@ fn renumber(of: &mut [u32], m: usize, numbers: &[u32])
 
 // STEP 3 of the planes: the patches that are not buried, in order, with new numbers. The number of them is returned.
 pub fn open_patches(
-    area: &[f32],
+    triangles: &[f32],
     handles: &[u32],
     n: usize,
     m: usize,
     reach: f32,
     padded: &[f32],
     nodes: &[u32],
-    perm: &[u32],
+    leaf_order: &[u32],
     leaves: &[f32],
     count: usize,
     np: usize,
@@ -314,33 +333,38 @@ pub fn open_patches(
     rows: &mut [f32],
     of: &mut [u32],
 ) -> usize
-    requires { ⌜ (columnCount * n ≤ length (now area)) × (n ≤ length (now handles)) × (m ≤ n) × (m ≤ 4294967295) × (m ≤ length (now of)) ⌝ }
+    requires { ⌜ (columnCount * n ≤ length (now triangles)) × (n ≤ length (now handles)) × (m ≤ n) × (m ≤ 4294967295) × (m ≤ length (now of)) ⌝ }
     requires { ⌜ (np ≤ m) × (np ≤ length (now areas)) × (np ≤ length (now largest)) × (np ≤ length (now flags)) × (patchFloats * np ≤ length (now rows)) ⌝ }
-    requires { ⌜ Held (now padded) (now nodes) (now perm) (now leaves) count ⌝ }
+    requires { ⌜ Held (now padded) (now nodes) (now «leaf_order») (now leaves) count ⌝ }
     requires { ⌜ 0 < count ⌝ }
     requires { ⌜ Numbered (now of) m np ⌝ }
-    ensures { λ r. ⌜ ((tri : ℕ → Triangle) (k : Tree) → Traced tri k (now (padded .entry)) (now (nodes .entry)) (now (perm .entry)) (now (leaves .entry)) (now (handles .entry)) → patchesIn (now (rows .exit)) (now (of .exit)) m r ≡ openOf (probeOf tri k) (trianglesIn (now (area .entry)) (now (handles .entry)) n m) reach (patchesIn (now (rows .entry)) (now (of .entry)) m np)) ⌝ }
+    ensures { λ r.
+        ⌜ ((tri : ℕ → Triangle) (k : Tree) →
+        Traced tri k (now (padded .entry)) (now (nodes .entry)) (now («leaf_order» .entry)) (now (leaves .entry)) (now (handles .entry)) →
+        patchesIn (now (rows .exit)) (now (of .exit)) m r ≡
+        openOf (probeOf tri k) (trianglesIn (now (triangles .entry)) (now (handles .entry)) n m) reach (patchesIn (now (rows .entry)) (now (of .entry)) m np))
+        ⌝ }
     ensures { λ r. ⌜ (r ≤ np) × Numbered (now (of .exit)) m r ⌝ }
 {
     if reach > 0.0 {} else {
         return np;
     }
-    largest_triangles(area, handles, n, m, of, np, areas, largest);
+    largest_triangles(triangles, handles, n, m, of, np, areas, largest);
     mark_open(
-        area,
+        triangles,
         handles,
         n,
         reach,
         padded,
         nodes,
-        perm,
+        leaf_order,
         leaves,
         count,
         largest,
         np,
         flags,
     );
-    // The largest triangles are done with: their area takes the new numbers.
+    // The largest triangles are done with: their triangles takes the new numbers.
     let r = close_rows(flags, np, rows, largest);
     renumber(of, m, largest);
     r

@@ -37,13 +37,15 @@ fn put_extent(extents: &mut [f32], i: usize, b: Aabb, c: Vec3)
     extents[at + 8] = c.z;
 }
 
-fn put_extents(columns: &[f32], handles: &[u32], n: usize, count: usize, extents: &mut [f32])
-    requires { ⌜ (columnCount * n ≤ length (now columns)) × (n ≤ length (now handles)) × (count ≤ n) × (9 * count ≤ length (now extents)) ⌝ }
-    ensures { λ _. ⌜ ((i : ℕ) → i < count → (aabbAtOf (now (extents .exit)) i ≡ aabbOf (now (columns .entry)) (now (handles .entry)) n i) × (centroidAtOf (now (extents .exit)) i ≡ centroidOf (now (columns .entry)) (now (handles .entry)) n i)) ⌝ }
+fn put_extents(triangles: &[f32], handles: &[u32], n: usize, count: usize, extents: &mut [f32])
+    requires { ⌜ (columnCount * n ≤ length (now triangles)) × (n ≤ length (now handles)) × (count ≤ n) × (9 * count ≤ length (now extents)) ⌝ }
+    ensures { λ _.
+        ⌜ ((i : ℕ) → i < count → (aabbAtOf (now (extents .exit)) i ≡ aabbOf (now (triangles .entry)) (now (handles .entry)) n i) ×
+        (centroidAtOf (now (extents .exit)) i ≡ centroidOf (now (triangles .entry)) (now (handles .entry)) n i)) ⌝ }
 {
     let mut i = 0;
     while i < count {
-        let t = columns::triangle_at(columns, handles, n, i);
+        let t = columns::triangle_at(triangles, handles, n, i);
         put_extent(
             extents,
             i,
@@ -64,19 +66,21 @@ fn wide(x: u32) -> u64
 
 // The keys of one axis. The answer is false where a centroid is not finite along it.
 fn put_keys(
-    columns: &[f32],
+    triangles: &[f32],
     handles: &[u32],
     n: usize,
     count: usize,
     k: usize,
     keys: &mut [u64],
 ) -> bool
-    requires { ⌜ (columnCount * n ≤ length (now columns)) × (n ≤ length (now handles)) × (count ≤ n) × (count ≤ length (now keys)) ⌝ }
-    ensures { λ r. ⌜ (r ≡ allFinite (λ i. axisOf (centroidOf (now (columns .entry)) (now (handles .entry)) n i) k) count) × (r ≡ true → InOrder count (now (keys .exit)) (λ i. axisOf (centroidOf (now (columns .entry)) (now (handles .entry)) n i) k)) ⌝ }
+    requires { ⌜ (columnCount * n ≤ length (now triangles)) × (n ≤ length (now handles)) × (count ≤ n) × (count ≤ length (now keys)) ⌝ }
+    ensures { λ r.
+        ⌜ (r ≡ allFinite (λ i. axisOf (centroidOf (now (triangles .entry)) (now (handles .entry)) n i) k) count) × (r ≡ true →
+        InOrder count (now (keys .exit)) (λ i. axisOf (centroidOf (now (triangles .entry)) (now (handles .entry)) n i) k)) ⌝ }
 {
     let mut i = 0;
     while i < count {
-        let c = geometry::centroid(columns::triangle_at(columns, handles, n, i));
+        let c = geometry::centroid(columns::triangle_at(triangles, handles, n, i));
         let x = vector::axis(c, k);
         if float::is_finite(x) {
             keys[i] = wide(float::float_key(x));
@@ -90,7 +94,7 @@ fn put_keys(
 
 // The keys of one axis, in the part of the area from `from` to `to`.
 fn put_axis(
-    columns: &[f32],
+    triangles: &[f32],
     handles: &[u32],
     n: usize,
     count: usize,
@@ -99,24 +103,35 @@ fn put_axis(
     to: usize,
     keys: &mut [u64],
 ) -> bool
-    requires { ⌜ (columnCount * n ≤ length (now columns)) × (n ≤ length (now handles)) × (count ≤ n) ⌝ }
+    requires { ⌜ (columnCount * n ≤ length (now triangles)) × (n ≤ length (now handles)) × (count ≤ n) ⌝ }
     requires { ⌜ (from + count ≤ to) × (to ≤ length (now keys)) ⌝ }
-    ensures { λ r. ⌜ (r ≡ allFinite (λ i. axisOf (centroidOf (now (columns .entry)) (now (handles .entry)) n i) k) count) × (r ≡ true → InOrder count (part from to (now (keys .exit))) (λ i. axisOf (centroidOf (now (columns .entry)) (now (handles .entry)) n i) k)) × (take from (now (keys .exit)) ≡ take from (now (keys .entry))) ⌝ }
+    ensures { λ r.
+        ⌜ (r ≡ allFinite (λ i. axisOf (centroidOf (now (triangles .entry)) (now (handles .entry)) n i) k) count) × (r ≡ true →
+        InOrder count (part from to (now (keys .exit))) (λ i. axisOf (centroidOf (now (triangles .entry)) (now (handles .entry)) n i) k)) ×
+        (take from (now (keys .exit)) ≡ take from (now (keys .entry))) ⌝ }
 {
-    put_keys(columns, handles, n, count, k, &mut keys[from..to])
+    put_keys(triangles, handles, n, count, k, &mut keys[from..to])
 }
 
 // The keys of the three axes, one axis after another.
-fn put_all_keys(columns: &[f32], handles: &[u32], n: usize, count: usize, keys: &mut [u64]) -> bool
-    requires { ⌜ (columnCount * n ≤ length (now columns)) × (n ≤ length (now handles)) × (count ≤ n) ⌝ }
+fn put_all_keys(
+    triangles: &[f32],
+    handles: &[u32],
+    n: usize,
+    count: usize,
+    keys: &mut [u64],
+) -> bool
+    requires { ⌜ (columnCount * n ≤ length (now triangles)) × (n ≤ length (now handles)) × (count ≤ n) ⌝ }
     requires { ⌜ 3 * count ≤ length (now keys) ⌝ }
-    ensures { λ r. ⌜ (r ≡ finiteOf (centroidOf (now (columns .entry)) (now (handles .entry)) n) count) × (r ≡ true → KeysIn (centroidOf (now (columns .entry)) (now (handles .entry)) n) count (now (keys .exit))) ⌝ }
+    ensures { λ r.
+        ⌜ (r ≡ finiteOf (centroidOf (now (triangles .entry)) (now (handles .entry)) n) count) × (r ≡ true →
+        KeysIn (centroidOf (now (triangles .entry)) (now (handles .entry)) n) count (now (keys .exit))) ⌝ }
 {
     let two = 2 * count;
     let three = 3 * count;
-    if put_axis(columns, handles, n, count, 0, 0, count, keys) {
-        if put_axis(columns, handles, n, count, 1, count, two, keys) {
-            return put_axis(columns, handles, n, count, 2, two, three, keys);
+    if put_axis(triangles, handles, n, count, 0, 0, count, keys) {
+        if put_axis(triangles, handles, n, count, 1, count, two, keys) {
+            return put_axis(triangles, handles, n, count, 2, two, three, keys);
         }
     }
     false
@@ -125,40 +140,44 @@ fn put_all_keys(columns: &[f32], handles: &[u32], n: usize, count: usize, keys: 
 // ---- the tree
 
 // Each position's own number.
-fn number(perm: &mut [u32])
-    requires { ⌜ length (now perm) < 65536 ⌝ }
-    ensures { λ _. ⌜ (now (perm .exit) ≡ countTo 0 (length (now (perm .entry)))) × Below (length (now (perm .entry))) (now (perm .exit)) ⌝ }
+fn number(leaf_order: &mut [u32])
+    requires { ⌜ length (now «leaf_order») < 65536 ⌝ }
+    ensures { λ _.
+        ⌜ (now («leaf_order» .exit) ≡ countTo 0 (length (now («leaf_order» .entry)))) ×
+        Below (length (now («leaf_order» .entry))) (now («leaf_order» .exit)) ⌝ }
 {
     let mut i = 0;
-    while i < perm.len() {
-        perm[i] = i as u32;
+    while i < leaf_order.len() {
+        leaf_order[i] = i as u32;
         i += 1;
     }
 }
 
-// Builds the tree of as many triangles as perm is long. The answer is the count of its nodes, and 0 where a centroid is not finite.
+// Builds the tree of as many triangles as leaf_order is long. The answer is the count of its nodes, and 0 where a centroid is not finite.
 fn build_tree(
-    columns: &[f32],
+    triangles: &[f32],
     handles: &[u32],
     n: usize,
     extents: &mut [f32],
     keys: &mut [u64],
-    perm: &mut [u32],
+    leaf_order: &mut [u32],
     words: &mut [u64],
     scratch: &mut [u64],
     areas: &mut [f32],
     boxes: &mut [f32],
     nodes: &mut [u32],
 ) -> usize
-    requires { ⌜ Lent (now columns) (now handles) n (now extents) (now keys) (now perm) (now words) (now scratch) (now areas) (now boxes) (now nodes) ⌝ }
-    ensures { λ r. ⌜ TreeOf (now (columns .entry)) (now (handles .entry)) n (length (now (perm .entry))) (now (boxes .exit)) (now (nodes .exit)) (now (perm .exit)) r ⌝ }
+    requires { ⌜ Lent (now triangles) (now handles) n (now extents) (now keys) (now «leaf_order») (now words) (now scratch) (now areas) (now boxes) (now nodes) ⌝ }
+    ensures { λ r.
+        ⌜ TreeOf (now (triangles .entry)) (now (handles .entry)) n (length (now («leaf_order» .entry))) (now (boxes .exit)) (now (nodes .exit))
+        (now («leaf_order» .exit)) r ⌝ }
 {
-    let count = perm.len();
-    put_extents(columns, handles, n, count, extents);
+    let count = leaf_order.len();
+    put_extents(triangles, handles, n, count, extents);
     let two = 2 * count;
     let three = 3 * count;
-    if put_all_keys(columns, handles, n, count, keys) {
-        number(perm);
+    if put_all_keys(triangles, handles, n, count, keys) {
+        number(leaf_order);
         return build::build_sah(
             &keys[0..count],
             &keys[count..two],
@@ -168,7 +187,7 @@ fn build_tree(
             32,
             0,
             count,
-            perm,
+            leaf_order,
             words,
             scratch,
             areas,
@@ -207,70 +226,77 @@ fn pad_boxes(boxes: &[f32], count: usize, padded: &mut [f32])
     }
 }
 
-fn put_row(rows: &mut [f32], k: usize, a: Vec3, e: Edges)
-    requires { ⌜ 10 * k + 10 ≤ length (now rows) ⌝ }
-    ensures { λ _. ⌜ now (rows .exit) ≡ sets (now (rows .entry)) (10 * k) (edgesRow a e) ⌝ }
+fn put_row(leaves: &mut [f32], k: usize, a: Vec3, e: Edges)
+    requires { ⌜ 10 * k + 10 ≤ length (now leaves) ⌝ }
+    ensures { λ _. ⌜ now (leaves .exit) ≡ sets (now (leaves .entry)) (10 * k) (edgesRow a e) ⌝ }
 {
     let at = 10 * k;
-    rows[at] = a.x;
-    rows[at + 1] = a.y;
-    rows[at + 2] = a.z;
-    rows[at + 3] = e.edge1.x;
-    rows[at + 4] = e.edge1.y;
-    rows[at + 5] = e.edge1.z;
-    rows[at + 6] = e.edge2.x;
-    rows[at + 7] = e.edge2.y;
-    rows[at + 8] = e.edge2.z;
-    rows[at + 9] = e.least_det;
+    leaves[at] = a.x;
+    leaves[at + 1] = a.y;
+    leaves[at + 2] = a.z;
+    leaves[at + 3] = e.edge1.x;
+    leaves[at + 4] = e.edge1.y;
+    leaves[at + 5] = e.edge1.z;
+    leaves[at + 6] = e.edge2.x;
+    leaves[at + 7] = e.edge2.y;
+    leaves[at + 8] = e.edge2.z;
+    leaves[at + 9] = e.least_det;
 }
 
 // The row of each triangle, in the leaves' order.
-fn put_rows(columns: &[f32], n: usize, perm: &[u32], rows: &mut [f32])
-    requires { ⌜ (columnCount * n ≤ length (now columns)) × Below n (now perm) × (10 * length (now perm) ≤ length (now rows)) ⌝ }
-    ensures { λ _. ⌜ ((k : ℕ) → k < length (now (perm .entry)) → (cornerAtOf (now (rows .exit)) k ≡ vecAtOf (now (columns .entry)) n (getD (now (perm .entry)) k 0)) × (edgesAtOf (now (rows .exit)) k ≡ Rattle.columns.specs.Columns.edgesAtOf (now (columns .entry)) n (getD (now (perm .entry)) k 0))) ⌝ }
+fn put_rows(triangles: &[f32], n: usize, leaf_order: &[u32], leaves: &mut [f32])
+    requires { ⌜ (columnCount * n ≤ length (now triangles)) × Below n (now «leaf_order») × (10 * length (now «leaf_order») ≤ length (now leaves)) ⌝ }
+    ensures { λ _.
+        ⌜ ((k : ℕ) → k < length (now («leaf_order» .entry)) →
+        (cornerAtOf (now (leaves .exit)) k ≡ vecAtOf (now (triangles .entry)) n (getD (now («leaf_order» .entry)) k 0)) ×
+        (edgesAtOf (now (leaves .exit)) k ≡ Rattle.columns.specs.Columns.edgesAtOf (now (triangles .entry)) n (getD (now («leaf_order» .entry)) k 0))) ⌝ }
 {
     let mut k = 0;
-    while k < perm.len() {
-        let i = perm[k] as usize;
+    while k < leaf_order.len() {
+        let i = leaf_order[k] as usize;
         put_row(
-            rows,
+            leaves,
             k,
-            columns::corner_at(columns, n, i),
-            columns::edges_at(columns, n, i),
+            columns::corner_at(triangles, n, i),
+            columns::edges_at(triangles, n, i),
         );
         k += 1;
     }
 }
 
-// Both in one area: the padded boxes, room for 12 floats a triangle, and after them the rows.
+// Both in one area: the padded boxes, room for 12 floats a triangle, and after them the leaves' rows.
 fn put_traced(
-    columns: &[f32],
+    triangles: &[f32],
     n: usize,
-    perm: &[u32],
+    leaf_order: &[u32],
     boxes: &[f32],
     count: usize,
     tree: &mut [f32],
 )
-    requires { ⌜ (columnCount * n ≤ length (now columns)) × Below n (now perm) × (22 * length (now perm) ≤ length (now tree)) ⌝ }
-    requires { ⌜ (6 * count ≤ length (now boxes)) × (count ≤ 2 * length (now perm)) ⌝ }
-    ensures { λ _. ⌜ ((i : ℕ) → i < count → boxAtOf (paddedIn (length (now (perm .entry))) (now (tree .exit))) i ≡ paddedOf (boxAtOf (now (boxes .entry)) i)) ⌝ }
-    ensures { λ _. ⌜ ((k : ℕ) → k < length (now (perm .entry)) → (cornerAtOf (rowsIn (length (now (perm .entry))) (now (tree .exit))) k ≡ vecAtOf (now (columns .entry)) n (getD (now (perm .entry)) k 0)) × (edgesAtOf (rowsIn (length (now (perm .entry))) (now (tree .exit))) k ≡ Rattle.columns.specs.Columns.edgesAtOf (now (columns .entry)) n (getD (now (perm .entry)) k 0))) ⌝ }
+    requires { ⌜ (columnCount * n ≤ length (now triangles)) × Below n (now «leaf_order») × (22 * length (now «leaf_order») ≤ length (now tree)) ⌝ }
+    requires { ⌜ (6 * count ≤ length (now boxes)) × (count ≤ 2 * length (now «leaf_order»)) ⌝ }
+    ensures { λ _. ⌜ ((i : ℕ) → i < count → boxAtOf (paddedIn (length (now («leaf_order» .entry))) (now (tree .exit))) i ≡ paddedOf (boxAtOf (now (boxes .entry)) i)) ⌝ }
+    ensures { λ _.
+        ⌜ ((k : ℕ) → k < length (now («leaf_order» .entry)) → (cornerAtOf (rowsIn (length (now («leaf_order» .entry))) (now (tree .exit))) k ≡
+        vecAtOf (now (triangles .entry)) n (getD (now («leaf_order» .entry)) k 0)) ×
+        (edgesAtOf (rowsIn (length (now («leaf_order» .entry))) (now (tree .exit))) k ≡
+        Rattle.columns.specs.Columns.edgesAtOf (now (triangles .entry)) n (getD (now («leaf_order» .entry)) k 0))) ⌝ }
 {
-    let from = 12 * perm.len();
-    let to = 22 * perm.len();
+    let from = 12 * leaf_order.len();
+    let to = 22 * leaf_order.len();
     pad_boxes(boxes, count, &mut tree[..from]);
-    put_rows(columns, n, perm, &mut tree[from..to]);
+    put_rows(triangles, n, leaf_order, &mut tree[from..to]);
 }
 
-// `build_flat_bvh`: the tree of as many triangles as perm is long, and what a trace reads of it. The answer is the count of its nodes,
+// `build_flat_bvh`: the tree of as many triangles as leaf_order is long, and what a trace reads of it. The answer is the count of its nodes,
 // and 0 where a centroid is not finite.
 pub fn build_flat_bvh(
-    columns: &[f32],
+    triangles: &[f32],
     handles: &[u32],
     n: usize,
     extents: &mut [f32],
     keys: &mut [u64],
-    perm: &mut [u32],
+    leaf_order: &mut [u32],
     words: &mut [u64],
     scratch: &mut [u64],
     areas: &mut [f32],
@@ -278,17 +304,20 @@ pub fn build_flat_bvh(
     nodes: &mut [u32],
     tree: &mut [f32],
 ) -> usize
-    requires { ⌜ Lent (now columns) (now handles) n (now extents) (now keys) (now perm) (now words) (now scratch) (now areas) (now boxes) (now nodes) ⌝ }
-    requires { ⌜ 22 * length (now perm) ≤ length (now tree) ⌝ }
-    ensures { λ r. ⌜ BvhOf (now (columns .entry)) (now (handles .entry)) n (length (now (perm .entry))) (now (boxes .exit)) (now (nodes .exit)) (now (perm .exit)) (paddedIn (length (now (perm .entry))) (now (tree .exit))) (rowsIn (length (now (perm .entry))) (now (tree .exit))) r ⌝ }
+    requires { ⌜ Lent (now triangles) (now handles) n (now extents) (now keys) (now «leaf_order») (now words) (now scratch) (now areas) (now boxes) (now nodes) ⌝ }
+    requires { ⌜ 22 * length (now «leaf_order») ≤ length (now tree) ⌝ }
+    ensures { λ r.
+        ⌜ BvhOf (now (triangles .entry)) (now (handles .entry)) n (length (now («leaf_order» .entry))) (now (boxes .exit)) (now (nodes .exit))
+        (now («leaf_order» .exit)) (paddedIn (length (now («leaf_order» .entry))) (now (tree .exit)))
+        (rowsIn (length (now («leaf_order» .entry))) (now (tree .exit))) r ⌝ }
 {
     let count = build_tree(
-        columns,
+        triangles,
         handles,
         n,
         extents,
         keys,
-        perm,
+        leaf_order,
         words,
         scratch,
         areas,
@@ -298,6 +327,6 @@ pub fn build_flat_bvh(
     if count == 0 {
         return 0;
     }
-    put_traced(columns, n, perm, boxes, count, tree);
+    put_traced(triangles, n, leaf_order, boxes, count, tree);
     count
 }

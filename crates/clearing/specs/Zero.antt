@@ -18,26 +18,26 @@ abbrev pub ZeroTo : {A : Type 0} → A → List A → ℕ → Type 0
 ZeroTo z l i = take i l ≡ replicate i z
 
 -- the areas of the planes, the candidates and the list
-pub record PlanesZero (hi lo words scratch index id linked queue starts members kept : List ℕ) (rows gfloats edges : List Float) : Type 0 where
-  pub hi-zero : Zeros hi
-  pub lo-zero : Zeros lo
+pub record PlanesZero (keys low-keys words scratch index numbers adjacency queue offsets plane-triangles plane-words : List ℕ) (plane-floats floats plane-edges : List Float) : Type 0 where
+  pub keys-zero : Zeros keys
+  pub low-keys-zero : Zeros low-keys
   pub words-zero : Zeros words
   pub scratch-zero : Zeros scratch
   pub index-zero : Zeros index
-  pub id-zero : Zeros id
-  pub linked-zero : Zeros linked
+  pub numbers-zero : Zeros numbers
+  pub adjacency-zero : Zeros adjacency
   pub queue-zero : Zeros queue
-  pub starts-zero : Zeros starts
-  pub members-zero : Zeros members
-  pub kept-zero : Zeros kept
-  pub rows-zero : ZeroFloats rows
-  pub gfloats-zero : ZeroFloats gfloats
-  pub edges-zero : ZeroFloats edges
+  pub offsets-zero : Zeros offsets
+  pub plane-triangles-zero : Zeros plane-triangles
+  pub plane-words-zero : Zeros plane-words
+  pub plane-floats-zero : ZeroFloats plane-floats
+  pub floats-zero : ZeroFloats floats
+  pub plane-edges-zero : ZeroFloats plane-edges
 
 -- the areas of the triangles and their tree
-pub record SceneZero (columns : List Float) (handles : List ℕ) (tree : List Float) (nodes perm : List ℕ) : Type 0 where
-  pub columns-zero : ZeroFloats columns
+pub record SceneZero (triangles : List Float) (handles : List ℕ) (tree : List Float) (nodes leaf-order : List ℕ) : Type 0 where
+  pub triangles-zero : ZeroFloats triangles
   pub handles-zero : Zeros handles
   pub tree-zero : ZeroFloats tree
   pub nodes-zero : Zeros nodes
-  pub perm-zero : Zeros perm
+  pub leaf-order-zero : Zeros leaf-order

@@ -191,11 +191,11 @@ fn wipe_f32(area: &mut [f32])
 
 // ---- the areas
 
-pub fn clear_keys(hi: &mut [u64], lo: &mut [u64], words: &mut [u64], scratch: &mut [u64])
-    ensures { λ _. ⌜ Zeros (now (hi .exit)) × Zeros (now (lo .exit)) × Zeros (now (words .exit)) × Zeros (now (scratch .exit)) ⌝ }
+pub fn clear_keys(keys: &mut [u64], low_keys: &mut [u64], words: &mut [u64], scratch: &mut [u64])
+    ensures { λ _. ⌜ Zeros (now (keys .exit)) × Zeros (now («low_keys» .exit)) × Zeros (now (words .exit)) × Zeros (now (scratch .exit)) ⌝ }
 {
-    wipe_u64(hi);
-    wipe_u64(lo);
+    wipe_u64(keys);
+    wipe_u64(low_keys);
     wipe_u64(words);
     wipe_u64(scratch);
 }
@@ -227,17 +227,17 @@ pub fn clear_floats(a: &mut [f32], b: &mut [f32], c: &mut [f32])
 
 // The areas of the triangles and their tree.
 pub fn clear_scene(
-    columns: &mut [f32],
+    triangles: &mut [f32],
     handles: &mut [u32],
     tree: &mut [f32],
     nodes: &mut [u32],
-    perm: &mut [u32],
+    leaf_order: &mut [u32],
 )
-    ensures { λ _. ⌜ SceneZero (now (columns .exit)) (now (handles .exit)) (now (tree .exit)) (now (nodes .exit)) (now (perm .exit)) ⌝ }
+    ensures { λ _. ⌜ SceneZero (now (triangles .exit)) (now (handles .exit)) (now (tree .exit)) (now (nodes .exit)) (now («leaf_order» .exit)) ⌝ }
 {
-    wipe_f32(columns);
+    wipe_f32(triangles);
     wipe_u32(handles);
     wipe_f32(tree);
     wipe_u32(nodes);
-    wipe_u32(perm);
+    wipe_u32(leaf_order);
 }

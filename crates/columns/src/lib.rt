@@ -14,60 +14,60 @@ pub const COLUMNS: usize = 23;
 
 // ---- reading
 
-fn vec_at(area: &[f32], n: usize, p: usize) -> Vec3
-    requires { ⌜ p + 2 * n < length (now area) ⌝ }
-    ensures { λ r. ⌜ r ≡ vecAtOf (now (area .entry)) n p ⌝ }
+fn vec_at(triangles: &[f32], n: usize, p: usize) -> Vec3
+    requires { ⌜ p + 2 * n < length (now triangles) ⌝ }
+    ensures { λ r. ⌜ r ≡ vecAtOf (now (triangles .entry)) n p ⌝ }
 {
     Vec3 {
-        x: area[p],
-        y: area[p + n],
-        z: area[p + 2 * n],
+        x: triangles[p],
+        y: triangles[p + n],
+        z: triangles[p + 2 * n],
     }
 }
 
 // The first corner of triangle i.
-pub fn corner_at(area: &[f32], n: usize, i: usize) -> Vec3
-    requires { ⌜ (columnCount * n ≤ length (now area)) × (i < n) ⌝ }
-    ensures { λ r. ⌜ r ≡ vecAtOf (now (area .entry)) n i ⌝ }
+pub fn corner_at(triangles: &[f32], n: usize, i: usize) -> Vec3
+    requires { ⌜ (columnCount * n ≤ length (now triangles)) × (i < n) ⌝ }
+    ensures { λ r. ⌜ r ≡ vecAtOf (now (triangles .entry)) n i ⌝ }
 {
-    vec_at(area, n, i)
+    vec_at(triangles, n, i)
 }
 
-pub fn triangle_at(area: &[f32], handles: &[u32], n: usize, i: usize) -> Triangle
-    requires { ⌜ (columnCount * n ≤ length (now area)) × (n ≤ length (now handles)) × (i < n) ⌝ }
-    ensures { λ r. ⌜ r ≡ triangleAtOf (now (area .entry)) (now (handles .entry)) n i ⌝ }
+pub fn triangle_at(triangles: &[f32], handles: &[u32], n: usize, i: usize) -> Triangle
+    requires { ⌜ (columnCount * n ≤ length (now triangles)) × (n ≤ length (now handles)) × (i < n) ⌝ }
+    ensures { λ r. ⌜ r ≡ triangleAtOf (now (triangles .entry)) (now (handles .entry)) n i ⌝ }
 {
     let material_handle = handles[i];
     Triangle {
-        a: vec_at(area, n, i),
-        b: vec_at(area, n, i + 3 * n),
-        c: vec_at(area, n, i + 6 * n),
-        normal: vec_at(area, n, i + 9 * n),
+        a: vec_at(triangles, n, i),
+        b: vec_at(triangles, n, i + 3 * n),
+        c: vec_at(triangles, n, i + 6 * n),
+        normal: vec_at(triangles, n, i + 9 * n),
         material_handle,
     }
 }
 
-pub fn edges_at(area: &[f32], n: usize, i: usize) -> Edges
-    requires { ⌜ (columnCount * n ≤ length (now area)) × (i < n) ⌝ }
-    ensures { λ r. ⌜ r ≡ edgesAtOf (now (area .entry)) n i ⌝ }
+pub fn edges_at(triangles: &[f32], n: usize, i: usize) -> Edges
+    requires { ⌜ (columnCount * n ≤ length (now triangles)) × (i < n) ⌝ }
+    ensures { λ r. ⌜ r ≡ edgesAtOf (now (triangles .entry)) n i ⌝ }
 {
-    let least_det = area[i + 18 * n];
+    let least_det = triangles[i + 18 * n];
     Edges {
-        edge1: vec_at(area, n, i + 12 * n),
-        edge2: vec_at(area, n, i + 15 * n),
+        edge1: vec_at(triangles, n, i + 12 * n),
+        edge2: vec_at(triangles, n, i + 15 * n),
         least_det,
     }
 }
 
-pub fn dots_at(area: &[f32], n: usize, i: usize) -> Dots
-    requires { ⌜ (columnCount * n ≤ length (now area)) × (i < n) ⌝ }
-    ensures { λ r. ⌜ r ≡ dotsAtOf (now (area .entry)) n i ⌝ }
+pub fn dots_at(triangles: &[f32], n: usize, i: usize) -> Dots
+    requires { ⌜ (columnCount * n ≤ length (now triangles)) × (i < n) ⌝ }
+    ensures { λ r. ⌜ r ≡ dotsAtOf (now (triangles .entry)) n i ⌝ }
 {
     Dots {
-        d00: area[i + 19 * n],
-        d01: area[i + 20 * n],
-        d11: area[i + 21 * n],
-        denom: area[i + 22 * n],
+        d00: triangles[i + 19 * n],
+        d01: triangles[i + 20 * n],
+        d11: triangles[i + 21 * n],
+        denom: triangles[i + 22 * n],
     }
 }
 
@@ -107,25 +107,25 @@ fn row(t: Triangle) -> [f32; 23]
 }
 
 // A float in each column, at i.
-fn put_columns(area: &mut [f32], n: usize, i: usize, values: &[f32])
-    requires { ⌜ (length (now values) ≡ columnCount) × (columnCount * n ≤ length (now area)) × (i < n) × (n < 2 ^ 32) ⌝ }
-    ensures { λ _. ⌜ now (area .exit) ≡ putColumns (now (area .entry)) n i (now (values .entry)) ⌝ }
+fn put_columns(triangles: &mut [f32], n: usize, i: usize, values: &[f32])
+    requires { ⌜ (length (now values) ≡ columnCount) × (columnCount * n ≤ length (now triangles)) × (i < n) × (n < 2 ^ 32) ⌝ }
+    ensures { λ _. ⌜ now (triangles .exit) ≡ putColumns (now (triangles .entry)) n i (now (values .entry)) ⌝ }
 {
     let mut p = i;
     let mut k = 0;
     while k < COLUMNS {
-        area[p] = values[k];
+        triangles[p] = values[k];
         p += n;
         k += 1;
     }
 }
 
-pub fn put_triangle(area: &mut [f32], n: usize, i: usize, t: Triangle)
-    requires { ⌜ (columnCount * n ≤ length (now area)) × (i < n) × (n < 2 ^ 32) ⌝ }
-    ensures { λ _. ⌜ now (area .exit) ≡ putTriangleOf (now (area .entry)) n i t ⌝ }
+pub fn put_triangle(triangles: &mut [f32], n: usize, i: usize, t: Triangle)
+    requires { ⌜ (columnCount * n ≤ length (now triangles)) × (i < n) × (n < 2 ^ 32) ⌝ }
+    ensures { λ _. ⌜ now (triangles .exit) ≡ putTriangleOf (now (triangles .entry)) n i t ⌝ }
 {
     let values = row(t);
-    put_columns(area, n, i, &values);
+    put_columns(triangles, n, i, &values);
 }
 
 // ---- clearing

@@ -31,17 +31,17 @@ fn count_up(index: &mut [u32])
 }
 
 // The first of the run that x is in, start being the first of the run of the element before it.
-fn run_start(hi: &[u64], lo: &[u64], start: u32, x: u32) -> u32
-    requires { ⌜ length (now lo) ≡ length (now hi) ⌝ }
-    requires { ⌜ Below 4294967296 (now lo) ⌝ }
-    requires { ⌜ start < length (now hi) ⌝ }
-    requires { ⌜ x < length (now hi) ⌝ }
-    ensures { λ r. ⌜ r ≡ runStart (keyAt (now (hi .entry)) (now (lo .entry))) start x ⌝ }
+fn run_start(keys: &[u64], low_keys: &[u64], start: u32, x: u32) -> u32
+    requires { ⌜ length (now «low_keys») ≡ length (now keys) ⌝ }
+    requires { ⌜ Below 4294967296 (now «low_keys») ⌝ }
+    requires { ⌜ start < length (now keys) ⌝ }
+    requires { ⌜ x < length (now keys) ⌝ }
+    ensures { λ r. ⌜ r ≡ runStart (keyAt (now (keys .entry)) (now («low_keys» .entry))) start x ⌝ }
 {
     let l = start as usize;
     let i = x as usize;
-    if hi[i] == hi[l] {
-        if lo[i] == lo[l] {
+    if keys[i] == keys[l] {
+        if low_keys[i] == low_keys[l] {
             return start;
         }
     }
@@ -49,12 +49,14 @@ fn run_start(hi: &[u64], lo: &[u64], start: u32, x: u32) -> u32
 }
 
 // Stores at each element of index, a sorted list, the first of its run.
-fn mark_run_starts(hi: &[u64], lo: &[u64], index: &[u32], first: &mut [u32])
-    requires { ⌜ length (now lo) ≡ length (now hi) ⌝ }
-    requires { ⌜ Below 4294967296 (now lo) ⌝ }
-    requires { ⌜ length (now hi) ≤ length (now first) ⌝ }
-    requires { ⌜ Below (length (now hi)) (now index) ⌝ }
-    ensures { λ _. ⌜ now (first .exit) ≡ runStarts (keyAt (now (hi .entry)) (now (lo .entry))) (headOr 0 (now (index .entry))) (now (index .entry)) (now (first .entry)) ⌝ }
+fn mark_run_starts(keys: &[u64], low_keys: &[u64], index: &[u32], first: &mut [u32])
+    requires { ⌜ length (now «low_keys») ≡ length (now keys) ⌝ }
+    requires { ⌜ Below 4294967296 (now «low_keys») ⌝ }
+    requires { ⌜ length (now keys) ≤ length (now first) ⌝ }
+    requires { ⌜ Below (length (now keys)) (now index) ⌝ }
+    ensures { λ _.
+        ⌜ now (first .exit) ≡
+        runStarts (keyAt (now (keys .entry)) (now («low_keys» .entry))) (headOr 0 (now (index .entry))) (now (index .entry)) (now (first .entry)) ⌝ }
 {
     let n = index.len();
     if n == 0 {
@@ -64,34 +66,34 @@ fn mark_run_starts(hi: &[u64], lo: &[u64], index: &[u32], first: &mut [u32])
     let mut p = 0;
     while p < n {
         let x = index[p];
-        start = run_start(hi, lo, start, x);
+        start = run_start(keys, low_keys, start, x);
         first[x as usize] = start;
         p += 1;
     }
 }
 
-// first[i] becomes the first j with the key of i: hi[i] and, below it, lo[i]. Two stable sorts, then a walk over the runs.
+// first[i] becomes the first j with the key of i: keys[i] and, below it, low_keys[i]. Two stable sorts, then a walk over the runs.
 pub fn first_indexes(
-    hi: &[u64],
-    lo: &[u64],
+    keys: &[u64],
+    low_keys: &[u64],
     index: &mut [u32],
     words: &mut [u64],
     scratch: &mut [u64],
     first: &mut [u32],
 )
-    requires { ⌜ length (now hi) ≤ 4294967296 ⌝ }
-    requires { ⌜ length (now lo) ≡ length (now hi) ⌝ }
-    requires { ⌜ Below 4294967296 (now lo) ⌝ }
-    requires { ⌜ length (now index) ≡ length (now hi) ⌝ }
-    requires { ⌜ length (now hi) ≤ length (now words) ⌝ }
-    requires { ⌜ length (now hi) ≤ length (now scratch) ⌝ }
-    requires { ⌜ length (now hi) ≤ length (now first) ⌝ }
-    ensures { λ _. ⌜ ((i : ℕ) → i < length (now (hi .entry)) → getD (now (first .exit)) i 0 ≡ firstAt (keyAt (now (hi .entry)) (now (lo .entry))) i) ⌝ }
+    requires { ⌜ length (now keys) ≤ 4294967296 ⌝ }
+    requires { ⌜ length (now «low_keys») ≡ length (now keys) ⌝ }
+    requires { ⌜ Below 4294967296 (now «low_keys») ⌝ }
+    requires { ⌜ length (now index) ≡ length (now keys) ⌝ }
+    requires { ⌜ length (now keys) ≤ length (now words) ⌝ }
+    requires { ⌜ length (now keys) ≤ length (now scratch) ⌝ }
+    requires { ⌜ length (now keys) ≤ length (now first) ⌝ }
+    ensures { λ _. ⌜ ((i : ℕ) → i < length (now (keys .entry)) → getD (now (first .exit)) i 0 ≡ firstAt (keyAt (now (keys .entry)) (now («low_keys» .entry))) i) ⌝ }
 {
     count_up(index);
-    order::sort_by_key(lo, index, words, scratch);
-    order::sort_by_key(hi, index, words, scratch);
-    mark_run_starts(hi, lo, index, first);
+    order::sort_by_key(low_keys, index, words, scratch);
+    order::sort_by_key(keys, index, words, scratch);
+    mark_run_starts(keys, low_keys, index, first);
 }
 
 // ---- three numbers, sorted
@@ -145,26 +147,28 @@ fn face_lo(a: u32, b: u32, c: u32) -> u64
 // ---- faces by the numbers of their corners
 
 // The keys of n faces, from the numbers of their corners: corner c of face i stands at c * n + i.
-fn face_keys(id: &[u32], n: usize, hi: &mut [u64], lo: &mut [u64])
-    requires { ⌜ 3 * n ≤ length (now id) ⌝ }
-    requires { ⌜ length (now hi) ≡ n ⌝ }
-    requires { ⌜ length (now lo) ≡ n ⌝ }
-    ensures { λ _. ⌜ Below 4294967296 (now (lo .exit)) ⌝ }
-    ensures { λ _. ⌜ ((i : ℕ) → i < n → keyAt (now (hi .exit)) (now (lo .exit)) i ≡ packed3 (getD (now (id .entry)) i 0) (getD (now (id .entry)) (n + i) 0) (getD (now (id .entry)) (2 * n + i) 0)) ⌝ }
+fn face_keys(numbers: &[u32], n: usize, keys: &mut [u64], low_keys: &mut [u64])
+    requires { ⌜ 3 * n ≤ length (now numbers) ⌝ }
+    requires { ⌜ length (now keys) ≡ n ⌝ }
+    requires { ⌜ length (now «low_keys») ≡ n ⌝ }
+    ensures { λ _. ⌜ Below 4294967296 (now («low_keys» .exit)) ⌝ }
+    ensures { λ _.
+        ⌜ ((i : ℕ) → i < n → keyAt (now (keys .exit)) (now («low_keys» .exit)) i ≡
+        packed3 (getD (now (numbers .entry)) i 0) (getD (now (numbers .entry)) (n + i) 0) (getD (now (numbers .entry)) (2 * n + i) 0)) ⌝ }
 {
     let mut i = 0;
     while i < n {
-        let a = id[i];
-        let b = id[n + i];
-        let c = id[2 * n + i];
-        hi[i] = face_hi(a, b, c);
-        lo[i] = face_lo(a, b, c);
+        let a = numbers[i];
+        let b = numbers[n + i];
+        let c = numbers[2 * n + i];
+        keys[i] = face_hi(a, b, c);
+        low_keys[i] = face_lo(a, b, c);
         i += 1;
     }
 }
 
-// first[i] becomes i exactly where no earlier triangle has the three corner keys of triangle i, in any order. id becomes the number
-// of each corner: the first corner with its key. Once id is known the corner keys are dead, and the face keys take their place.
+// first[i] becomes i exactly where no earlier triangle has the three corner keys of triangle i, in any order. `numbers` becomes the number
+// of each corner: the first corner with its key. Once they are known the corner keys are dead, and the face keys take their place.
 pub fn first_faces(
     vhi: &mut [u64],
     vlo: &mut [u64],
@@ -172,7 +176,7 @@ pub fn first_faces(
     index: &mut [u32],
     words: &mut [u64],
     scratch: &mut [u64],
-    id: &mut [u32],
+    numbers: &mut [u32],
     first: &mut [u32],
 )
     requires { ⌜ 3 * n ≤ 4294967296 ⌝ }
@@ -182,13 +186,13 @@ pub fn first_faces(
     requires { ⌜ length (now index) ≡ 3 * n ⌝ }
     requires { ⌜ 3 * n ≤ length (now words) ⌝ }
     requires { ⌜ 3 * n ≤ length (now scratch) ⌝ }
-    requires { ⌜ 3 * n ≤ length (now id) ⌝ }
+    requires { ⌜ 3 * n ≤ length (now numbers) ⌝ }
     requires { ⌜ n ≤ length (now first) ⌝ }
-    ensures { λ _. ⌜ ((c : ℕ) → c < 3 * n → getD (now (id .exit)) c 0 ≡ firstAt (keyAt (now (vhi .entry)) (now (vlo .entry))) c) ⌝ }
+    ensures { λ _. ⌜ ((c : ℕ) → c < 3 * n → getD (now (numbers .exit)) c 0 ≡ firstAt (keyAt (now (vhi .entry)) (now (vlo .entry))) c) ⌝ }
     ensures { λ _. ⌜ ((i : ℕ) → i < n → eqb (getD (now (first .exit)) i 0) i ≡ isNewAt (keyAt (now (vhi .entry)) (now (vlo .entry))) n i) ⌝ }
 {
-    first_indexes(vhi, vlo, index, words, scratch, id);
-    face_keys(id, n, &mut vhi[..n], &mut vlo[..n]);
+    first_indexes(vhi, vlo, index, words, scratch, numbers);
+    face_keys(numbers, n, &mut vhi[..n], &mut vlo[..n]);
     first_indexes(&vhi[..n], &vlo[..n], &mut index[..n], words, scratch, first);
 }
 
@@ -239,98 +243,104 @@ fn step(x: f32, scale: f32) -> u32
 
 // The keys of n points whose parts stand from `at` on, to the places from `put` on.
 fn point_keys(
-    area: &[f32],
+    triangles: &[f32],
     n: usize,
     at: usize,
     put: usize,
     scale: f32,
-    hi: &mut [u64],
-    lo: &mut [u64],
+    keys: &mut [u64],
+    low_keys: &mut [u64],
 )
-    requires { ⌜ at + 3 * n ≤ length (now area) ⌝ }
-    requires { ⌜ put + n ≤ length (now hi) ⌝ }
-    requires { ⌜ put + n ≤ length (now lo) ⌝ }
-    ensures { λ _. ⌜ ((j : ℕ) → j < n → keyAt (now (hi .exit)) (now (lo .exit)) (put + j) ≡ numberOf (keyBy scale (vecAtOf (now (area .entry)) n (j + at)))) ⌝ }
-    ensures { λ _. ⌜ ((j : ℕ) → j < n → getD (now (lo .exit)) (put + j) 0 < 4294967296) ⌝ }
-    ensures { λ _. ⌜ ((q : ℕ) → q < put → getD (now (hi .exit)) q 0 ≡ getD (now (hi .entry)) q 0) ⌝ }
-    ensures { λ _. ⌜ ((q : ℕ) → q < put → getD (now (lo .exit)) q 0 ≡ getD (now (lo .entry)) q 0) ⌝ }
+    requires { ⌜ at + 3 * n ≤ length (now triangles) ⌝ }
+    requires { ⌜ put + n ≤ length (now keys) ⌝ }
+    requires { ⌜ put + n ≤ length (now «low_keys») ⌝ }
+    ensures { λ _.
+        ⌜ ((j : ℕ) → j < n →
+        keyAt (now (keys .exit)) (now («low_keys» .exit)) (put + j) ≡ numberOf (keyBy scale (vecAtOf (now (triangles .entry)) n (j + at)))) ⌝ }
+    ensures { λ _. ⌜ ((j : ℕ) → j < n → getD (now («low_keys» .exit)) (put + j) 0 < 4294967296) ⌝ }
+    ensures { λ _. ⌜ ((q : ℕ) → q < put → getD (now (keys .exit)) q 0 ≡ getD (now (keys .entry)) q 0) ⌝ }
+    ensures { λ _. ⌜ ((q : ℕ) → q < put → getD (now («low_keys» .exit)) q 0 ≡ getD (now («low_keys» .entry)) q 0) ⌝ }
 {
     let mut i = 0;
     while i < n {
-        let x = step(area[i + at], scale);
-        let y = step(area[i + at + n], scale);
-        let z = step(area[i + at + 2 * n], scale);
-        hi[put + i] = pair(x, y);
-        lo[put + i] = wide(z);
+        let x = step(triangles[i + at], scale);
+        let y = step(triangles[i + at + n], scale);
+        let z = step(triangles[i + at + 2 * n], scale);
+        keys[put + i] = pair(x, y);
+        low_keys[put + i] = wide(z);
         i += 1;
     }
 }
 
 // The keys of all corners in steps of 1 / scale: corner c of triangle i goes to c * n + i.
-pub fn corner_keys(area: &[f32], n: usize, scale: f32, hi: &mut [u64], lo: &mut [u64])
-    requires { ⌜ 9 * n ≤ length (now area) ⌝ }
-    requires { ⌜ length (now hi) ≡ 3 * n ⌝ }
-    requires { ⌜ length (now lo) ≡ 3 * n ⌝ }
-    ensures { λ _. ⌜ Below 4294967296 (now (lo .exit)) ⌝ }
-    ensures { λ _. ⌜ ((i : ℕ) → i < n → keyAt (now (hi .exit)) (now (lo .exit)) i ≡ numberOf (keyBy scale (vecAtOf (now (area .entry)) n i))) ⌝ }
-    ensures { λ _. ⌜ ((i : ℕ) → i < n → keyAt (now (hi .exit)) (now (lo .exit)) (n + i) ≡ numberOf (keyBy scale (vecAtOf (now (area .entry)) n (i + 3 * n)))) ⌝ }
-    ensures { λ _. ⌜ ((i : ℕ) → i < n → keyAt (now (hi .exit)) (now (lo .exit)) (2 * n + i) ≡ numberOf (keyBy scale (vecAtOf (now (area .entry)) n (i + 6 * n)))) ⌝ }
+pub fn corner_keys(triangles: &[f32], n: usize, scale: f32, keys: &mut [u64], low_keys: &mut [u64])
+    requires { ⌜ 9 * n ≤ length (now triangles) ⌝ }
+    requires { ⌜ length (now keys) ≡ 3 * n ⌝ }
+    requires { ⌜ length (now «low_keys») ≡ 3 * n ⌝ }
+    ensures { λ _. ⌜ Below 4294967296 (now («low_keys» .exit)) ⌝ }
+    ensures { λ _. ⌜ ((i : ℕ) → i < n → keyAt (now (keys .exit)) (now («low_keys» .exit)) i ≡ numberOf (keyBy scale (vecAtOf (now (triangles .entry)) n i))) ⌝ }
+    ensures { λ _.
+        ⌜ ((i : ℕ) → i < n →
+        keyAt (now (keys .exit)) (now («low_keys» .exit)) (n + i) ≡ numberOf (keyBy scale (vecAtOf (now (triangles .entry)) n (i + 3 * n)))) ⌝ }
+    ensures { λ _.
+        ⌜ ((i : ℕ) → i < n →
+        keyAt (now (keys .exit)) (now («low_keys» .exit)) (2 * n + i) ≡ numberOf (keyBy scale (vecAtOf (now (triangles .entry)) n (i + 6 * n)))) ⌝ }
 {
-    point_keys(area, n, 0, 0, scale, hi, lo);
-    point_keys(area, n, 3 * n, n, scale, hi, lo);
-    point_keys(area, n, 6 * n, 2 * n, scale, hi, lo);
+    point_keys(triangles, n, 0, 0, scale, keys, low_keys);
+    point_keys(triangles, n, 3 * n, n, scale, keys, low_keys);
+    point_keys(triangles, n, 6 * n, 2 * n, scale, keys, low_keys);
 }
 
 // The corners of n triangles by number: equal numbers where they lie in one step of 1 / scale.
 pub fn corner_numbers(
-    area: &[f32],
+    triangles: &[f32],
     n: usize,
     scale: f32,
-    hi: &mut [u64],
-    lo: &mut [u64],
+    keys: &mut [u64],
+    low_keys: &mut [u64],
     index: &mut [u32],
     words: &mut [u64],
     scratch: &mut [u64],
-    id: &mut [u32],
+    numbers: &mut [u32],
 )
     requires { ⌜ 3 * n ≤ 4294967296 ⌝ }
-    requires { ⌜ 9 * n ≤ length (now area) ⌝ }
-    requires { ⌜ length (now hi) ≡ 3 * n ⌝ }
-    requires { ⌜ length (now lo) ≡ 3 * n ⌝ }
+    requires { ⌜ 9 * n ≤ length (now triangles) ⌝ }
+    requires { ⌜ length (now keys) ≡ 3 * n ⌝ }
+    requires { ⌜ length (now «low_keys») ≡ 3 * n ⌝ }
     requires { ⌜ length (now index) ≡ 3 * n ⌝ }
     requires { ⌜ 3 * n ≤ length (now words) ⌝ }
     requires { ⌜ 3 * n ≤ length (now scratch) ⌝ }
-    requires { ⌜ 3 * n ≤ length (now id) ⌝ }
-    ensures { λ _. ⌜ Numbered (keyBy scale) (now (area .entry)) n n (now (id .exit)) ⌝ }
+    requires { ⌜ 3 * n ≤ length (now numbers) ⌝ }
+    ensures { λ _. ⌜ Numbered (keyBy scale) (now (triangles .entry)) n n (now (numbers .exit)) ⌝ }
 {
-    corner_keys(area, n, scale, hi, lo);
-    first_indexes(hi, lo, index, words, scratch, id);
+    corner_keys(triangles, n, scale, keys, low_keys);
+    first_indexes(keys, low_keys, index, words, scratch, numbers);
 }
 
-// STEP 1 of the planes: first[i] becomes i exactly where no earlier triangle has the same vertices, and id the numbers of the vertices.
+// STEP 1 of the planes: first[i] becomes i exactly where no earlier triangle has the same vertices, and `numbers` those of the vertices.
 pub fn duplicates(
-    area: &[f32],
+    triangles: &[f32],
     n: usize,
     vhi: &mut [u64],
     vlo: &mut [u64],
     index: &mut [u32],
     words: &mut [u64],
     scratch: &mut [u64],
-    id: &mut [u32],
+    numbers: &mut [u32],
     first: &mut [u32],
 )
     requires { ⌜ 3 * n ≤ 4294967296 ⌝ }
-    requires { ⌜ columnCount * n ≤ length (now area) ⌝ }
+    requires { ⌜ columnCount * n ≤ length (now triangles) ⌝ }
     requires { ⌜ length (now vhi) ≡ 3 * n ⌝ }
     requires { ⌜ length (now vlo) ≡ 3 * n ⌝ }
     requires { ⌜ length (now index) ≡ 3 * n ⌝ }
     requires { ⌜ 3 * n ≤ length (now words) ⌝ }
     requires { ⌜ 3 * n ≤ length (now scratch) ⌝ }
-    requires { ⌜ 3 * n ≤ length (now id) ⌝ }
+    requires { ⌜ 3 * n ≤ length (now numbers) ⌝ }
     requires { ⌜ n ≤ length (now first) ⌝ }
-    ensures { λ _. ⌜ ((i : ℕ) → i < n → eqb (getD (now (first .exit)) i 0) i ≡ isFirst (facesIn (now (area .entry)) n) i) ⌝ }
-    ensures { λ _. ⌜ Numbered vertexKey (now (area .entry)) n n (now (id .exit)) ⌝ }
+    ensures { λ _. ⌜ ((i : ℕ) → i < n → eqb (getD (now (first .exit)) i 0) i ≡ isFirst (facesIn (now (triangles .entry)) n) i) ⌝ }
+    ensures { λ _. ⌜ Numbered vertexKey (now (triangles .entry)) n n (now (numbers .exit)) ⌝ }
 {
-    corner_keys(area, n, 1000.0, vhi, vlo);
-    first_faces(vhi, vlo, n, index, words, scratch, id, first);
+    corner_keys(triangles, n, 1000.0, vhi, vlo);
+    first_faces(vhi, vlo, n, index, words, scratch, numbers, first);
 }

@@ -105,11 +105,11 @@ fn add_height(n: Vec3, s: Heights, t: Triangle) -> Heights
 }
 
 // The mean height of triangles along a normal, weighted by their areas.
-fn mean_offset(area: &[f32], handles: &[u32], n: usize, normal: Vec3, tris: &[u32]) -> f32
-    requires { ⌜ columnCount * n ≤ length (now area) ⌝ }
+fn mean_offset(triangles: &[f32], handles: &[u32], n: usize, normal: Vec3, tris: &[u32]) -> f32
+    requires { ⌜ columnCount * n ≤ length (now triangles) ⌝ }
     requires { ⌜ n ≤ length (now handles) ⌝ }
     requires { ⌜ Below n (now tris) ⌝ }
-    ensures { λ r. ⌜ r ≡ meanOffsetOf (triangleAtOf (now (area .entry)) (now (handles .entry)) n) normal (now (tris .entry)) ⌝ }
+    ensures { λ r. ⌜ r ≡ meanOffsetOf (triangleAtOf (now (triangles .entry)) (now (handles .entry)) n) normal (now (tris .entry)) ⌝ }
 {
     let mut s = Heights {
         sum: 0.0,
@@ -118,7 +118,7 @@ fn mean_offset(area: &[f32], handles: &[u32], n: usize, normal: Vec3, tris: &[u3
     let mut k = 0;
     while k < tris.len() {
         let i = tris[k] as usize;
-        s = add_height(normal, s, columns::triangle_at(area, handles, n, i));
+        s = add_height(normal, s, columns::triangle_at(triangles, handles, n, i));
         k += 1;
     }
     s.sum / float::max(s.weight, 1e-12)
@@ -134,23 +134,28 @@ fn reach(n: Vec3, d: f32, s: f32, t: Triangle) -> f32
 
 // The largest distance of a vertex of the triangles from a plane.
 fn spread_of(
-    area: &[f32],
+    triangles: &[f32],
     handles: &[u32],
     n: usize,
     normal: Vec3,
     offset: f32,
     tris: &[u32],
 ) -> f32
-    requires { ⌜ columnCount * n ≤ length (now area) ⌝ }
+    requires { ⌜ columnCount * n ≤ length (now triangles) ⌝ }
     requires { ⌜ n ≤ length (now handles) ⌝ }
     requires { ⌜ Below n (now tris) ⌝ }
-    ensures { λ r. ⌜ r ≡ spreadOf (triangleAtOf (now (area .entry)) (now (handles .entry)) n) normal offset (now (tris .entry)) ⌝ }
+    ensures { λ r. ⌜ r ≡ spreadOf (triangleAtOf (now (triangles .entry)) (now (handles .entry)) n) normal offset (now (tris .entry)) ⌝ }
 {
     let mut s = 0.0;
     let mut k = 0;
     while k < tris.len() {
         let i = tris[k] as usize;
-        s = reach(normal, offset, s, columns::triangle_at(area, handles, n, i));
+        s = reach(
+            normal,
+            offset,
+            s,
+            columns::triangle_at(triangles, handles, n, i),
+        );
         k += 1;
     }
     s
@@ -179,15 +184,22 @@ fn alone(p: PatchRow, first: usize, count: usize) -> PlaneRow
 }
 
 // The best fit of several patches, whose sums are s and whose triangles stand from `first` on.
-fn fitted(area: &[f32], handles: &[u32], n: usize, s: Sums, tris: &[u32], first: usize) -> PlaneRow
-    requires { ⌜ columnCount * n ≤ length (now area) ⌝ }
+fn fitted(
+    triangles: &[f32],
+    handles: &[u32],
+    n: usize,
+    s: Sums,
+    tris: &[u32],
+    first: usize,
+) -> PlaneRow
+    requires { ⌜ columnCount * n ≤ length (now triangles) ⌝ }
     requires { ⌜ n ≤ length (now handles) ⌝ }
     requires { ⌜ Below n (now tris) ⌝ }
-    ensures { λ r. ⌜ r ≡ fittedRowOf (triangleAtOf (now (area .entry)) (now (handles .entry)) n) s (now (tris .entry)) first ⌝ }
+    ensures { λ r. ⌜ r ≡ fittedRowOf (triangleAtOf (now (triangles .entry)) (now (handles .entry)) n) s (now (tris .entry)) first ⌝ }
 {
     let normal = patches::canonical(vector::normalize3(s.sum));
-    let offset = mean_offset(area, handles, n, normal, tris);
-    let spread = spread_of(area, handles, n, normal, offset, tris);
+    let offset = mean_offset(triangles, handles, n, normal, tris);
+    let spread = spread_of(triangles, handles, n, normal, offset, tris);
     let aabb = s.aabb;
     PlaneRow {
         normal,
@@ -205,7 +217,7 @@ fn fitted(area: &[f32], handles: &[u32], n: usize, s: Sums, tris: &[u32], first:
 
 // The row of the plane of a group of patches below np.
 fn plane_row(
-    area: &[f32],
+    triangles: &[f32],
     handles: &[u32],
     n: usize,
     rows: &[f32],
@@ -214,13 +226,14 @@ fn plane_row(
     tris: &[u32],
     first: usize,
 ) -> PlaneRow
-    requires { ⌜ columnCount * n ≤ length (now area) ⌝ }
+    requires { ⌜ columnCount * n ≤ length (now triangles) ⌝ }
     requires { ⌜ n ≤ length (now handles) ⌝ }
     requires { ⌜ patchFloats * np ≤ length (now rows) ⌝ }
     requires { ⌜ Below np (now group) ⌝ }
     requires { ⌜ 0 < length (now group) ⌝ }
     requires { ⌜ Below n (now tris) ⌝ }
-    ensures { λ r. ⌜ r ≡ planeRowOf (triangleAtOf (now (area .entry)) (now (handles .entry)) n) (now (rows .entry)) (now (group .entry)) (now (tris .entry)) first ⌝ }
+    ensures { λ r.
+        ⌜ r ≡ planeRowOf (triangleAtOf (now (triangles .entry)) (now (handles .entry)) n) (now (rows .entry)) (now (group .entry)) (now (tris .entry)) first ⌝ }
 {
     let p = group[0] as usize;
     let seed = patches::row_at(rows, p);
@@ -228,7 +241,7 @@ fn plane_row(
         return alone(seed, first, tris.len());
     }
     let s = sums_of(rows, np, group, seed);
-    fitted(area, handles, n, s, tris, first)
+    fitted(triangles, handles, n, s, tris, first)
 }
 
 // ---- the plane of each triangle
@@ -247,18 +260,18 @@ fn name_group(group: &[u32], number: u32, group_of: &mut [u32])
 }
 
 // Each patch gets the number of its group plus one; 0 stays where it has none.
-fn name_groups(queue: &[u32], starts: &[u32], np: usize, ng: usize, group_of: &mut [u32])
-    requires { ⌜ Grouped (now queue) (now starts) np ng ⌝ }
+fn name_groups(queue: &[u32], offsets: &[u32], np: usize, ng: usize, group_of: &mut [u32])
+    requires { ⌜ Grouped (now queue) (now offsets) np ng ⌝ }
     requires { ⌜ np ≤ length (now «group_of») ⌝ }
     requires { ⌜ ng ≤ mostTriangles ⌝ }
-    ensures { λ _. ⌜ ((p g : ℕ) → g < ng → eqb (getD (now («group_of» .exit)) p 0) (suc g) ≡ has p (groupIn (now (queue .entry)) (now (starts .entry)) g)) ⌝ }
+    ensures { λ _. ⌜ ((p g : ℕ) → g < ng → eqb (getD (now («group_of» .exit)) p 0) (suc g) ≡ has p (groupIn (now (queue .entry)) (now (offsets .entry)) g)) ⌝ }
     ensures { λ _. ⌜ ((p : ℕ) → getD (now («group_of» .exit)) p 0 ≤ ng) ⌝ }
 {
     columns::clear_u32(group_of);
     let mut g = 0;
     while g < ng {
-        let from = starts[g] as usize;
-        let to = starts[g + 1] as usize;
+        let from = offsets[g] as usize;
+        let to = offsets[g + 1] as usize;
         g += 1;
         name_group(&queue[from..to], g as u32, group_of);
     }
@@ -372,60 +385,65 @@ fn words_of(r: PlaneRow) -> [u32; 5]
 }
 
 // Stores the row of plane g.
-pub fn put_plane(floats: &mut [f32], words: &mut [u32], g: usize, r: PlaneRow)
-    requires { ⌜ planeFloats * g + planeFloats ≤ length (now floats) ⌝ }
-    requires { ⌜ planeWords * g + planeWords ≤ length (now words) ⌝ }
+pub fn put_plane(plane_floats: &mut [f32], plane_words: &mut [u32], g: usize, r: PlaneRow)
+    requires { ⌜ planeFloats * g + planeFloats ≤ length (now «plane_floats») ⌝ }
+    requires { ⌜ planeWords * g + planeWords ≤ length (now «plane_words») ⌝ }
     requires { ⌜ Small r ⌝ }
-    ensures { λ _. ⌜ rowOf (now (floats .exit)) (now (words .exit)) g ≡ r ⌝ }
-    ensures { λ _. ⌜ ((h : ℕ) → (h ≡ g → ⊥) → rowOf (now (floats .exit)) (now (words .exit)) h ≡ rowOf (now (floats .entry)) (now (words .entry)) h) ⌝ }
+    ensures { λ _. ⌜ rowOf (now («plane_floats» .exit)) (now («plane_words» .exit)) g ≡ r ⌝ }
+    ensures { λ _.
+        ⌜ ((h : ℕ) → (h ≡ g → ⊥) →
+        rowOf (now («plane_floats» .exit)) (now («plane_words» .exit)) h ≡ rowOf (now («plane_floats» .entry)) (now («plane_words» .entry)) h) ⌝ }
 {
     let reals = floats_of(r);
     let counts = words_of(r);
-    copy_f32(&reals, floats, 12 * g);
-    copy_u32(&counts, words, 5 * g);
+    copy_f32(&reals, plane_floats, 12 * g);
+    copy_u32(&counts, plane_words, 5 * g);
 }
 
 // ---- all planes
 
-// Stores the row of each group's plane. The triangles of plane g stand in `members` from mstarts[g] to mstarts[g + 1].
+// Stores the row of each group's plane. The triangles of plane g stand in `plane_triangles` from mstarts[g] to mstarts[g + 1].
 fn put_planes(
-    area: &[f32],
+    triangles: &[f32],
     handles: &[u32],
     n: usize,
     rows: &[f32],
     np: usize,
     queue: &[u32],
-    starts: &[u32],
+    offsets: &[u32],
     ng: usize,
-    members: &[u32],
+    plane_triangles: &[u32],
     mstarts: &[u32],
-    floats: &mut [f32],
-    words: &mut [u32],
+    group_floats: &mut [f32],
+    group_words: &mut [u32],
 )
-    requires { ⌜ (columnCount * n ≤ length (now area)) × (n ≤ length (now handles)) × (patchFloats * np ≤ length (now rows)) ⌝ }
-    requires { ⌜ Grouped (now queue) (now starts) np ng ⌝ }
-    requires { ⌜ Runs n ng (now members) (now mstarts) ⌝ }
-    requires { ⌜ (planeFloats * ng ≤ length (now floats)) × (planeWords * ng ≤ length (now words)) ⌝ }
-    ensures { λ _. ⌜ ((g : ℕ) → g < ng → rowOf (now (floats .exit)) (now (words .exit)) g ≡ planeRowIn (triangleAtOf (now (area .entry)) (now (handles .entry)) n) (now (rows .entry)) (now (queue .entry)) (now (starts .entry)) (now (members .entry)) (now (mstarts .entry)) g) ⌝ }
+    requires { ⌜ (columnCount * n ≤ length (now triangles)) × (n ≤ length (now handles)) × (patchFloats * np ≤ length (now rows)) ⌝ }
+    requires { ⌜ Grouped (now queue) (now offsets) np ng ⌝ }
+    requires { ⌜ Runs n ng (now «plane_triangles») (now mstarts) ⌝ }
+    requires { ⌜ (planeFloats * ng ≤ length (now «group_floats»)) × (planeWords * ng ≤ length (now «group_words»)) ⌝ }
+    ensures { λ _.
+        ⌜ ((g : ℕ) → g < ng → rowOf (now («group_floats» .exit)) (now («group_words» .exit)) g ≡
+        planeRowIn (triangleAtOf (now (triangles .entry)) (now (handles .entry)) n) (now (rows .entry)) (now (queue .entry)) (now (offsets .entry))
+        (now («plane_triangles» .entry)) (now (mstarts .entry)) g) ⌝ }
 {
     let mut g = 0;
     while g < ng {
-        let from = starts[g] as usize;
-        let to = starts[g + 1] as usize;
+        let from = offsets[g] as usize;
+        let to = offsets[g + 1] as usize;
         let first = mstarts[g] as usize;
         let end = mstarts[g + 1] as usize;
         let group = &queue[from..to];
-        let tris = &members[first..end];
-        let r = plane_row(area, handles, n, rows, np, group, tris, first);
-        put_plane(floats, words, g, r);
+        let tris = &plane_triangles[first..end];
+        let r = plane_row(triangles, handles, n, rows, np, group, tris, first);
+        put_plane(group_floats, group_words, g, r);
         g += 1;
     }
 }
 
 // A plane for each of ng groups of np patches, in order; m triangles stand in the columns. Triangle t gets its plane's number in `plane_of`,
-// and the triangles of plane g stand, rising, in `members` from mstarts[g] to mstarts[g + 1].
+// and the triangles of plane g stand, rising, in `plane_triangles` from mstarts[g] to mstarts[g + 1].
 pub fn group_planes(
-    area: &[f32],
+    triangles: &[f32],
     handles: &[u32],
     n: usize,
     m: usize,
@@ -433,53 +451,58 @@ pub fn group_planes(
     of: &[u32],
     np: usize,
     queue: &[u32],
-    starts: &[u32],
+    offsets: &[u32],
     ng: usize,
     group_of: &mut [u32],
-    sort_words: &mut [u64],
+    words: &mut [u64],
     scratch: &mut [u64],
     plane_of: &mut [u32],
-    members: &mut [u32],
+    plane_triangles: &mut [u32],
     mstarts: &mut [u32],
-    floats: &mut [f32],
-    words: &mut [u32],
+    group_floats: &mut [f32],
+    group_words: &mut [u32],
 )
-    requires { ⌜ (columnCount * n ≤ length (now area)) × (n ≤ length (now handles)) × (patchFloats * np ≤ length (now rows)) ⌝ }
+    requires { ⌜ (columnCount * n ≤ length (now triangles)) × (n ≤ length (now handles)) × (patchFloats * np ≤ length (now rows)) ⌝ }
     requires { ⌜ (m ≤ n) × (m ≤ mostTriangles) × (m ≤ length (now of)) ⌝ }
-    requires { ⌜ Grouped (now queue) (now starts) np ng × (ng ≤ mostTriangles) ⌝ }
+    requires { ⌜ Grouped (now queue) (now offsets) np ng × (ng ≤ mostTriangles) ⌝ }
     requires { ⌜ (np ≤ length (now «group_of»)) × (m ≤ length (now «plane_of»)) ⌝ }
-    requires { ⌜ (m ≤ length (now «sort_words»)) × (m ≤ length (now scratch)) ⌝ }
-    requires { ⌜ (m ≤ length (now members)) × (ng < length (now mstarts)) ⌝ }
-    requires { ⌜ (planeFloats * ng ≤ length (now floats)) × (planeWords * ng ≤ length (now words)) ⌝ }
-    ensures { λ _. ⌜ planesIn (now (floats .exit)) (now (words .exit)) (now (members .exit)) [] ng ≡ map (planeOf (trianglesIn (now (area .entry)) (now (handles .entry)) n m) (patchesIn (now (rows .entry)) (now (of .entry)) m np)) (groupsIn (now (queue .entry)) (now (starts .entry)) ng) ⌝ }
-    ensures { λ _. ⌜ PlanesHeld (now (floats .exit)) (now (words .exit)) (now (members .exit)) [] m ng ⌝ }
-    ensures { λ _. ⌜ ((g : ℕ) → g < ng → trisOf (rowOf (now (floats .exit)) (now (words .exit)) g) (now (members .exit)) ≡ trisIn (now («plane_of» .exit)) m g) ⌝ }
+    requires { ⌜ (m ≤ length (now words)) × (m ≤ length (now scratch)) ⌝ }
+    requires { ⌜ (m ≤ length (now «plane_triangles»)) × (ng < length (now mstarts)) ⌝ }
+    requires { ⌜ (planeFloats * ng ≤ length (now «group_floats»)) × (planeWords * ng ≤ length (now «group_words»)) ⌝ }
+    ensures { λ _.
+        ⌜ planesIn (now («group_floats» .exit)) (now («group_words» .exit)) (now («plane_triangles» .exit)) [] ng ≡
+        map (planeOf (trianglesIn (now (triangles .entry)) (now (handles .entry)) n m) (patchesIn (now (rows .entry)) (now (of .entry)) m np))
+        (groupsIn (now (queue .entry)) (now (offsets .entry)) ng) ⌝ }
+    ensures { λ _. ⌜ PlanesHeld (now («group_floats» .exit)) (now («group_words» .exit)) (now («plane_triangles» .exit)) [] m ng ⌝ }
+    ensures { λ _.
+        ⌜ ((g : ℕ) → g < ng →
+        trisOf (rowOf (now («group_floats» .exit)) (now («group_words» .exit)) g) (now («plane_triangles» .exit)) ≡ trisIn (now («plane_of» .exit)) m g) ⌝ }
     ensures { λ _. ⌜ Numbered (now («plane_of» .exit)) m ng ⌝ }
 {
-    name_groups(queue, starts, np, ng, group_of);
+    name_groups(queue, offsets, np, ng, group_of);
     name_planes(of, m, group_of, plane_of);
     links::patch_rows(
         plane_of,
         m,
         ng as u32,
-        sort_words,
+        words,
         scratch,
-        members,
+        plane_triangles,
         mstarts,
     );
-    unpack(members);
+    unpack(plane_triangles);
     put_planes(
-        area,
+        triangles,
         handles,
         n,
         rows,
         np,
         queue,
-        starts,
+        offsets,
         ng,
-        members,
+        plane_triangles,
         mstarts,
-        floats,
-        words,
+        group_floats,
+        group_words,
     );
 }

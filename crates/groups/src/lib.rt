@@ -114,20 +114,20 @@ fn seeds(
 }
 
 // `order.iter().map(|&p| vec![p])`: each patch alone.
-fn each_alone(order: &[u32], np: usize, queue: &mut [u32], starts: &mut [u32])
+fn each_alone(order: &[u32], np: usize, queue: &mut [u32], offsets: &mut [u32])
     requires { ⌜ np ≤ mostTriangles ⌝ }
     requires { ⌜ (np ≤ length (now order)) × Below np (take np (now order)) ⌝ }
     requires { ⌜ np ≤ length (now queue) ⌝ }
-    requires { ⌜ np < length (now starts) ⌝ }
-    ensures { λ _. ⌜ Grouped np np (now (queue .exit)) (now (starts .exit)) ⌝ }
-    ensures { λ _. ⌜ groupsIn (now (queue .exit)) (now (starts .exit)) np ≡ map (λ p. p ∷ []) (take np (now (order .entry))) ⌝ }
+    requires { ⌜ np < length (now offsets) ⌝ }
+    ensures { λ _. ⌜ Grouped np np (now (queue .exit)) (now (offsets .exit)) ⌝ }
+    ensures { λ _. ⌜ groupsIn (now (queue .exit)) (now (offsets .exit)) np ≡ map (λ p. p ∷ []) (take np (now (order .entry))) ⌝ }
 {
-    starts[0] = 0;
+    offsets[0] = 0;
     let mut i = 0;
     while i < np {
         queue[i] = order[i];
         i += 1;
-        starts[i] = i as u32;
+        offsets[i] = i as u32;
     }
 }
 
@@ -189,7 +189,7 @@ fn is_triangle_near(t: Triangle, normal: Vec3, offset: f32, most: f32) -> bool
 
 // `within`: whether all triangles of a row are near a plane.
 fn is_within(
-    area: &[f32],
+    triangles: &[f32],
     handles: &[u32],
     n: usize,
     tris: &[u32],
@@ -197,15 +197,17 @@ fn is_within(
     offset: f32,
     most: f32,
 ) -> bool
-    requires { ⌜ (columnCount * n ≤ length (now area)) × (n ≤ length (now handles)) ⌝ }
+    requires { ⌜ (columnCount * n ≤ length (now triangles)) × (n ≤ length (now handles)) ⌝ }
     requires { ⌜ Below n (lows (now tris)) ⌝ }
-    ensures { λ r. ⌜ r ≡ allBy (λ i. allBy (isNear normal offset most) (cornersOf (triangleAtOf (now (area .entry)) (now (handles .entry)) n i))) (lows (now (tris .entry))) ⌝ }
+    ensures { λ r.
+        ⌜ r ≡ allBy (λ i. allBy (isNear normal offset most) (cornersOf (triangleAtOf (now (triangles .entry)) (now (handles .entry)) n i)))
+        (lows (now (tris .entry))) ⌝ }
 {
     let count = tris.len();
     let mut i = 0;
     while i < count {
         let at = (tris[i] % MOST_TRIANGLES) as usize;
-        let t = columns::triangle_at(area, handles, n, at);
+        let t = columns::triangle_at(triangles, handles, n, at);
         if is_triangle_near(t, normal, offset, most) {
             i += 1;
             continue;
@@ -217,7 +219,7 @@ fn is_within(
 
 // Whether the group of seed a takes patch b.
 fn takes(
-    area: &[f32],
+    triangles: &[f32],
     handles: &[u32],
     n: usize,
     rows: &[f32],
@@ -229,11 +231,11 @@ fn takes(
     a: usize,
     b: usize,
 ) -> bool
-    requires { ⌜ (columnCount * n ≤ length (now area)) × (n ≤ length (now handles)) ⌝ }
+    requires { ⌜ (columnCount * n ≤ length (now triangles)) × (n ≤ length (now handles)) ⌝ }
     requires { ⌜ patchFloats * np ≤ length (now rows) ⌝ }
     requires { ⌜ Table np n (now tsorted) (now tstarts) ⌝ }
     requires { ⌜ (a < np) × (b < np) ⌝ }
-    ensures { λ r. ⌜ r ≡ takesIn (now (area .entry)) (now (handles .entry)) n (now (rows .entry)) (now (tsorted .entry)) (now (tstarts .entry)) least most a b ⌝ }
+    ensures { λ r. ⌜ r ≡ takesIn (now (triangles .entry)) (now (handles .entry)) n (now (rows .entry)) (now (tsorted .entry)) (now (tstarts .entry)) least most a b ⌝ }
 {
     let normal = normal_of(rows, a);
     let other = normal_of(rows, b);
@@ -241,7 +243,15 @@ fn takes(
         let offset = rows[PATCH_FLOATS * a + 3];
         let from = tstarts[b] as usize;
         let to = tstarts[b + 1] as usize;
-        return is_within(area, handles, n, &tsorted[from..to], normal, offset, most);
+        return is_within(
+            triangles,
+            handles,
+            n,
+            &tsorted[from..to],
+            normal,
+            offset,
+            most,
+        );
     }
     false
 }
@@ -250,7 +260,7 @@ fn takes(
 
 // Lets in those of a row that are free and that the seed's group takes: they are marked and follow in the queue.
 fn let_in(
-    area: &[f32],
+    triangles: &[f32],
     handles: &[u32],
     n: usize,
     rows: &[f32],
@@ -266,7 +276,7 @@ fn let_in(
     queue: &mut [u32],
     from: usize,
 ) -> usize
-    requires { ⌜ (columnCount * n ≤ length (now area)) × (n ≤ length (now handles)) ⌝ }
+    requires { ⌜ (columnCount * n ≤ length (now triangles)) × (n ≤ length (now handles)) ⌝ }
     requires { ⌜ patchFloats * np ≤ length (now rows) ⌝ }
     requires { ⌜ Table np n (now tsorted) (now tstarts) ⌝ }
     requires { ⌜ (seed < np) × (0 < mark) ⌝ }
@@ -274,7 +284,10 @@ fn let_in(
     requires { ⌜ Queue np (now assigned) (now queue) from ⌝ }
     ensures { λ r. ⌜ from ≤ r ⌝ }
     ensures { λ r. ⌜ Queue np (now (assigned .exit)) (now (queue .exit)) r ⌝ }
-    ensures { λ r. ⌜ ((adj : ℕ → Bool) → lows (now (row .entry)) ≡ filterBy adj (upTo np) → LetIn np (takesIn (now (area .entry)) (now (handles .entry)) n (now (rows .entry)) (now (tsorted .entry)) (now (tstarts .entry)) least most seed) adj (now (assigned .entry)) (now (queue .entry)) from (now (assigned .exit)) (now (queue .exit)) r) ⌝ }
+    ensures { λ r.
+        ⌜ ((adj : ℕ → Bool) → lows (now (row .entry)) ≡ filterBy adj (upTo np) →
+        LetIn np (takesIn (now (triangles .entry)) (now (handles .entry)) n (now (rows .entry)) (now (tsorted .entry)) (now (tstarts .entry)) least most seed)
+        adj (now (assigned .entry)) (now (queue .entry)) from (now (assigned .exit)) (now (queue .exit)) r) ⌝ }
 {
     let count = row.len();
     let mut tail = from;
@@ -287,7 +300,7 @@ fn let_in(
             continue;
         }
         if takes(
-            area,
+            triangles,
             handles,
             n,
             rows,
@@ -309,7 +322,7 @@ fn let_in(
 
 // Grows a group breadth first: each patch of the queue, from `from` on, lets in those that it is adjacent to.
 fn grow(
-    area: &[f32],
+    triangles: &[f32],
     handles: &[u32],
     n: usize,
     rows: &[f32],
@@ -327,7 +340,7 @@ fn grow(
     from: usize,
     to: usize,
 ) -> usize
-    requires { ⌜ (columnCount * n ≤ length (now area)) × (n ≤ length (now handles)) ⌝ }
+    requires { ⌜ (columnCount * n ≤ length (now triangles)) × (n ≤ length (now handles)) ⌝ }
     requires { ⌜ patchFloats * np ≤ length (now rows) ⌝ }
     requires { ⌜ Table np n (now tsorted) (now tstarts) ⌝ }
     requires { ⌜ (seed < np) × (0 < mark) ⌝ }
@@ -336,7 +349,11 @@ fn grow(
     requires { ⌜ Queue np (now assigned) (now queue) to ⌝ }
     ensures { λ r. ⌜ to ≤ r ⌝ }
     ensures { λ r. ⌜ Queue np (now (assigned .exit)) (now (queue .exit)) r ⌝ }
-    ensures { λ r. ⌜ ((adj : ℕ → ℕ → Bool) → RowsOf np (now (asorted .entry)) (now (astarts .entry)) adj → Grown np adj (takesIn (now (area .entry)) (now (handles .entry)) n (now (rows .entry)) (now (tsorted .entry)) (now (tstarts .entry)) least most seed) (take from (now (queue .entry))) (partOf (now (queue .entry)) from to) (freeOf np (now (assigned .entry))) (now (assigned .exit)) (now (queue .exit)) r) ⌝ }
+    ensures { λ r.
+        ⌜ ((adj : ℕ → ℕ → Bool) → RowsOf np (now (asorted .entry)) (now (astarts .entry)) adj → Grown np adj
+        (takesIn (now (triangles .entry)) (now (handles .entry)) n (now (rows .entry)) (now (tsorted .entry)) (now (tstarts .entry)) least most seed)
+        (take from (now (queue .entry))) (partOf (now (queue .entry)) from to) (freeOf np (now (assigned .entry))) (now (assigned .exit)) (now (queue .exit))
+        r) ⌝ }
 {
     let mut head = from;
     let mut tail = to;
@@ -346,7 +363,7 @@ fn grow(
         let a = astarts[p] as usize;
         let b = astarts[p + 1] as usize;
         tail = let_in(
-            area,
+            triangles,
             handles,
             n,
             rows,
@@ -368,7 +385,7 @@ fn grow(
 
 // The group of a seed that is free, after the first `from` of the queue.
 fn start_group(
-    area: &[f32],
+    triangles: &[f32],
     handles: &[u32],
     n: usize,
     rows: &[f32],
@@ -385,7 +402,7 @@ fn start_group(
     queue: &mut [u32],
     from: usize,
 ) -> usize
-    requires { ⌜ (columnCount * n ≤ length (now area)) × (n ≤ length (now handles)) ⌝ }
+    requires { ⌜ (columnCount * n ≤ length (now triangles)) × (n ≤ length (now handles)) ⌝ }
     requires { ⌜ patchFloats * np ≤ length (now rows) ⌝ }
     requires { ⌜ Table np n (now tsorted) (now tstarts) ⌝ }
     requires { ⌜ (seed < np) × (0 < mark) ⌝ }
@@ -394,13 +411,17 @@ fn start_group(
     requires { ⌜ isFree (now assigned) seed ≡ true ⌝ }
     ensures { λ r. ⌜ from ≤ r ⌝ }
     ensures { λ r. ⌜ Queue np (now (assigned .exit)) (now (queue .exit)) r ⌝ }
-    ensures { λ r. ⌜ ((adj : ℕ → ℕ → Bool) → RowsOf np (now (asorted .entry)) (now (astarts .entry)) adj → Grown np adj (takesIn (now (area .entry)) (now (handles .entry)) n (now (rows .entry)) (now (tsorted .entry)) (now (tstarts .entry)) least most seed) (take from (now (queue .entry))) (seed ∷ []) (filterBy (λ q. not (eqb seed q)) (freeOf np (now (assigned .entry)))) (now (assigned .exit)) (now (queue .exit)) r) ⌝ }
+    ensures { λ r.
+        ⌜ ((adj : ℕ → ℕ → Bool) → RowsOf np (now (asorted .entry)) (now (astarts .entry)) adj → Grown np adj
+        (takesIn (now (triangles .entry)) (now (handles .entry)) n (now (rows .entry)) (now (tsorted .entry)) (now (tstarts .entry)) least most seed)
+        (take from (now (queue .entry))) (seed ∷ []) (filterBy (λ q. not (eqb seed q)) (freeOf np (now (assigned .entry)))) (now (assigned .exit))
+        (now (queue .exit)) r) ⌝ }
 {
     let at = seed as usize;
     assigned[at] = mark;
     queue[from] = seed;
     grow(
-        area,
+        triangles,
         handles,
         n,
         rows,
@@ -422,7 +443,7 @@ fn start_group(
 
 // `groups`: one group after another; a seed that is still free starts one.
 fn grow_groups(
-    area: &[f32],
+    triangles: &[f32],
     handles: &[u32],
     n: usize,
     rows: &[f32],
@@ -436,21 +457,25 @@ fn grow_groups(
     order: &[u32],
     assigned: &mut [u32],
     queue: &mut [u32],
-    starts: &mut [u32],
+    offsets: &mut [u32],
 ) -> usize
-    requires { ⌜ (columnCount * n ≤ length (now area)) × (n ≤ length (now handles)) ⌝ }
+    requires { ⌜ (columnCount * n ≤ length (now triangles)) × (n ≤ length (now handles)) ⌝ }
     requires { ⌜ patchFloats * np ≤ length (now rows) ⌝ }
     requires { ⌜ Table np n (now tsorted) (now tstarts) ⌝ }
     requires { ⌜ np ≤ mostTriangles ⌝ }
     requires { ⌜ Table np np (now asorted) (now astarts) ⌝ }
     requires { ⌜ (np ≤ length (now order)) × Below np (take np (now order)) ⌝ }
     requires { ⌜ Queue np (now assigned) (now queue) 0 ⌝ }
-    requires { ⌜ np < length (now starts) ⌝ }
+    requires { ⌜ np < length (now offsets) ⌝ }
     ensures { λ r. ⌜ r ≤ np ⌝ }
-    ensures { λ r. ⌜ Grouped np r (now (queue .exit)) (now (starts .exit)) ⌝ }
-    ensures { λ r. ⌜ ((adj : ℕ → ℕ → Bool) → RowsOf np (now (asorted .entry)) (now (astarts .entry)) adj → groupsIn (now (queue .exit)) (now (starts .exit)) r ≡ groupsFrom np adj (takesIn (now (area .entry)) (now (handles .entry)) n (now (rows .entry)) (now (tsorted .entry)) (now (tstarts .entry)) least most) (take np (now (order .entry))) (freeOf np (now (assigned .entry)))) ⌝ }
+    ensures { λ r. ⌜ Grouped np r (now (queue .exit)) (now (offsets .exit)) ⌝ }
+    ensures { λ r.
+        ⌜ ((adj : ℕ → ℕ → Bool) → RowsOf np (now (asorted .entry)) (now (astarts .entry)) adj →
+        groupsIn (now (queue .exit)) (now (offsets .exit)) r ≡ groupsFrom np adj
+        (takesIn (now (triangles .entry)) (now (handles .entry)) n (now (rows .entry)) (now (tsorted .entry)) (now (tstarts .entry)) least most)
+        (take np (now (order .entry))) (freeOf np (now (assigned .entry)))) ⌝ }
 {
-    starts[0] = 0;
+    offsets[0] = 0;
     let mut ng = 0;
     let mut tail = 0;
     let mut i = 0;
@@ -461,7 +486,7 @@ fn grow_groups(
             continue;
         }
         tail = start_group(
-            area,
+            triangles,
             handles,
             n,
             rows,
@@ -479,22 +504,22 @@ fn grow_groups(
             tail,
         );
         ng += 1;
-        starts[ng] = tail as u32;
+        offsets[ng] = tail as u32;
     }
     ng
 }
 
 // The groups where patches are merged: adjacency, and the growth from each seed in order. The patches of each vertex are dead once the
-// rows of adjacency are made, and the growth writes queue and starts only then: so they stand there, and no area is lent for them.
+// rows of adjacency are made, and the growth writes queue and offsets only then: so they stand there, and no area is lent for them.
 fn merge(
-    area: &[f32],
+    triangles: &[f32],
     handles: &[u32],
     n: usize,
     m: usize,
     rows: &[f32],
     of: &[u32],
     np: usize,
-    id: &[u32],
+    numbers: &[u32],
     vertices: usize,
     least: f32,
     most: f32,
@@ -507,24 +532,28 @@ fn merge(
     astarts: &mut [u32],
     assigned: &mut [u32],
     queue: &mut [u32],
-    starts: &mut [u32],
+    offsets: &mut [u32],
 ) -> usize
-    requires { ⌜ (columnCount * n ≤ length (now area)) × (n ≤ length (now handles)) ⌝ }
+    requires { ⌜ (columnCount * n ≤ length (now triangles)) × (n ≤ length (now handles)) ⌝ }
     requires { ⌜ patchFloats * np ≤ length (now rows) ⌝ }
     requires { ⌜ Table np n (now tsorted) (now tstarts) ⌝ }
     requires { ⌜ (m ≤ mostTriangles) × (m ≤ n) × (np ≤ mostTriangles) × (m ≤ length (now of)) ⌝ }
-    requires { ⌜ (3 * n ≤ length (now id)) × Numbers (now id) n m vertices × (vertices ≤ mostRows) ⌝ }
+    requires { ⌜ (3 * n ≤ length (now numbers)) × Numbers (now numbers) n m vertices × (vertices ≤ mostRows) ⌝ }
     requires { ⌜ (np ≤ length (now order)) × Below np (take np (now order)) ⌝ }
     requires { ⌜ (24 * m ≤ length (now words)) × (24 * m ≤ length (now scratch)) ⌝ }
     requires { ⌜ (24 * m ≤ length (now asorted)) × (np < length (now astarts)) ⌝ }
-    requires { ⌜ (np ≤ length (now assigned)) × (np ≤ length (now queue)) × (np < length (now starts)) ⌝ }
-    requires { ⌜ (3 * m ≤ length (now queue)) × (vertices < length (now starts)) ⌝ }
+    requires { ⌜ (np ≤ length (now assigned)) × (np ≤ length (now queue)) × (np < length (now offsets)) ⌝ }
+    requires { ⌜ (3 * m ≤ length (now queue)) × (vertices < length (now offsets)) ⌝ }
     ensures { λ r. ⌜ r ≤ np ⌝ }
-    ensures { λ r. ⌜ Grouped np r (now (queue .exit)) (now (starts .exit)) ⌝ }
-    ensures { λ r. ⌜ ((adj : ℕ → ℕ → Bool) → ((p q : ℕ) → p < np → q < np → isJoined (now (id .entry)) n vertices (now (of .entry)) m np p q ≡ adj p q) → groupsIn (now (queue .exit)) (now (starts .exit)) r ≡ groupsFrom np adj (takesIn (now (area .entry)) (now (handles .entry)) n (now (rows .entry)) (now (tsorted .entry)) (now (tstarts .entry)) least most) (take np (now (order .entry))) (upTo np)) ⌝ }
+    ensures { λ r. ⌜ Grouped np r (now (queue .exit)) (now (offsets .exit)) ⌝ }
+    ensures { λ r.
+        ⌜ ((adj : ℕ → ℕ → Bool) → ((p q : ℕ) → p < np → q < np → isJoined (now (numbers .entry)) n vertices (now (of .entry)) m np p q ≡ adj p q) →
+        groupsIn (now (queue .exit)) (now (offsets .exit)) r ≡ groupsFrom np adj
+        (takesIn (now (triangles .entry)) (now (handles .entry)) n (now (rows .entry)) (now (tsorted .entry)) (now (tstarts .entry)) least most)
+        (take np (now (order .entry))) (upTo np)) ⌝ }
 {
     links::adjacency(
-        id,
+        numbers,
         n,
         vertices,
         of,
@@ -533,13 +562,13 @@ fn merge(
         words,
         scratch,
         &mut queue[..3 * m],
-        starts,
+        offsets,
         asorted,
         astarts,
     );
     columns::clear_u32(assigned);
     grow_groups(
-        area,
+        triangles,
         handles,
         n,
         rows,
@@ -553,21 +582,21 @@ fn merge(
         order,
         assigned,
         queue,
-        starts,
+        offsets,
     )
 }
 
-// STEP 4 of the planes: group g of the patches becomes the queue from starts[g] to starts[g + 1], and the number of groups is given.
-// `on` is whether the angle of merging is above 0, least its cosine, most the offset. id has the number of each corner, below vertices.
+// STEP 4 of the planes: group g of the patches becomes the queue from offsets[g] to offsets[g + 1], and the number of groups is given.
+// `on` is whether the angle of merging is above 0, least its cosine, most the offset. `numbers` has the number of each corner, below vertices.
 pub fn merge_patches(
-    area: &[f32],
+    triangles: &[f32],
     handles: &[u32],
     n: usize,
     m: usize,
     rows: &[f32],
     of: &[u32],
     np: usize,
-    id: &[u32],
+    numbers: &[u32],
     vertices: usize,
     on: bool,
     least: f32,
@@ -582,34 +611,36 @@ pub fn merge_patches(
     order: &mut [u32],
     assigned: &mut [u32],
     queue: &mut [u32],
-    starts: &mut [u32],
+    offsets: &mut [u32],
 ) -> usize
-    requires { ⌜ (columnCount * n ≤ length (now area)) × (n ≤ length (now handles)) ⌝ }
+    requires { ⌜ (columnCount * n ≤ length (now triangles)) × (n ≤ length (now handles)) ⌝ }
     requires { ⌜ (m ≤ mostTriangles) × (m ≤ n) × (m ≤ length (now of)) × (np ≤ m) ⌝ }
     requires { ⌜ patchFloats * np ≤ length (now rows) ⌝ }
-    requires { ⌜ (3 * n ≤ length (now id)) × Numbers (now id) n m vertices × (vertices ≤ mostRows) ⌝ }
-    requires { ⌜ Numbered vertexKey (now area) n m (now id) ⌝ }
+    requires { ⌜ (3 * n ≤ length (now numbers)) × Numbers (now numbers) n m vertices × (vertices ≤ mostRows) ⌝ }
+    requires { ⌜ Numbered vertexKey (now triangles) n m (now numbers) ⌝ }
     requires { ⌜ (m ≤ length (now keys)) × (24 * m ≤ length (now words)) × (24 * m ≤ length (now scratch)) ⌝ }
     requires { ⌜ (m ≤ length (now tsorted)) × (m < length (now tstarts)) ⌝ }
     requires { ⌜ (24 * m ≤ length (now asorted)) × (m < length (now astarts)) ⌝ }
     requires { ⌜ (m ≤ length (now order)) × (m ≤ length (now assigned)) ⌝ }
-    requires { ⌜ (3 * m ≤ length (now queue)) × (m < length (now starts)) × (vertices < length (now starts)) ⌝ }
+    requires { ⌜ (3 * m ≤ length (now queue)) × (m < length (now offsets)) × (vertices < length (now offsets)) ⌝ }
     ensures { λ r. ⌜ r ≤ np ⌝ }
-    ensures { λ r. ⌜ Grouped np r (now (queue .exit)) (now (starts .exit)) ⌝ }
-    ensures { λ r. ⌜ ((s : Settings) → s .mergeOn ≡ on → s .mergeCos ≡ least → s .mergeOffset ≡ most → groupsIn (now (queue .exit)) (now (starts .exit)) r ≡ groupsOf s (trianglesIn (now (area .entry)) (now (handles .entry)) n m) (patchesIn (now (rows .entry)) (now (of .entry)) m np)) ⌝ }
+    ensures { λ r. ⌜ Grouped np r (now (queue .exit)) (now (offsets .exit)) ⌝ }
+    ensures { λ r.
+        ⌜ ((s : Settings) → s .mergeOn ≡ on → s .mergeCos ≡ least → s .mergeOffset ≡ most → groupsIn (now (queue .exit)) (now (offsets .exit)) r ≡
+        groupsOf s (trianglesIn (now (triangles .entry)) (now (handles .entry)) n m) (patchesIn (now (rows .entry)) (now (of .entry)) m np)) ⌝ }
 {
     links::patch_rows(of, m, np as u32, words, scratch, tsorted, tstarts);
     seeds(rows, np, tsorted, tstarts, keys, words, scratch, order);
     if is_merging(on, most, np) {
         return merge(
-            area,
+            triangles,
             handles,
             n,
             m,
             rows,
             of,
             np,
-            id,
+            numbers,
             vertices,
             least,
             most,
@@ -622,9 +653,9 @@ pub fn merge_patches(
             astarts,
             assigned,
             queue,
-            starts,
+            offsets,
         );
     }
-    each_alone(order, np, queue, starts);
+    each_alone(order, np, queue, offsets);
     np
 }

@@ -66,16 +66,16 @@ fn no_box() -> Aabb
 }
 
 // The box of the first m triangles.
-fn scene_box(area: &[f32], handles: &[u32], n: usize, m: usize) -> Aabb
-    requires { ⌜ columnCount * n ≤ length (now area) ⌝ }
+fn scene_box(triangles: &[f32], handles: &[u32], n: usize, m: usize) -> Aabb
+    requires { ⌜ columnCount * n ≤ length (now triangles) ⌝ }
     requires { ⌜ n ≤ length (now handles) ⌝ }
     requires { ⌜ m ≤ n ⌝ }
-    ensures { λ r. ⌜ r ≡ sceneBoxOf (trianglesIn (now (area .entry)) (now (handles .entry)) n m) ⌝ }
+    ensures { λ r. ⌜ r ≡ sceneBoxOf (trianglesIn (now (triangles .entry)) (now (handles .entry)) n m) ⌝ }
 {
     let mut b = no_box();
     let mut i = 0;
     while i < m {
-        b = grow_by(b, columns::triangle_at(area, handles, n, i));
+        b = grow_by(b, columns::triangle_at(triangles, handles, n, i));
         i += 1;
     }
     b
@@ -116,11 +116,11 @@ fn add_moment(s: Moments, t: Triangle) -> Moments
 }
 
 // The moments of a plane's triangles.
-fn moments_of(area: &[f32], handles: &[u32], n: usize, tris: &[u32]) -> Moments
-    requires { ⌜ columnCount * n ≤ length (now area) ⌝ }
+fn moments_of(triangles: &[f32], handles: &[u32], n: usize, tris: &[u32]) -> Moments
+    requires { ⌜ columnCount * n ≤ length (now triangles) ⌝ }
     requires { ⌜ n ≤ length (now handles) ⌝ }
     requires { ⌜ Below n (now tris) ⌝ }
-    ensures { λ r. ⌜ r ≡ foldl (λ s i. momentOf s (triangleAtOf (now (area .entry)) (now (handles .entry)) n i)) noMoments (now (tris .entry)) ⌝ }
+    ensures { λ r. ⌜ r ≡ foldl (λ s i. momentOf s (triangleAtOf (now (triangles .entry)) (now (handles .entry)) n i)) noMoments (now (tris .entry)) ⌝ }
 {
     let zero = Vec3 {
         x: 0.0,
@@ -134,7 +134,7 @@ fn moments_of(area: &[f32], handles: &[u32], n: usize, tris: &[u32]) -> Moments
     let mut k = 0;
     while k < tris.len() {
         let i = tris[k] as usize;
-        s = add_moment(s, columns::triangle_at(area, handles, n, i));
+        s = add_moment(s, columns::triangle_at(triangles, handles, n, i));
         k += 1;
     }
     s
@@ -170,7 +170,7 @@ fn first_of(tris: &[u32]) -> u32
 
 // The key of a plane with these triangles: the most important first, and of equal ones that with the lower first triangle.
 fn plane_key(
-    area: &[f32],
+    triangles: &[f32],
     handles: &[u32],
     n: usize,
     centre: Vec3,
@@ -178,50 +178,55 @@ fn plane_key(
     plane_area: f32,
     tris: &[u32],
 ) -> u64
-    requires { ⌜ columnCount * n ≤ length (now area) ⌝ }
+    requires { ⌜ columnCount * n ≤ length (now triangles) ⌝ }
     requires { ⌜ n ≤ length (now handles) ⌝ }
     requires { ⌜ Below n (now tris) ⌝ }
-    ensures { λ r. ⌜ ((b : Aabb) → centre ≡ centreOf b → «half_diag» ≡ halfDiagOf b → r ≡ keyIn (triangleAtOf (now (area .entry)) (now (handles .entry)) n) b «plane_area» (now (tris .entry))) ⌝ }
+    ensures { λ r.
+        ⌜ ((b : Aabb) → centre ≡ centreOf b → «half_diag» ≡ halfDiagOf b →
+        r ≡ keyIn (triangleAtOf (now (triangles .entry)) (now (handles .entry)) n) b «plane_area» (now (tris .entry))) ⌝ }
 {
-    let c = mean(moments_of(area, handles, n, tris));
+    let c = mean(moments_of(triangles, handles, n, tris));
     groups::descending_key(weigh(centre, half_diag, plane_area, c), first_of(tris))
 }
 
 // Stores the key of each plane, and its number.
 fn put_keys(
-    area: &[f32],
+    triangles: &[f32],
     handles: &[u32],
     n: usize,
-    floats: &[f32],
-    words: &[u32],
-    members: &[u32],
+    group_floats: &[f32],
+    group_words: &[u32],
+    plane_triangles: &[u32],
     centre: Vec3,
     half_diag: f32,
     keys: &mut [u64],
     index: &mut [u32],
 )
-    requires { ⌜ columnCount * n ≤ length (now area) ⌝ }
+    requires { ⌜ columnCount * n ≤ length (now triangles) ⌝ }
     requires { ⌜ n ≤ length (now handles) ⌝ }
-    requires { ⌜ PlanesHeld (now floats) (now words) (now members) [] n (length (now index)) ⌝ }
+    requires { ⌜ PlanesHeld (now «group_floats») (now «group_words») (now «plane_triangles») [] n (length (now index)) ⌝ }
     requires { ⌜ length (now keys) ≡ length (now index) ⌝ }
     requires { ⌜ length (now index) < 4294967296 ⌝ }
     ensures { λ _. ⌜ now (index .exit) ≡ upTo (length (now (index .entry))) ⌝ }
-    ensures { λ _. ⌜ ((b : Aabb) → centre ≡ centreOf b → «half_diag» ≡ halfDiagOf b → now (keys .exit) ≡ map (λ g. rowKeyIn (triangleAtOf (now (area .entry)) (now (handles .entry)) n) b (rowOf (now (floats .entry)) (now (words .entry)) g) (now (members .entry))) (upTo (length (now (index .entry))))) ⌝ }
+    ensures { λ _.
+        ⌜ ((b : Aabb) → centre ≡ centreOf b → «half_diag» ≡ halfDiagOf b →
+        now (keys .exit) ≡ map (λ g. rowKeyIn (triangleAtOf (now (triangles .entry)) (now (handles .entry)) n) b
+        (rowOf (now («group_floats» .entry)) (now («group_words» .entry)) g) (now («plane_triangles» .entry))) (upTo (length (now (index .entry))))) ⌝ }
 {
     let count = index.len();
     let mut g = 0;
     while g < count {
-        let row = mirror::plane_at(floats, words, g);
+        let row = mirror::plane_at(group_floats, group_words, g);
         let from = row.first;
         let to = from + row.count;
         keys[g] = plane_key(
-            area,
+            triangles,
             handles,
             n,
             centre,
             half_diag,
             row.area,
-            &members[from..to],
+            &plane_triangles[from..to],
         );
         index[g] = g as u32;
         g += 1;
@@ -230,40 +235,42 @@ fn put_keys(
 
 // `ranked`: the numbers of the planes, the most important first. There are as many as index is long; m triangles stand in the columns.
 pub fn rank_planes(
-    area: &[f32],
+    triangles: &[f32],
     handles: &[u32],
     n: usize,
     m: usize,
-    floats: &[f32],
-    words: &[u32],
-    members: &[u32],
+    group_floats: &[f32],
+    group_words: &[u32],
+    plane_triangles: &[u32],
     keys: &mut [u64],
     index: &mut [u32],
-    sort_words: &mut [u64],
+    words: &mut [u64],
     scratch: &mut [u64],
 )
-    requires { ⌜ columnCount * n ≤ length (now area) ⌝ }
+    requires { ⌜ columnCount * n ≤ length (now triangles) ⌝ }
     requires { ⌜ n ≤ length (now handles) ⌝ }
     requires { ⌜ m ≤ n ⌝ }
-    requires { ⌜ PlanesHeld (now floats) (now words) (now members) [] m (length (now index)) ⌝ }
+    requires { ⌜ PlanesHeld (now «group_floats») (now «group_words») (now «plane_triangles») [] m (length (now index)) ⌝ }
     requires { ⌜ length (now keys) ≡ length (now index) ⌝ }
     requires { ⌜ length (now index) < 4294967296 ⌝ }
-    requires { ⌜ length (now index) ≤ length (now «sort_words») ⌝ }
+    requires { ⌜ length (now index) ≤ length (now words) ⌝ }
     requires { ⌜ length (now index) ≤ length (now scratch) ⌝ }
-    ensures { λ _. ⌜ now (index .exit) ≡ rankingOf (trianglesIn (now (area .entry)) (now (handles .entry)) n m) (planesIn (now (floats .entry)) (now (words .entry)) (now (members .entry)) [] (length (now (index .entry)))) ⌝ }
+    ensures { λ _.
+        ⌜ now (index .exit) ≡ rankingOf (trianglesIn (now (triangles .entry)) (now (handles .entry)) n m)
+        (planesIn (now («group_floats» .entry)) (now («group_words» .entry)) (now («plane_triangles» .entry)) [] (length (now (index .entry)))) ⌝ }
 {
-    let b = scene_box(area, handles, n, m);
+    let b = scene_box(triangles, handles, n, m);
     put_keys(
-        area,
+        triangles,
         handles,
         n,
-        floats,
-        words,
-        members,
+        group_floats,
+        group_words,
+        plane_triangles,
         centre(b),
         half_diag(b),
         keys,
         index,
     );
-    order::sort_by_key(keys, index, sort_words, scratch);
+    order::sort_by_key(keys, index, words, scratch);
 }

@@ -76,12 +76,12 @@ fn is_before(sorted: &[u32], i: usize, bound: usize) -> bool
 }
 
 // Where each row starts, and after the last one where it ends.
-fn row_starts(sorted: &[u32], rows: usize, starts: &mut [u32])
+fn row_starts(sorted: &[u32], rows: usize, offsets: &mut [u32])
     requires { ⌜ rows ≤ mostRows ⌝ }
-    requires { ⌜ rows < length (now starts) ⌝ }
+    requires { ⌜ rows < length (now offsets) ⌝ }
     requires { ⌜ length (now sorted) < 4294967296 ⌝ }
     requires { ⌜ Sorted itself (now sorted) ⌝ }
-    ensures { λ _. ⌜ ((r : ℕ) → r ≤ rows → Cut (now (sorted .entry)) (getD (now (starts .exit)) r 0) (wordOf r 0)) ⌝ }
+    ensures { λ _. ⌜ ((r : ℕ) → r ≤ rows → Cut (now (sorted .entry)) (getD (now (offsets .exit)) r 0) (wordOf r 0)) ⌝ }
 {
     let mut r = 0;
     let mut i = 0;
@@ -90,7 +90,7 @@ fn row_starts(sorted: &[u32], rows: usize, starts: &mut [u32])
             i += 1;
             continue;
         }
-        starts[r] = i as u32;
+        offsets[r] = i as u32;
         r += 1;
     }
 }
@@ -101,18 +101,18 @@ fn sort_rows(
     scratch: &mut [u64],
     rows: usize,
     sorted: &mut [u32],
-    starts: &mut [u32],
+    offsets: &mut [u32],
 )
     requires { ⌜ length (now scratch) ≡ length (now words) ⌝ }
     requires { ⌜ length (now words) ≤ length (now sorted) ⌝ }
     requires { ⌜ length (now words) < 4294967296 ⌝ }
     requires { ⌜ rows ≤ mostRows ⌝ }
-    requires { ⌜ rows < length (now starts) ⌝ }
-    ensures { λ _. ⌜ Rows (map upper (now (words .entry))) rows (now (sorted .exit)) (now (starts .exit)) ⌝ }
+    requires { ⌜ rows < length (now offsets) ⌝ }
+    ensures { λ _. ⌜ Rows (map upper (now (words .entry))) rows (now (sorted .exit)) (now (offsets .exit)) ⌝ }
 {
     order::sort_words(words, scratch);
     let k = compact(words, sorted);
-    row_starts(&sorted[..k], rows, starts);
+    row_starts(&sorted[..k], rows, offsets);
 }
 
 // The rows of a relation from its words, the first k of an area.
@@ -122,17 +122,17 @@ fn make_rows(
     scratch: &mut [u64],
     rows: usize,
     sorted: &mut [u32],
-    starts: &mut [u32],
+    offsets: &mut [u32],
 )
     requires { ⌜ k ≤ length (now words) ⌝ }
     requires { ⌜ k ≤ length (now scratch) ⌝ }
     requires { ⌜ k ≤ length (now sorted) ⌝ }
     requires { ⌜ k < 4294967296 ⌝ }
     requires { ⌜ rows ≤ mostRows ⌝ }
-    requires { ⌜ rows < length (now starts) ⌝ }
-    ensures { λ _. ⌜ Rows (uppers (now (words .entry)) k) rows (now (sorted .exit)) (now (starts .exit)) ⌝ }
+    requires { ⌜ rows < length (now offsets) ⌝ }
+    ensures { λ _. ⌜ Rows (uppers (now (words .entry)) k) rows (now (sorted .exit)) (now (offsets .exit)) ⌝ }
 {
-    sort_rows(&mut words[..k], &mut scratch[..k], rows, sorted, starts);
+    sort_rows(&mut words[..k], &mut scratch[..k], rows, sorted, offsets);
 }
 
 // ---- the triangles of patches
@@ -144,7 +144,8 @@ fn patch_words(of: &[u32], m: usize, np: u32, words: &mut [u64]) -> usize
     requires { ⌜ m ≤ length (now of) ⌝ }
     requires { ⌜ m ≤ length (now words) ⌝ }
     ensures { λ r. ⌜ r ≤ m ⌝ }
-    ensures { λ r. ⌜ ((p t : ℕ) → t < mostTriangles → has (wordOf p t) (uppers (now (words .exit)) r) ≡ anyBy (λ i. eqb t i && isOf (now (of .entry)) np p i) (upTo m)) ⌝ }
+    ensures { λ r.
+        ⌜ ((p t : ℕ) → t < mostTriangles → has (wordOf p t) (uppers (now (words .exit)) r) ≡ anyBy (λ i. eqb t i && isOf (now (of .entry)) np p i) (upTo m)) ⌝ }
 {
     let mut k = 0;
     let mut i = 0;
@@ -187,24 +188,33 @@ pub fn patch_rows(
 // ---- the patches of vertices, and which of them are linked
 
 // `verts`: a word for each corner of a triangle of a patch below np: the corner's number above the patch.
-fn vertex_words(id: &[u32], n: usize, of: &[u32], m: usize, np: u32, words: &mut [u64]) -> usize
+fn vertex_words(
+    numbers: &[u32],
+    n: usize,
+    of: &[u32],
+    m: usize,
+    np: u32,
+    words: &mut [u64],
+) -> usize
     requires { ⌜ np ≤ mostTriangles ⌝ }
     requires { ⌜ m ≤ mostTriangles ⌝ }
     requires { ⌜ m ≤ n ⌝ }
-    requires { ⌜ 3 * n ≤ length (now id) ⌝ }
-    requires { ⌜ Numbers (now id) n m mostRows ⌝ }
+    requires { ⌜ 3 * n ≤ length (now numbers) ⌝ }
+    requires { ⌜ Numbers (now numbers) n m mostRows ⌝ }
     requires { ⌜ m ≤ length (now of) ⌝ }
     requires { ⌜ 3 * m ≤ length (now words) ⌝ }
     ensures { λ r. ⌜ r ≤ 3 * m ⌝ }
-    ensures { λ r. ⌜ ((v q : ℕ) → q < mostTriangles → has (wordOf v q) (uppers (now (words .exit)) r) ≡ anyBy (hasCorner (now (id .entry)) n (now (of .entry)) np v q) (upTo m)) ⌝ }
+    ensures { λ r.
+        ⌜ ((v q : ℕ) → q < mostTriangles →
+        has (wordOf v q) (uppers (now (words .exit)) r) ≡ anyBy (hasCorner (now (numbers .entry)) n (now (of .entry)) np v q) (upTo m)) ⌝ }
 {
     let mut k = 0;
     let mut i = 0;
     while i < m {
         let p = of[i];
-        let a = id[i];
-        let b = id[n + i];
-        let c = id[2 * n + i];
+        let a = numbers[i];
+        let b = numbers[n + i];
+        let c = numbers[2 * n + i];
         i += 1;
         if p >= np {
             continue;
@@ -221,7 +231,9 @@ fn link_from(p: u32, row: &[u32], words: &mut [u64], from: usize) -> usize
     requires { ⌜ p < mostTriangles ⌝ }
     requires { ⌜ from + length (now row) ≤ length (now words) ⌝ }
     ensures { λ r. ⌜ r ≤ from + length (now (row .entry)) ⌝ }
-    ensures { λ r. ⌜ ((a b : ℕ) → b < mostTriangles → has (wordOf a b) (uppers (now (words .exit)) r) ≡ has (wordOf a b) (uppers (now (words .entry)) from) || linksFrom p (lows (now (row .entry))) a b) ⌝ }
+    ensures { λ r.
+        ⌜ ((a b : ℕ) → b < mostTriangles →
+        has (wordOf a b) (uppers (now (words .exit)) r) ≡ has (wordOf a b) (uppers (now (words .entry)) from) || linksFrom p (lows (now (row .entry))) a b) ⌝ }
 {
     let n = row.len();
     let mut k = from;
@@ -242,7 +254,9 @@ fn link_all(row: &[u32], words: &mut [u64], from: usize) -> usize
     requires { ⌜ length (now row) ≤ 8 ⌝ }
     requires { ⌜ from + 8 * length (now row) ≤ length (now words) ⌝ }
     ensures { λ r. ⌜ r ≤ from + 8 * length (now (row .entry)) ⌝ }
-    ensures { λ r. ⌜ ((a b : ℕ) → b < mostTriangles → has (wordOf a b) (uppers (now (words .exit)) r) ≡ has (wordOf a b) (uppers (now (words .entry)) from) || linksAll (lows (now (row .entry))) a b) ⌝ }
+    ensures { λ r.
+        ⌜ ((a b : ℕ) → b < mostTriangles →
+        has (wordOf a b) (uppers (now (words .exit)) r) ≡ has (wordOf a b) (uppers (now (words .entry)) from) || linksAll (lows (now (row .entry))) a b) ⌝ }
 {
     let n = row.len();
     let mut k = from;
@@ -259,7 +273,9 @@ fn link_all(row: &[u32], words: &mut [u64], from: usize) -> usize
 fn link_neighbours(row: &[u32], words: &mut [u64], from: usize) -> usize
     requires { ⌜ from + 8 * length (now row) ≤ length (now words) ⌝ }
     ensures { λ r. ⌜ r ≤ from + 8 * length (now (row .entry)) ⌝ }
-    ensures { λ r. ⌜ ((a b : ℕ) → b < mostTriangles → has (wordOf a b) (uppers (now (words .exit)) r) ≡ has (wordOf a b) (uppers (now (words .entry)) from) || linksNext (lows (now (row .entry))) a b) ⌝ }
+    ensures { λ r.
+        ⌜ ((a b : ℕ) → b < mostTriangles →
+        has (wordOf a b) (uppers (now (words .exit)) r) ≡ has (wordOf a b) (uppers (now (words .entry)) from) || linksNext (lows (now (row .entry))) a b) ⌝ }
 {
     let n = row.len();
     let mut k = from;
@@ -278,7 +294,9 @@ fn link_neighbours(row: &[u32], words: &mut [u64], from: usize) -> usize
 fn link_row(row: &[u32], words: &mut [u64], from: usize) -> usize
     requires { ⌜ from + 8 * length (now row) ≤ length (now words) ⌝ }
     ensures { λ r. ⌜ r ≤ from + 8 * length (now (row .entry)) ⌝ }
-    ensures { λ r. ⌜ ((a b : ℕ) → b < mostTriangles → has (wordOf a b) (uppers (now (words .exit)) r) ≡ has (wordOf a b) (uppers (now (words .entry)) from) || isLinked (lows (now (row .entry))) a b) ⌝ }
+    ensures { λ r.
+        ⌜ ((a b : ℕ) → b < mostTriangles →
+        has (wordOf a b) (uppers (now (words .exit)) r) ≡ has (wordOf a b) (uppers (now (words .entry)) from) || isLinked (lows (now (row .entry))) a b) ⌝ }
 {
     if row.len() <= MOST_LINKED {
         return link_all(row, words, from);
@@ -287,18 +305,20 @@ fn link_row(row: &[u32], words: &mut [u64], from: usize) -> usize
 }
 
 // Links the patches of each vertex.
-fn link_rows(sorted: &[u32], starts: &[u32], rows: usize, words: &mut [u64]) -> usize
-    requires { ⌜ rows < length (now starts) ⌝ }
-    requires { ⌜ RowBounds rows (now sorted) (now starts) ⌝ }
+fn link_rows(sorted: &[u32], offsets: &[u32], rows: usize, words: &mut [u64]) -> usize
+    requires { ⌜ rows < length (now offsets) ⌝ }
+    requires { ⌜ RowBounds rows (now sorted) (now offsets) ⌝ }
     requires { ⌜ 8 * length (now sorted) ≤ length (now words) ⌝ }
     ensures { λ r. ⌜ r ≤ 8 * length (now (sorted .entry)) ⌝ }
-    ensures { λ r. ⌜ ((a b : ℕ) → b < mostTriangles → has (wordOf a b) (uppers (now (words .exit)) r) ≡ anyBy (λ v. isLinked (rowIn (now (sorted .entry)) (now (starts .entry)) v) a b) (upTo rows)) ⌝ }
+    ensures { λ r.
+        ⌜ ((a b : ℕ) → b < mostTriangles →
+        has (wordOf a b) (uppers (now (words .exit)) r) ≡ anyBy (λ v. isLinked (rowIn (now (sorted .entry)) (now (offsets .entry)) v) a b) (upTo rows)) ⌝ }
 {
     let mut k = 0;
     let mut v = 0;
     while v < rows {
-        let a = starts[v] as usize;
-        let b = starts[v + 1] as usize;
+        let a = offsets[v] as usize;
+        let b = offsets[v + 1] as usize;
         k = link_row(&sorted[a..b], words, k);
         v += 1;
     }
@@ -307,7 +327,7 @@ fn link_rows(sorted: &[u32], starts: &[u32], rows: usize, words: &mut [u64]) -> 
 
 // `adj`: the patches that each patch shares a vertex with that links them, rising. vsorted and vstarts become the patches of each vertex.
 pub fn adjacency(
-    id: &[u32],
+    numbers: &[u32],
     n: usize,
     vertices: usize,
     of: &[u32],
@@ -323,8 +343,8 @@ pub fn adjacency(
     requires { ⌜ np ≤ mostTriangles ⌝ }
     requires { ⌜ m ≤ mostTriangles ⌝ }
     requires { ⌜ m ≤ n ⌝ }
-    requires { ⌜ 3 * n ≤ length (now id) ⌝ }
-    requires { ⌜ Numbers (now id) n m vertices ⌝ }
+    requires { ⌜ 3 * n ≤ length (now numbers) ⌝ }
+    requires { ⌜ Numbers (now numbers) n m vertices ⌝ }
     requires { ⌜ vertices ≤ mostRows ⌝ }
     requires { ⌜ m ≤ length (now of) ⌝ }
     requires { ⌜ length (now vsorted) ≡ 3 * m ⌝ }
@@ -334,9 +354,11 @@ pub fn adjacency(
     requires { ⌜ 24 * m ≤ length (now sorted) ⌝ }
     requires { ⌜ np < length (now starts) ⌝ }
     ensures { λ _. ⌜ RowBounds np (now (sorted .exit)) (now (starts .exit)) ⌝ }
-    ensures { λ _. ⌜ ((p : ℕ) → p < np → rowIn (now (sorted .exit)) (now (starts .exit)) p ≡ filterBy (isJoined (now (id .entry)) n vertices (now (of .entry)) m np p) (upTo np)) ⌝ }
+    ensures { λ _.
+        ⌜ ((p : ℕ) → p < np →
+        rowIn (now (sorted .exit)) (now (starts .exit)) p ≡ filterBy (isJoined (now (numbers .entry)) n vertices (now (of .entry)) m np p) (upTo np)) ⌝ }
 {
-    let k = vertex_words(id, n, of, m, np, words);
+    let k = vertex_words(numbers, n, of, m, np, words);
     make_rows(words, k, scratch, vertices, vsorted, vstarts);
     let links = link_rows(vsorted, vstarts, vertices, words);
     make_rows(words, links, scratch, np as usize, sorted, starts);

@@ -85,27 +85,27 @@ pub fn vec_in(l: &[f32], at: usize) -> Vec3
 }
 
 // The rows of plane p.
-pub fn plane_at(floats: &[f32], words: &[u32], p: usize) -> PlaneRow
-    requires { ⌜ (planeFloats * p + planeFloats ≤ length (now floats)) × (planeWords * p + planeWords ≤ length (now words)) ⌝ }
-    ensures { λ r. ⌜ r ≡ rowOf (now (floats .entry)) (now (words .entry)) p ⌝ }
+pub fn plane_at(plane_floats: &[f32], plane_words: &[u32], p: usize) -> PlaneRow
+    requires { ⌜ (planeFloats * p + planeFloats ≤ length (now «plane_floats»)) × (planeWords * p + planeWords ≤ length (now «plane_words»)) ⌝ }
+    ensures { λ r. ⌜ r ≡ rowOf (now («plane_floats» .entry)) (now («plane_words» .entry)) p ⌝ }
 {
     let f = PLANE_FLOATS * p;
     let w = PLANE_WORDS * p;
     let aabb = Aabb {
-        min: vec_in(floats, f + 4),
-        max: vec_in(floats, f + 7),
+        min: vec_in(plane_floats, f + 4),
+        max: vec_in(plane_floats, f + 7),
     };
     PlaneRow {
-        normal: vec_in(floats, f),
-        offset: floats[f + 3],
+        normal: vec_in(plane_floats, f),
+        offset: plane_floats[f + 3],
         aabb,
-        spread: floats[f + 10],
-        area: floats[f + 11],
-        first: wide(words[w]),
-        count: wide(words[w + 1]),
-        edge: wide(words[w + 2]),
-        edges: wide(words[w + 3]),
-        fitted: words[w + 4] != 0,
+        spread: plane_floats[f + 10],
+        area: plane_floats[f + 11],
+        first: wide(plane_words[w]),
+        count: wide(plane_words[w + 1]),
+        edge: wide(plane_words[w + 2]),
+        edges: wide(plane_words[w + 3]),
+        fitted: plane_words[w + 4] != 0,
     }
 }
 
@@ -178,24 +178,24 @@ fn point_segment_distance(p: Vec3, a: Vec3, b: Vec3) -> f32
 }
 
 // The distance of p from edge k.
-fn edge_distance(edges: &[f32], k: usize, p: Vec3) -> f32
-    requires { ⌜ edgeFloats * k + edgeFloats ≤ length (now edges) ⌝ }
-    ensures { λ r. ⌜ r ≡ pointSegmentDistanceOf p (edgeIn (now (edges .entry)) k .start) (edgeIn (now (edges .entry)) k .end) ⌝ }
+fn edge_distance(plane_edges: &[f32], k: usize, p: Vec3) -> f32
+    requires { ⌜ edgeFloats * k + edgeFloats ≤ length (now «plane_edges») ⌝ }
+    ensures { λ r. ⌜ r ≡ pointSegmentDistanceOf p (edgeIn (now («plane_edges» .entry)) k .start) (edgeIn (now («plane_edges» .entry)) k .end) ⌝ }
 {
     let at = EDGE_FLOATS * k;
-    let a = vec_in(edges, at);
-    let b = vec_in(edges, at + 3);
+    let a = vec_in(plane_edges, at);
+    let b = vec_in(plane_edges, at + 3);
     point_segment_distance(p, a, b)
 }
 
 // The distance of p from the nearest of `count` edges.
-fn border_distance(edges: &[f32], first: usize, count: usize, p: Vec3) -> f32
-    requires { ⌜ edgeFloats * (first + count) ≤ length (now edges) ⌝ }
-    ensures { λ r. ⌜ r ≡ borderDistanceOf p (edgesIn (now (edges .entry)) first count) ⌝ }
+fn border_distance(plane_edges: &[f32], first: usize, count: usize, p: Vec3) -> f32
+    requires { ⌜ edgeFloats * (first + count) ≤ length (now «plane_edges») ⌝ }
+    ensures { λ r. ⌜ r ≡ borderDistanceOf p (edgesIn (now («plane_edges» .entry)) first count) ⌝ }
 {
     let mut dist = float::infinity();
     for k in 0..count {
-        dist = float::min(dist, edge_distance(edges, first + k, p));
+        dist = float::min(dist, edge_distance(plane_edges, first + k, p));
     }
     dist
 }
@@ -208,12 +208,12 @@ fn smooth(dist: f32, fade: f32) -> f32
 }
 
 // The edge window: 1 inside, falling to 0 at the border over `fade`.
-fn weight(edges: &[f32], first: usize, count: usize, fade: f32, p: Vec3) -> f32
-    requires { ⌜ edgeFloats * (first + count) ≤ length (now edges) ⌝ }
-    ensures { λ r. ⌜ r ≡ weightOf (edgesIn (now (edges .entry)) first count) fade p ⌝ }
+fn weight(plane_edges: &[f32], first: usize, count: usize, fade: f32, p: Vec3) -> f32
+    requires { ⌜ edgeFloats * (first + count) ≤ length (now «plane_edges») ⌝ }
+    ensures { λ r. ⌜ r ≡ weightOf (edgesIn (now («plane_edges» .entry)) first count) fade p ⌝ }
 {
     if fade > 0.0 {
-        return smooth(border_distance(edges, first, count, p), fade);
+        return smooth(border_distance(plane_edges, first, count, p), fade);
     }
     1.0
 }
@@ -255,17 +255,19 @@ fn snap_on(a: Vec3, e: Edges, ray: Ray, i: usize, best: Snap) -> Snap
 }
 
 // Of the triangles that the ray meets the nearest, on either side of its origin.
-fn snap_all(columns: &[f32], n: usize, ray: Ray, members: &[u32]) -> Snap
-    requires { ⌜ (columnCount * n ≤ length (now columns)) × Below n (now members) ⌝ }
-    ensures { λ r. ⌜ ((tri : ℕ → Triangle) → AllRead tri (now (columns .entry)) n (now (members .entry)) → r ≡ snapAllOf tri ray (now (members .entry)) Snap.Missed) ⌝ }
+fn snap_all(triangles: &[f32], n: usize, ray: Ray, plane_triangles: &[u32]) -> Snap
+    requires { ⌜ (columnCount * n ≤ length (now triangles)) × Below n (now «plane_triangles») ⌝ }
+    ensures { λ r.
+        ⌜ ((tri : ℕ → Triangle) → AllRead tri (now (triangles .entry)) n (now («plane_triangles» .entry)) →
+        r ≡ snapAllOf tri ray (now («plane_triangles» .entry)) Snap.Missed) ⌝ }
 {
     let mut best = Snap::Missed;
     let mut k = 0;
-    while k < members.len() {
-        let i = members[k] as usize;
+    while k < plane_triangles.len() {
+        let i = plane_triangles[k] as usize;
         best = snap_on(
-            columns::corner_at(columns, n, i),
-            columns::edges_at(columns, n, i),
+            columns::corner_at(triangles, n, i),
+            columns::edges_at(triangles, n, i),
             ray,
             i,
             best,
@@ -290,17 +292,19 @@ fn normal_ray(plane: PlaneRow, p: Vec3) -> Ray
 }
 
 // The first triangle that p lies on.
-fn find(columns: &[f32], n: usize, p: Vec3, members: &[u32]) -> Spot
-    requires { ⌜ (columnCount * n ≤ length (now columns)) × Below n (now members) ⌝ }
-    ensures { λ r. ⌜ ((tri : ℕ → Triangle) → AllRead tri (now (columns .entry)) n (now (members .entry)) → r ≡ findOf tri p (now (members .entry))) ⌝ }
+fn find(triangles: &[f32], n: usize, p: Vec3, plane_triangles: &[u32]) -> Spot
+    requires { ⌜ (columnCount * n ≤ length (now triangles)) × Below n (now «plane_triangles») ⌝ }
+    ensures { λ r.
+        ⌜ ((tri : ℕ → Triangle) → AllRead tri (now (triangles .entry)) n (now («plane_triangles» .entry)) →
+        r ≡ findOf tri p (now («plane_triangles» .entry))) ⌝ }
 {
     let mut k = 0;
-    while k < members.len() {
-        let i = members[k] as usize;
+    while k < plane_triangles.len() {
+        let i = plane_triangles[k] as usize;
         if geometry::contains(
-            columns::corner_at(columns, n, i),
-            columns::edges_at(columns, n, i),
-            columns::dots_at(columns, n, i),
+            columns::corner_at(triangles, n, i),
+            columns::edges_at(triangles, n, i),
+            columns::dots_at(triangles, n, i),
             p,
         ) {
             return Spot::Inside(i, p);
@@ -310,48 +314,60 @@ fn find(columns: &[f32], n: usize, p: Vec3, members: &[u32]) -> Spot
     Spot::Outside
 }
 
-fn spot_on(columns: &[f32], n: usize, plane: PlaneRow, members: &[u32], p: Vec3) -> Spot
-    requires { ⌜ (columnCount * n ≤ length (now columns)) × Below n (now members) ⌝ }
-    ensures { λ r. ⌜ ((tri : ℕ → Triangle) (es : List Edge) → AllRead tri (now (columns .entry)) n (now (members .entry)) → r ≡ spotOf tri (planeOf plane (now (members .entry)) es) p) ⌝ }
+fn spot_on(triangles: &[f32], n: usize, plane: PlaneRow, plane_triangles: &[u32], p: Vec3) -> Spot
+    requires { ⌜ (columnCount * n ≤ length (now triangles)) × Below n (now «plane_triangles») ⌝ }
+    ensures { λ r.
+        ⌜ ((tri : ℕ → Triangle) (es : List Edge) → AllRead tri (now (triangles .entry)) n (now («plane_triangles» .entry)) →
+        r ≡ spotOf tri (planeOf plane (now («plane_triangles» .entry)) es) p) ⌝ }
 {
     if plane.fitted {
-        let Snap::Met(i, t) = snap_all(columns, n, normal_ray(plane, p), members) else {
+        let Snap::Met(i, t) = snap_all(triangles, n, normal_ray(plane, p), plane_triangles) else {
             return Spot::Outside;
         };
         return Spot::Inside(i, along(p, plane.normal, t));
     }
-    find(columns, n, p, members)
+    find(triangles, n, p, plane_triangles)
 }
 
 // Where a point of the plane lies on the surface: the box is asked before the point is moved.
-pub fn surface(columns: &[f32], n: usize, plane: PlaneRow, members: &[u32], p: Vec3) -> Spot
-    requires { ⌜ columnCount * n ≤ length (now columns) ⌝ }
-    requires { ⌜ (plane .first + plane .count ≤ length (now members)) × Below n (trisOf plane (now members)) ⌝ }
-    ensures { λ r. ⌜ ((tri : ℕ → Triangle) (es : List Edge) → AllRead tri (now (columns .entry)) n (trisOf plane (now (members .entry))) → r ≡ surfaceOf tri (planeOf plane (trisOf plane (now (members .entry))) es) p) ⌝ }
+pub fn surface(
+    triangles: &[f32],
+    n: usize,
+    plane: PlaneRow,
+    plane_triangles: &[u32],
+    p: Vec3,
+) -> Spot
+    requires { ⌜ columnCount * n ≤ length (now triangles) ⌝ }
+    requires { ⌜ (plane .first + plane .count ≤ length (now «plane_triangles»)) × Below n (trisOf plane (now «plane_triangles»)) ⌝ }
+    ensures { λ r.
+        ⌜ ((tri : ℕ → Triangle) (es : List Edge) → AllRead tri (now (triangles .entry)) n (trisOf plane (now («plane_triangles» .entry))) →
+        r ≡ surfaceOf tri (planeOf plane (trisOf plane (now («plane_triangles» .entry))) es) p) ⌝ }
 {
     if contains_in_box(plane, p) {
         let first = plane.first;
         let end = first + plane.count;
-        return spot_on(columns, n, plane, &members[first..end], p);
+        return spot_on(triangles, n, plane, &plane_triangles[first..end], p);
     }
     Spot::Outside
 }
 
 pub fn locate_on_plane(
-    columns: &[f32],
+    triangles: &[f32],
     n: usize,
     plane: PlaneRow,
-    members: &[u32],
-    edges: &[f32],
+    plane_triangles: &[u32],
+    plane_edges: &[f32],
     fade: f32,
     p: Vec3,
 ) -> Located
-    requires { ⌜ columnCount * n ≤ length (now columns) ⌝ }
-    requires { ⌜ RunsIn plane n (now members) (now edges) ⌝ }
-    ensures { λ r. ⌜ ((tri : ℕ → Triangle) → AllRead tri (now (columns .entry)) n (trisOf plane (now (members .entry))) → r ≡ locateOnPlaneOf tri fade (planeOf plane (trisOf plane (now (members .entry))) (borderOf plane (now (edges .entry)))) p) ⌝ }
+    requires { ⌜ columnCount * n ≤ length (now triangles) ⌝ }
+    requires { ⌜ RunsIn plane n (now «plane_triangles») (now «plane_edges») ⌝ }
+    ensures { λ r.
+        ⌜ ((tri : ℕ → Triangle) → AllRead tri (now (triangles .entry)) n (trisOf plane (now («plane_triangles» .entry))) →
+        r ≡ locateOnPlaneOf tri fade (planeOf plane (trisOf plane (now («plane_triangles» .entry))) (borderOf plane (now («plane_edges» .entry)))) p) ⌝ }
 {
-    let Spot::Inside(i, q) = surface(columns, n, plane, members, p) else {
+    let Spot::Inside(i, q) = surface(triangles, n, plane, plane_triangles, p) else {
         return Located::Off;
     };
-    Located::On(i, weight(edges, plane.edge, plane.edges, fade, q), q)
+    Located::On(i, weight(plane_edges, plane.edge, plane.edges, fade, q), q)
 }

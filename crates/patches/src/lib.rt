@@ -349,7 +349,8 @@ fn link(heads: &mut [u32], next: &mut [u32], p: usize, h: usize)
 
 // Patch p of cell k becomes the tail of its bucket.
 fn put_in_grid(cells: &mut [u64], heads: &mut [u32], next: &mut [u32], p: usize, k: PlaneKey)
-    requires { ⌜ (3 * p + 3 ≤ length (now cells)) × (length (now heads) ≡ bucketCount) × (p < length (now next)) × (p < 4294967295) × (getD (now heads) (bucketOf (key (k .x) (k .y) (k .z))) 0 ≤ p) ⌝ }
+    requires { ⌜ (3 * p + 3 ≤ length (now cells)) × (length (now heads) ≡ bucketCount) × (p < length (now next)) × (p < 4294967295) ×
+        (getD (now heads) (bucketOf (key (k .x) (k .y) (k .z))) 0 ≤ p) ⌝ }
     ensures { λ _. ⌜ cellAt (now (cells .exit)) p ≡ key (k .x) (k .y) (k .z) ⌝ }
     ensures { λ _. ⌜ ((q : ℕ) → (q ≡ p → ⊥) → cellAt (now (cells .exit)) q ≡ cellAt (now (cells .entry)) q) ⌝ }
     ensures { λ _. ⌜ now (heads .exit) ≡ set (now (heads .entry)) (bucketOf (key (k .x) (k .y) (k .z))) (suc p) ⌝ }
@@ -401,7 +402,7 @@ fn join_patch(rows: &mut [f32], p: usize, t: Triangle)
 
 // Triangle t, which is kept, joins the first patch of its plane, or starts one. The number of patches is returned.
 fn place(
-    area: &[f32],
+    triangles: &[f32],
     handles: &[u32],
     n: usize,
     t: usize,
@@ -412,14 +413,16 @@ fn place(
     next: &mut [u32],
     of: &mut [u32],
 ) -> usize
-    requires { ⌜ (columnCount * n ≤ length (now area)) × (n ≤ length (now handles)) × (t < n) × (t < 4294967295) ⌝ }
+    requires { ⌜ (columnCount * n ≤ length (now triangles)) × (n ≤ length (now handles)) × (t < n) × (t < 4294967295) ⌝ }
     requires { ⌜ (patchFloats * t + patchFloats ≤ length (now rows)) × (3 * t + 3 ≤ length (now cells)) × (t < length (now next)) × (t < length (now of)) ⌝ }
     requires { ⌜ Standing (now rows) (now of) (now cells) (now heads) (now next) t np ⌝ }
     ensures { λ r. ⌜ Standing (now (rows .exit)) (now (of .exit)) (now (cells .exit)) (now (heads .exit)) (now (next .exit)) (suc t) r ⌝ }
-    ensures { λ r. ⌜ ((ts : List Triangle) → triangleAt ts t ≡ triangleAtOf (now (area .entry)) (now (handles .entry)) n t → patchesIn (now (rows .exit)) (now (of .exit)) (suc t) r ≡ placedOf ts (patchesIn (now (rows .entry)) (now (of .entry)) t np) t) ⌝ }
+    ensures { λ r.
+        ⌜ ((ts : List Triangle) → triangleAt ts t ≡ triangleAtOf (now (triangles .entry)) (now (handles .entry)) n t →
+        patchesIn (now (rows .exit)) (now (of .exit)) (suc t) r ≡ placedOf ts (patchesIn (now (rows .entry)) (now (of .entry)) t np) t) ⌝ }
     ensures { λ r. ⌜ ((i : ℕ) → (i ≡ t → ⊥) → getD (now (of .exit)) i noneOf ≡ getD (now (of .entry)) i noneOf) ⌝ }
 {
-    let tri = columns::triangle_at(area, handles, n, t);
+    let tri = columns::triangle_at(triangles, handles, n, t);
     let k = plane_key(tri);
     let p = found(rows, cells, heads, next, np, k);
     if p < np {
@@ -435,7 +438,7 @@ fn place(
 
 // Triangle t, where it is kept.
 fn turn(
-    area: &[f32],
+    triangles: &[f32],
     handles: &[u32],
     n: usize,
     first: &[u32],
@@ -447,16 +450,20 @@ fn turn(
     next: &mut [u32],
     of: &mut [u32],
 ) -> usize
-    requires { ⌜ (columnCount * n ≤ length (now area)) × (n ≤ length (now handles)) × (t < n) × (t < 4294967295) × (t < length (now first)) ⌝ }
+    requires { ⌜ (columnCount * n ≤ length (now triangles)) × (n ≤ length (now handles)) × (t < n) × (t < 4294967295) × (t < length (now first)) ⌝ }
     requires { ⌜ (patchFloats * t + patchFloats ≤ length (now rows)) × (3 * t + 3 ≤ length (now cells)) × (t < length (now next)) × (t < length (now of)) ⌝ }
     requires { ⌜ Standing (now rows) (now of) (now cells) (now heads) (now next) t np ⌝ }
     ensures { λ r. ⌜ Standing (now (rows .exit)) (now (of .exit)) (now (cells .exit)) (now (heads .exit)) (now (next .exit)) (suc t) r ⌝ }
-    ensures { λ r. ⌜ ((ts : List Triangle) → triangleAt ts t ≡ triangleAtOf (now (area .entry)) (now (handles .entry)) n t → patchesIn (now (rows .exit)) (now (of .exit)) (suc t) r ≡ cond (eqb (getD (now (first .entry)) t 0) t) (placedOf ts (patchesIn (now (rows .entry)) (now (of .entry)) t np) t) (patchesIn (now (rows .entry)) (now (of .entry)) t np)) ⌝ }
+    ensures { λ r.
+        ⌜ ((ts : List Triangle) → triangleAt ts t ≡ triangleAtOf (now (triangles .entry)) (now (handles .entry)) n t →
+        patchesIn (now (rows .exit)) (now (of .exit)) (suc t) r ≡
+        cond (eqb (getD (now (first .entry)) t 0) t) (placedOf ts (patchesIn (now (rows .entry)) (now (of .entry)) t np) t)
+        (patchesIn (now (rows .entry)) (now (of .entry)) t np)) ⌝ }
     ensures { λ r. ⌜ ((i : ℕ) → (i ≡ t → ⊥) → getD (now (of .exit)) i noneOf ≡ getD (now (of .entry)) i noneOf) ⌝ }
     ensures { λ r. ⌜ (eqb (getD (now (first .entry)) t 0) t ≡ false → getD (now (of .exit)) t noneOf ≡ noneOf) ⌝ }
 {
     if first[t] == t as u32 {
-        return place(area, handles, n, t, np, rows, cells, heads, next, of);
+        return place(triangles, handles, n, t, np, rows, cells, heads, next, of);
     }
     of[t] = NONE;
     np
@@ -465,7 +472,7 @@ fn turn(
 // STEP 2 of the planes: the patches of the first m triangles, as rows and as the number of each triangle's patch. `first` tells which
 // triangles are kept, by `faces::duplicates`. The number of patches is returned.
 pub fn coplanar_patches(
-    area: &[f32],
+    triangles: &[f32],
     handles: &[u32],
     n: usize,
     m: usize,
@@ -476,10 +483,11 @@ pub fn coplanar_patches(
     rows: &mut [f32],
     of: &mut [u32],
 ) -> usize
-    requires { ⌜ (columnCount * n ≤ length (now area)) × (n ≤ length (now handles)) × (m ≤ n) × (m ≤ 4294967295) × (m ≤ length (now first)) ⌝ }
-    requires { ⌜ (length (now heads) ≡ bucketCount) × (patchFloats * m ≤ length (now rows)) × (3 * m ≤ length (now cells)) × (m ≤ length (now next)) × (m ≤ length (now of)) ⌝ }
-    requires { ⌜ ((i : ℕ) → i < m → eqb (getD (now first) i 0) i ≡ isFirst (facesIn (now area) n) i) ⌝ }
-    ensures { λ r. ⌜ patchesIn (now (rows .exit)) (now (of .exit)) m r ≡ patchesOf (trianglesIn (now (area .entry)) (now (handles .entry)) n m) ⌝ }
+    requires { ⌜ (columnCount * n ≤ length (now triangles)) × (n ≤ length (now handles)) × (m ≤ n) × (m ≤ 4294967295) × (m ≤ length (now first)) ⌝ }
+    requires { ⌜ (length (now heads) ≡ bucketCount) × (patchFloats * m ≤ length (now rows)) × (3 * m ≤ length (now cells)) × (m ≤ length (now next)) ×
+        (m ≤ length (now of)) ⌝ }
+    requires { ⌜ ((i : ℕ) → i < m → eqb (getD (now first) i 0) i ≡ isFirst (facesIn (now triangles) n) i) ⌝ }
+    ensures { λ r. ⌜ patchesIn (now (rows .exit)) (now (of .exit)) m r ≡ patchesOf (trianglesIn (now (triangles .entry)) (now (handles .entry)) n m) ⌝ }
     ensures { λ r. ⌜ (r ≤ m) × Numbered (now (of .exit)) m r ⌝ }
     ensures { λ r. ⌜ ((i : ℕ) → i < m → eqb (getD (now (first .entry)) i 0) i ≡ false → getD (now (of .exit)) i noneOf ≡ noneOf) ⌝ }
 {
@@ -487,7 +495,19 @@ pub fn coplanar_patches(
     let mut np = 0;
     let mut t = 0;
     while t < m {
-        np = turn(area, handles, n, first, t, np, rows, cells, heads, next, of);
+        np = turn(
+            triangles,
+            handles,
+            n,
+            first,
+            t,
+            np,
+            rows,
+            cells,
+            heads,
+            next,
+            of,
+        );
         t += 1;
     }
     np

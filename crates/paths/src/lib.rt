@@ -79,24 +79,27 @@ fn begin(listener: Vec3) -> Way
 fn go(
     padded: &[f32],
     nodes: &[u32],
-    perm: &[u32],
-    rows: &[f32],
+    leaf_order: &[u32],
+    leaves: &[f32],
     handles: &[u32],
     nodes_count: usize,
     materials: &[f32],
     to: Vec3,
     w: Way,
 ) -> Way
-    requires { ⌜ Traceable (now padded) (now nodes) (now perm) (now rows) (now handles) «nodes_count» (now materials) ⌝ }
+    requires { ⌜ Traceable (now padded) (now nodes) (now «leaf_order») (now leaves) (now handles) «nodes_count» (now materials) ⌝ }
     requires { ⌜ w .rays + 18 * (maxCrossings + 1) < 2 ^ 32 ⌝ }
-    ensures { λ r. ⌜ ((tri : ℕ → Triangle) (t : Tree) → TreeReads (now (padded .entry)) (now (nodes .entry)) (now (perm .entry)) (now (rows .entry)) (now (handles .entry)) tri t → r ≡ goOf (softIn tri t (now (materials .entry))) to w) ⌝ }
+    ensures { λ r.
+        ⌜ ((tri : ℕ → Triangle) (t : Tree) →
+        TreeReads (now (padded .entry)) (now (nodes .entry)) (now («leaf_order» .entry)) (now (leaves .entry)) (now (handles .entry)) tri t →
+        r ≡ goOf (softIn tri t (now (materials .entry))) to w) ⌝ }
     ensures { λ r. ⌜ r .rays ≤ w .rays + 18 * (maxCrossings + 1) ⌝ }
 {
     let g = segments::segment_soft_transmission(
         padded,
         nodes,
-        perm,
-        rows,
+        leaf_order,
+        leaves,
         handles,
         nodes_count,
         materials,
@@ -115,8 +118,8 @@ fn go(
 fn go_all(
     padded: &[f32],
     nodes: &[u32],
-    perm: &[u32],
-    rows: &[f32],
+    leaf_order: &[u32],
+    leaves: &[f32],
     handles: &[u32],
     nodes_count: usize,
     materials: &[f32],
@@ -125,9 +128,12 @@ fn go_all(
     source: Vec3,
     listener: Vec3,
 ) -> Way
-    requires { ⌜ Traceable (now padded) (now nodes) (now perm) (now rows) (now handles) «nodes_count» (now materials) ⌝ }
+    requires { ⌜ Traceable (now padded) (now nodes) (now «leaf_order») (now leaves) (now handles) «nodes_count» (now materials) ⌝ }
     requires { ⌜ (order ≤ maxOrder) × (length points ≡ maxOrder) ⌝ }
-    ensures { λ r. ⌜ ((tri : ℕ → Triangle) (t : Tree) → TreeReads (now (padded .entry)) (now (nodes .entry)) (now (perm .entry)) (now (rows .entry)) (now (handles .entry)) tri t → r ≡ wayOf (softIn tri t (now (materials .entry))) listener source (take order points)) ⌝ }
+    ensures { λ r.
+        ⌜ ((tri : ℕ → Triangle) (t : Tree) →
+        TreeReads (now (padded .entry)) (now (nodes .entry)) (now («leaf_order» .entry)) (now (leaves .entry)) (now (handles .entry)) tri t →
+        r ≡ wayOf (softIn tri t (now (materials .entry))) listener source (take order points)) ⌝ }
     ensures { λ r. ⌜ r .rays ≤ 18 * (maxCrossings + 1) * (order + 1) ⌝ }
 {
     let mut w = begin(listener);
@@ -138,8 +144,8 @@ fn go_all(
         w = go(
             padded,
             nodes,
-            perm,
-            rows,
+            leaf_order,
+            leaves,
             handles,
             nodes_count,
             materials,
@@ -150,8 +156,8 @@ fn go_all(
     go(
         padded,
         nodes,
-        perm,
-        rows,
+        leaf_order,
+        leaves,
         handles,
         nodes_count,
         materials,
@@ -187,7 +193,9 @@ fn handle_at(handles: &[u32], i: usize) -> u32
 fn reflected(handles: &[u32], materials: &[f32], tris: [usize; 8], order: usize) -> Band8
     requires { ⌜ (order ≤ maxOrder) × (length tris ≡ maxOrder) ⌝ }
     requires { ⌜ ((i : ℕ) → materialFloats * getD (now handles) i 0 + materialFloats ≤ length (now materials)) ⌝ }
-    ensures { λ r. ⌜ ((tri : ℕ → Triangle) → ((i : ℕ) → tri i .«material_handle» ≡ getD (now (handles .entry)) i 0) → r ≡ reflectedOf (now (materials .entry)) tri (take order tris)) ⌝ }
+    ensures { λ r.
+        ⌜ ((tri : ℕ → Triangle) → ((i : ℕ) → tri i .«material_handle» ≡ getD (now (handles .entry)) i 0) →
+        r ≡ reflectedOf (now (materials .entry)) tri (take order tris)) ⌝ }
 {
     let mut product = bands::splat(1.0);
     for k in 0..order {
@@ -271,8 +279,8 @@ fn counted(fate: Fate, rays: u32) -> Verdict
 fn judge(
     padded: &[f32],
     nodes: &[u32],
-    perm: &[u32],
-    rows: &[f32],
+    leaf_order: &[u32],
+    leaves: &[f32],
     handles: &[u32],
     nodes_count: usize,
     materials: &[f32],
@@ -282,10 +290,13 @@ fn judge(
     source: Vec3,
     listener: Vec3,
 ) -> Verdict
-    requires { ⌜ Traceable (now padded) (now nodes) (now perm) (now rows) (now handles) «nodes_count» (now materials) ⌝ }
+    requires { ⌜ Traceable (now padded) (now nodes) (now «leaf_order») (now leaves) (now handles) «nodes_count» (now materials) ⌝ }
     requires { ⌜ (0 < order) × (order ≤ maxOrder) ⌝ }
     requires { ⌜ (trail .fate ≡ madeFate → Going trail) ⌝ }
-    ensures { λ r. ⌜ ((tri : ℕ → Triangle) (t : Tree) → TreeReads (now (padded .entry)) (now (nodes .entry)) (now (perm .entry)) (now (rows .entry)) (now (handles .entry)) tri t → r ≡ bouncedOf (softIn tri t (now (materials .entry))) s (now (materials .entry)) tri order source listener (trailOf trail order)) ⌝ }
+    ensures { λ r.
+        ⌜ ((tri : ℕ → Triangle) (t : Tree) →
+        TreeReads (now (padded .entry)) (now (nodes .entry)) (now («leaf_order» .entry)) (now (leaves .entry)) (now (handles .entry)) tri t →
+        r ≡ bouncedOf (softIn tri t (now (materials .entry))) s (now (materials .entry)) tri order source listener (trailOf trail order)) ⌝ }
     ensures { λ r. ⌜ r .rays ≤ 18 * (maxCrossings + 1) * (order + 1) ⌝ }
 {
     let fate = trail.fate;
@@ -295,8 +306,8 @@ fn judge(
         let way = go_all(
             padded,
             nodes,
-            perm,
-            rows,
+            leaf_order,
+            leaves,
             handles,
             nodes_count,
             materials,
@@ -330,17 +341,17 @@ fn judge(
 pub fn validate_image_path(
     padded: &[f32],
     nodes: &[u32],
-    perm: &[u32],
-    rows: &[f32],
+    leaf_order: &[u32],
+    leaves: &[f32],
     handles: &[u32],
     nodes_count: usize,
     materials: &[f32],
-    columns: &[f32],
+    triangles: &[f32],
     n: usize,
-    floats: &[f32],
-    words: &[u32],
-    members: &[u32],
-    edges: &[f32],
+    plane_floats: &[f32],
+    plane_words: &[u32],
+    plane_triangles: &[u32],
+    plane_edges: &[f32],
     count: usize,
     s: Settings,
     seq: [u32; 8],
@@ -349,22 +360,29 @@ pub fn validate_image_path(
     source: Vec3,
     listener: Vec3,
 ) -> Verdict
-    requires { ⌜ Lent (now padded) (now nodes) (now perm) (now rows) (now handles) «nodes_count» (now materials) (now columns) n (now floats) (now words) (now members) (now edges) count ⌝ }
+    requires { ⌜ Lent (now padded) (now nodes) (now «leaf_order») (now leaves) (now handles) «nodes_count» (now materials) (now triangles) n (now «plane_floats»)
+        (now «plane_words») (now «plane_triangles») (now «plane_edges») count ⌝ }
     requires { ⌜ (0 < order) × (order ≤ maxOrder) × (length seq ≡ maxOrder) ⌝ }
     requires { ⌜ ((j : ℕ) → j < order → getD seq j 0 < count) ⌝ }
-    requires { ⌜ ((j : ℕ) → j ≤ order → getD images j noPoint ≡ imageOf (planesIn (now floats) (now words) (now members) (now edges) count) source (take j seq)) ⌝ }
-    ensures { λ r. ⌜ ((tri : ℕ → Triangle) (t : Tree) → ReadAs (now (padded .entry)) (now (nodes .entry)) (now (perm .entry)) (now (rows .entry)) (now (handles .entry)) (now (columns .entry)) n (now (floats .entry)) (now (words .entry)) (now (members .entry)) count tri t → r ≡ pathOf s (planesIn (now (floats .entry)) (now (words .entry)) (now (members .entry)) (now (edges .entry)) count) tri t (now (materials .entry)) source listener (take order seq)) ⌝ }
+    requires { ⌜ ((j : ℕ) → j ≤ order → getD images j noPoint ≡
+        imageOf (planesIn (now «plane_floats») (now «plane_words») (now «plane_triangles») (now «plane_edges») count) source (take j seq)) ⌝ }
+    ensures { λ r.
+        ⌜ ((tri : ℕ → Triangle) (t : Tree) →
+        ReadAs (now (padded .entry)) (now (nodes .entry)) (now («leaf_order» .entry)) (now (leaves .entry)) (now (handles .entry)) (now (triangles .entry)) n
+        (now («plane_floats» .entry)) (now («plane_words» .entry)) (now («plane_triangles» .entry)) count tri t → r ≡
+        pathOf s (planesIn (now («plane_floats» .entry)) (now («plane_words» .entry)) (now («plane_triangles» .entry)) (now («plane_edges» .entry)) count) tri
+        t (now (materials .entry)) source listener (take order seq)) ⌝ }
     ensures { λ r. ⌜ r .rays ≤ 18 * (maxCrossings + 1) * (order + 1) ⌝ }
 {
     let image = images[order];
     if vector::distance3(listener, image) <= s.max_reflection_distance {
         let trail = bounces::back(
-            columns,
+            triangles,
             n,
-            floats,
-            words,
-            members,
-            edges,
+            plane_floats,
+            plane_words,
+            plane_triangles,
+            plane_edges,
             count,
             s.reflection_edge_fade,
             seq,
@@ -377,8 +395,8 @@ pub fn validate_image_path(
         return judge(
             padded,
             nodes,
-            perm,
-            rows,
+            leaf_order,
+            leaves,
             handles,
             nodes_count,
             materials,

@@ -102,13 +102,15 @@ fn keep(
     n: usize,
     made: usize,
     st: State,
-    columns: &mut [f32],
+    triangles: &mut [f32],
     handles: &mut [u32],
 ) -> State
-    requires { ⌜ Room n 1 (world (now columns) (now handles) st) ⌝ }
+    requires { ⌜ Room n 1 (world (now triangles) (now handles) st) ⌝ }
     requires { ⌜ st .far ≡ false ⌝ }
     requires { ⌜ made ≡ st .placings + 3 ⌝ }
-    ensures { λ r. ⌜ Did 1 (world (now (columns .entry)) (now (handles .entry)) st) (world (now (columns .exit)) (now (handles .exit)) r) (stepOf n (world (now (columns .entry)) (now (handles .entry)) st) (corners3 a b c handle)) ⌝ }
+    ensures { λ r.
+        ⌜ Did 1 (world (now (triangles .entry)) (now (handles .entry)) st) (world (now (triangles .exit)) (now (handles .exit)) r)
+        (stepOf n (world (now (triangles .entry)) (now (handles .entry)) st) (corners3 a b c handle)) ⌝ }
 {
     if far_corners(a, b, c) {
         return State {
@@ -125,7 +127,7 @@ fn keep(
         };
     };
     let i = st.kept;
-    columns::put_triangle(columns, n, i, t);
+    columns::put_triangle(triangles, n, i, t);
     handles[i] = handle;
     State {
         kept: i + 1,
@@ -151,13 +153,16 @@ fn place_triple(
     handle: u32,
     n: usize,
     st: State,
-    columns: &mut [f32],
+    triangles: &mut [f32],
     handles: &mut [u32],
 ) -> State
     requires { ⌜ 3 * vertices ≤ length (now positions) ⌝ }
     requires { ⌜ 16 ≤ length (now transform) ⌝ }
-    requires { ⌜ Room n 1 (world (now columns) (now handles) st) ⌝ }
-    ensures { λ r. ⌜ Did 1 (world (now (columns .entry)) (now (handles .entry)) st) (world (now (columns .exit)) (now (handles .exit)) r) (run n (world (now (columns .entry)) (now (handles .entry)) st) (cornersIn vertices (now (positions .entry)) (now (transform .entry)) handle (triple i j k))) ⌝ }
+    requires { ⌜ Room n 1 (world (now triangles) (now handles) st) ⌝ }
+    ensures { λ r.
+        ⌜ Did 1 (world (now (triangles .entry)) (now (handles .entry)) st) (world (now (triangles .exit)) (now (handles .exit)) r) (run n
+        (world (now (triangles .entry)) (now (handles .entry)) st)
+        (cornersIn vertices (now (positions .entry)) (now (transform .entry)) handle (triple i j k))) ⌝ }
 {
     if st.far {
         return st;
@@ -176,7 +181,7 @@ fn place_triple(
                     n,
                     c.made,
                     st,
-                    columns,
+                    triangles,
                     handles,
                 );
             }
@@ -194,13 +199,16 @@ fn place_mesh(
     handle: u32,
     n: usize,
     start: State,
-    columns: &mut [f32],
+    triangles: &mut [f32],
     handles: &mut [u32],
 ) -> State
     requires { ⌜ 3 * vertices ≤ length (now positions) ⌝ }
     requires { ⌜ 16 ≤ length (now transform) ⌝ }
-    requires { ⌜ Room n (length (triples (now indices))) (world (now columns) (now handles) start) ⌝ }
-    ensures { λ r. ⌜ Did (length (triples (now (indices .entry)))) (world (now (columns .entry)) (now (handles .entry)) start) (world (now (columns .exit)) (now (handles .exit)) r) (run n (world (now (columns .entry)) (now (handles .entry)) start) (cornersOf vertices (now (positions .entry)) (now (transform .entry)) handle (triples (now (indices .entry))))) ⌝ }
+    requires { ⌜ Room n (length (triples (now indices))) (world (now triangles) (now handles) start) ⌝ }
+    ensures { λ r.
+        ⌜ Did (length (triples (now (indices .entry)))) (world (now (triangles .entry)) (now (handles .entry)) start) (world (now (triangles .exit))
+        (now (handles .exit)) r) (run n (world (now (triangles .entry)) (now (handles .entry)) start)
+        (cornersOf vertices (now (positions .entry)) (now (transform .entry)) handle (triples (now (indices .entry))))) ⌝ }
 {
     let mut st = start;
     let mut at = 0;
@@ -218,7 +226,7 @@ fn place_mesh(
             handle,
             n,
             st,
-            columns,
+            triangles,
             handles,
         );
         at += 3;
@@ -233,14 +241,16 @@ fn place_all(
     positions: &[f32],
     indices: &[u32],
     n: usize,
-    columns: &mut [f32],
+    triangles: &mut [f32],
     handles: &mut [u32],
 ) -> State
     requires { ⌜ Fits (now meshes) (length (now transforms)) (length (now positions)) (length (now indices)) n ⌝ }
     requires { ⌜ n ≤ mostTriples ⌝ }
-    requires { ⌜ columnCount * n ≤ length (now columns) ⌝ }
+    requires { ⌜ columnCount * n ≤ length (now triangles) ⌝ }
     requires { ⌜ n ≤ length (now handles) ⌝ }
-    ensures { λ r. ⌜ world (now (columns .exit)) (now (handles .exit)) r ≡ run n (world (now (columns .entry)) (now (handles .entry)) (state 0 0 false)) (cornersAll (cut (headers (now (meshes .entry))) (now (transforms .entry)) (now (positions .entry)) (now (indices .entry)))) ⌝ }
+    ensures { λ r.
+        ⌜ world (now (triangles .exit)) (now (handles .exit)) r ≡ run n (world (now (triangles .entry)) (now (handles .entry)) (state 0 0 false))
+        (cornersAll (cut (headers (now (meshes .entry))) (now (transforms .entry)) (now (positions .entry)) (now (indices .entry)))) ⌝ }
     ensures { λ r. ⌜ r .kept ≤ n ⌝ }
 {
     let mut st = State {
@@ -266,7 +276,7 @@ fn place_all(
             meshes[at + 2],
             n,
             st,
-            columns,
+            triangles,
             handles,
         );
         t = te;
@@ -284,18 +294,28 @@ pub fn triangles_from_scene(
     positions: &[f32],
     indices: &[u32],
     n: usize,
-    columns: &mut [f32],
+    triangles: &mut [f32],
     handles: &mut [u32],
 ) -> Placed
     requires { ⌜ Fits (now meshes) (length (now transforms)) (length (now positions)) (length (now indices)) n ⌝ }
     requires { ⌜ n ≤ mostTriples ⌝ }
-    requires { ⌜ columnCount * n ≤ length (now columns) ⌝ }
+    requires { ⌜ columnCount * n ≤ length (now triangles) ⌝ }
     requires { ⌜ n ≤ length (now handles) ⌝ }
-    ensures { λ r. ⌜ Passed (cornersAll (cut (headers (now (meshes .entry))) (now (transforms .entry)) (now (positions .entry)) (now (indices .entry)))) n (now (columns .entry)) (now (handles .entry)) r (now (columns .exit)) (now (handles .exit)) ⌝ }
+    ensures { λ r.
+        ⌜ Passed (cornersAll (cut (headers (now (meshes .entry))) (now (transforms .entry)) (now (positions .entry)) (now (indices .entry)))) n
+        (now (triangles .entry)) (now (handles .entry)) r (now (triangles .exit)) (now (handles .exit)) ⌝ }
 {
-    let st = place_all(meshes, transforms, positions, indices, n, columns, handles);
+    let st = place_all(
+        meshes,
+        transforms,
+        positions,
+        indices,
+        n,
+        triangles,
+        handles,
+    );
     if st.far {
-        columns::clear_f32(columns);
+        columns::clear_f32(triangles);
         columns::clear_u32(handles);
         return Placed::Far(st.placings);
     }
@@ -313,11 +333,13 @@ pub fn load_scene(
     materials: &[f32],
     rows: u32,
     lens: [usize; scene::AREAS],
-    columns: &mut [f32],
+    triangles: &mut [f32],
     handles: &mut [u32],
 ) -> Loaded
-    requires { ⌜ (getD lens 0 0 ≤ length (now columns)) × (getD lens 1 0 ≤ length (now handles)) ⌝ }
-    ensures { λ r. ⌜ Loading (firstRefusal settings c (scene (now (meshes .entry)) (now (transforms .entry)) (now (positions .entry)) (now (indices .entry)) (now (materials .entry)) rows) lens) (scene (now (meshes .entry)) (now (transforms .entry)) (now (positions .entry)) (now (indices .entry)) (now (materials .entry)) rows) (now (columns .entry)) (now (handles .entry)) r (now (columns .exit)) (now (handles .exit)) ⌝ }
+    requires { ⌜ (getD lens 0 0 ≤ length (now triangles)) × (getD lens 1 0 ≤ length (now handles)) ⌝ }
+    ensures { λ r.
+        let areas = scene (now (meshes .entry)) (now (transforms .entry)) (now (positions .entry)) (now (indices .entry)) (now (materials .entry)) rows in
+        ⌜ Loading (firstRefusal settings c areas lens) areas (now (triangles .entry)) (now (handles .entry)) r (now (triangles .exit)) (now (handles .exit)) ⌝ }
 {
     let checked = scene::check(
         settings,
@@ -336,7 +358,15 @@ pub fn load_scene(
         }
         Checked::Accepted(n) => n,
     };
-    let placed = triangles_from_scene(meshes, transforms, positions, indices, n, columns, handles);
+    let placed = triangles_from_scene(
+        meshes,
+        transforms,
+        positions,
+        indices,
+        n,
+        triangles,
+        handles,
+    );
     match placed {
         Placed::Far(_) => Loaded::Refused(6),
         Placed::Kept(kept, placings) => Loaded::Triangles(kept, placings, n),

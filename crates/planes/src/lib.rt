@@ -30,149 +30,168 @@ fn fresh_heads() -> [u32; BUCKETS]
     [0u32; BUCKETS]
 }
 
-// STEPS 1 to 3: the patches that are not buried. Their number is returned; id becomes the numbers of the vertices. An area that a step
-// has done with serves the next one: hi holds the grid's cells, next the largest triangles, first the flags.
+// STEPS 1 to 3: the patches that are not buried. Their number is returned; `numbers` becomes the vertices' numbers. An area that a step
+// has done with serves the next one: keys holds the grid's cells, next the largest triangles, first the flags.
 fn open_patches(
-    area: &[f32],
+    triangles: &[f32],
     handles: &[u32],
     n: usize,
     m: usize,
     reach: f32,
     padded: &[f32],
     nodes: &[u32],
-    perm: &[u32],
+    leaf_order: &[u32],
     leaves: &[f32],
     count: usize,
-    hi: &mut [u64],
-    lo: &mut [u64],
+    keys: &mut [u64],
+    low_keys: &mut [u64],
     index: &mut [u32],
     words: &mut [u64],
     scratch: &mut [u64],
-    id: &mut [u32],
+    numbers: &mut [u32],
     first: &mut [u32],
     next: &mut [u32],
     areas: &mut [f32],
-    rows: &mut [f32],
+    plane_floats: &mut [f32],
     of: &mut [u32],
 ) -> usize
-    requires { ⌜ TrianglesLent (now area) (now handles) n m ⌝ }
-    requires { ⌜ OpenRoom n (now hi) (now lo) (now index) (now words) (now scratch) (now id) (now first) (now next) (now areas) (now rows) (now of) ⌝ }
-    requires { ⌜ Held (now padded) (now nodes) (now perm) (now leaves) count ⌝ }
+    requires { ⌜ TrianglesLent (now triangles) (now handles) n m ⌝ }
+    requires { ⌜ OpenRoom n (now keys) (now «low_keys») (now index) (now words) (now scratch) (now numbers) (now first) (now next) (now areas) (now «plane_floats») (now of) ⌝ }
+    requires { ⌜ Held (now padded) (now nodes) (now «leaf_order») (now leaves) count ⌝ }
     requires { ⌜ 0 < count ⌝ }
-    ensures { λ r. ⌜ ((s : groups.Settings) (tri : ℕ → Triangle) (k : Tree) → s .buried ≡ reach → Traced tri k (now (padded .entry)) (now (nodes .entry)) (now (perm .entry)) (now (leaves .entry)) (now (handles .entry)) → patchesIn (now (rows .exit)) (now (of .exit)) m r ≡ openPatchesOf s (probeOf tri k) (trianglesIn (now (area .entry)) (now (handles .entry)) n m)) ⌝ }
+    ensures { λ r.
+        ⌜ ((s : groups.Settings) (tri : ℕ → Triangle) (k : Tree) → s .buried ≡ reach →
+        Traced tri k (now (padded .entry)) (now (nodes .entry)) (now («leaf_order» .entry)) (now (leaves .entry)) (now (handles .entry)) →
+        patchesIn (now («plane_floats» .exit)) (now (of .exit)) m r ≡
+        openPatchesOf s (probeOf tri k) (trianglesIn (now (triangles .entry)) (now (handles .entry)) n m)) ⌝ }
     ensures { λ r. ⌜ (r ≤ m) × Numbered (now (of .exit)) m r ⌝ }
-    ensures { λ _. ⌜ faces.Numbered vertexKey (now (area .entry)) n n (now (id .exit)) ⌝ }
+    ensures { λ _. ⌜ faces.Numbered vertexKey (now (triangles .entry)) n n (now (numbers .exit)) ⌝ }
 {
     let mut heads = fresh_heads();
     faces::duplicates(
-        area,
+        triangles,
         n,
-        &mut hi[..3 * n],
-        &mut lo[..3 * n],
+        &mut keys[..3 * n],
+        &mut low_keys[..3 * n],
         &mut index[..3 * n],
         words,
         scratch,
-        id,
+        numbers,
         first,
     );
-    let np = patches::coplanar_patches(area, handles, n, m, first, hi, &mut heads, next, rows, of);
+    let np = patches::coplanar_patches(
+        triangles,
+        handles,
+        n,
+        m,
+        first,
+        keys,
+        &mut heads,
+        next,
+        plane_floats,
+        of,
+    );
     buried::open_patches(
-        area,
+        triangles,
         handles,
         n,
         m,
         reach,
         padded,
         nodes,
-        perm,
+        leaf_order,
         leaves,
         count,
         np,
         areas,
         next,
         first,
-        rows,
+        plane_floats,
         of,
     )
 }
 
-// STEP 4, and a plane for each group: there are as many as is returned. first becomes the plane of each triangle, linked the planes' words.
+// STEP 4, and a plane for each group: there are as many as is returned. first becomes the plane of each triangle, adjacency the planes' words.
 fn group_planes(
-    area: &[f32],
+    triangles: &[f32],
     handles: &[u32],
     n: usize,
     m: usize,
-    rows: &[f32],
+    plane_floats: &[f32],
     of: &[u32],
     np: usize,
-    id: &[u32],
+    numbers: &[u32],
     on: bool,
     least: f32,
     most: f32,
-    hi: &mut [u64],
+    keys: &mut [u64],
     words: &mut [u64],
     scratch: &mut [u64],
     index: &mut [u32],
     next: &mut [u32],
-    linked: &mut [u32],
-    members: &mut [u32],
+    adjacency: &mut [u32],
+    plane_triangles: &mut [u32],
     first: &mut [u32],
-    kept: &mut [u32],
+    plane_words: &mut [u32],
     queue: &mut [u32],
-    starts: &mut [u32],
-    gfloats: &mut [f32],
+    offsets: &mut [u32],
+    floats: &mut [f32],
 ) -> usize
-    requires { ⌜ TrianglesLent (now area) (now handles) n m ⌝ }
-    requires { ⌜ (np ≤ m) × (patchFloats * np ≤ length (now rows)) × (m ≤ length (now of)) ⌝ }
-    requires { ⌜ (3 * n ≤ length (now id)) × faces.Numbered vertexKey (now area) n n (now id) ⌝ }
-    requires { ⌜ GroupRoom n (now hi) (now words) (now scratch) (now index) (now next) (now linked) (now members) (now first) (now kept) (now queue) (now starts) (now gfloats) ⌝ }
-    ensures { λ r. ⌜ ((s : groups.Settings) → s .mergeOn ≡ on → s .mergeCos ≡ least → s .mergeOffset ≡ most → planesIn (now (gfloats .exit)) (now (linked .exit)) (now (members .exit)) [] r ≡ groupPlanesOf s (trianglesIn (now (area .entry)) (now (handles .entry)) n m) (patchesIn (now (rows .entry)) (now (of .entry)) m np)) ⌝ }
-    ensures { λ r. ⌜ GroupPlanes m r (now (gfloats .exit)) (now (linked .exit)) (now (members .exit)) (now (first .exit)) ⌝ }
+    requires { ⌜ TrianglesLent (now triangles) (now handles) n m ⌝ }
+    requires { ⌜ (np ≤ m) × (patchFloats * np ≤ length (now «plane_floats»)) × (m ≤ length (now of)) ⌝ }
+    requires { ⌜ (3 * n ≤ length (now numbers)) × faces.Numbered vertexKey (now triangles) n n (now numbers) ⌝ }
+    requires { ⌜ GroupRoom n (now keys) (now words) (now scratch) (now index) (now next) (now adjacency) (now «plane_triangles») (now first) (now «plane_words»)
+        (now queue) (now offsets) (now floats) ⌝ }
+    ensures { λ r.
+        ⌜ ((s : groups.Settings) → s .mergeOn ≡ on → s .mergeCos ≡ least → s .mergeOffset ≡ most →
+        planesIn (now (floats .exit)) (now (adjacency .exit)) (now («plane_triangles» .exit)) [] r ≡
+        groupPlanesOf s (trianglesIn (now (triangles .entry)) (now (handles .entry)) n m) (patchesIn (now («plane_floats» .entry)) (now (of .entry)) m np)) ⌝ }
+    ensures { λ r. ⌜ GroupPlanes m r (now (floats .exit)) (now (adjacency .exit)) (now («plane_triangles» .exit)) (now (first .exit)) ⌝ }
 {
     let ng = groups::merge_patches(
-        area,
+        triangles,
         handles,
         n,
         m,
-        rows,
+        plane_floats,
         of,
         np,
-        id,
+        numbers,
         3 * n,
         on,
         least,
         most,
-        hi,
+        keys,
         words,
         scratch,
         index,
         next,
-        linked,
-        members,
+        adjacency,
+        plane_triangles,
         first,
-        kept,
+        plane_words,
         queue,
-        starts,
+        offsets,
     );
     fit::group_planes(
-        area,
+        triangles,
         handles,
         n,
         m,
-        rows,
+        plane_floats,
         of,
         np,
         queue,
-        starts,
+        offsets,
         ng,
         index,
         words,
         scratch,
         first,
-        members,
+        plane_triangles,
         next,
-        gfloats,
-        linked,
+        floats,
+        adjacency,
     );
     ng
 }
@@ -188,113 +207,120 @@ fn fresh() -> [u32; SEATS]
     [0u32; SEATS]
 }
 
-// `build_planes`: the mirror planes of the m triangles of the columns, in the order of their importance; there are as many as is returned.
-// They stand in rows, kept, members and edges (mirror's `plane_at` reads them); what the other areas then hold is not said.
+// `build_planes`: the mirror planes of the m triangles, in the order of their importance; there are as many as is returned.
+// They stand in plane_floats, plane_words, plane_triangles and plane_edges (mirror's `plane_at` reads them); what the other areas then hold is not said.
 pub fn build_planes(
-    area: &[f32],
+    triangles: &[f32],
     handles: &[u32],
     n: usize,
     m: usize,
     settings: Settings,
     padded: &[f32],
     nodes: &[u32],
-    perm: &[u32],
+    leaf_order: &[u32],
     leaves: &[f32],
     count: usize,
-    hi: &mut [u64],
-    lo: &mut [u64],
+    keys: &mut [u64],
+    low_keys: &mut [u64],
     words: &mut [u64],
     scratch: &mut [u64],
     index: &mut [u32],
-    id: &mut [u32],
-    linked: &mut [u32],
+    numbers: &mut [u32],
+    adjacency: &mut [u32],
     queue: &mut [u32],
-    starts: &mut [u32],
-    gfloats: &mut [f32],
-    members: &mut [u32],
-    rows: &mut [f32],
-    kept: &mut [u32],
-    edges: &mut [f32],
+    offsets: &mut [u32],
+    floats: &mut [f32],
+    plane_triangles: &mut [u32],
+    plane_floats: &mut [f32],
+    plane_words: &mut [u32],
+    plane_edges: &mut [f32],
 ) -> usize
-    requires { ⌜ TrianglesLent (now area) (now handles) n m ⌝ }
-    requires { ⌜ Held (now padded) (now nodes) (now perm) (now leaves) count × (0 < count) ⌝ }
-    requires { ⌜ PlanesRoom n (now hi) (now lo) (now words) (now scratch) (now index) (now id) (now linked) (now queue) (now starts) (now members) (now kept) (now rows) (now gfloats) (now edges) ⌝ }
-    ensures { λ r. ⌜ ((tri : ℕ → Triangle) (k : Tree) → Traced tri k (now (padded .entry)) (now (nodes .entry)) (now (perm .entry)) (now (leaves .entry)) (now (handles .entry)) → planesIn (now (rows .exit)) (now (kept .exit)) (now (members .exit)) (now (edges .exit)) r ≡ planesOf (planeSettings settings) (probeOf tri k) (trianglesIn (now (area .entry)) (now (handles .entry)) n m)) ⌝ }
-    ensures { λ r. ⌜ (r ≤ settings .«max_reflection_planes») × PlanesHeld (now (rows .exit)) (now (kept .exit)) (now (members .exit)) (now (edges .exit)) m r ⌝ }
+    requires { ⌜ TrianglesLent (now triangles) (now handles) n m ⌝ }
+    requires { ⌜ Held (now padded) (now nodes) (now «leaf_order») (now leaves) count × (0 < count) ⌝ }
+    requires { ⌜ PlanesRoom n (now keys) (now «low_keys») (now words) (now scratch) (now index) (now numbers) (now adjacency) (now queue) (now offsets)
+        (now «plane_triangles») (now «plane_words») (now «plane_floats») (now floats) (now «plane_edges») ⌝ }
+    ensures { λ r.
+        ⌜ ((tri : ℕ → Triangle) (k : Tree) →
+        Traced tri k (now (padded .entry)) (now (nodes .entry)) (now («leaf_order» .entry)) (now (leaves .entry)) (now (handles .entry)) →
+        planesIn (now («plane_floats» .exit)) (now («plane_words» .exit)) (now («plane_triangles» .exit)) (now («plane_edges» .exit)) r ≡
+        planesOf (planeSettings settings) (probeOf tri k) (trianglesIn (now (triangles .entry)) (now (handles .entry)) n m)) ⌝ }
+    ensures { λ r.
+        ⌜ (r ≤ settings .«max_reflection_planes») ×
+        PlanesHeld (now («plane_floats» .exit)) (now («plane_words» .exit)) (now («plane_triangles» .exit)) (now («plane_edges» .exit)) m r ⌝ }
 {
     let mut first = fresh();
     let mut next = fresh();
     let mut of = fresh();
     let np = open_patches(
-        area,
+        triangles,
         handles,
         n,
         m,
         settings.plane_buried_distance,
         padded,
         nodes,
-        perm,
+        leaf_order,
         leaves,
         count,
-        hi,
-        lo,
+        keys,
+        low_keys,
         index,
         words,
         scratch,
-        id,
+        numbers,
         &mut first,
         &mut next,
-        gfloats,
-        rows,
+        floats,
+        plane_floats,
         &mut of,
     );
     let ng = group_planes(
-        area,
+        triangles,
         handles,
         n,
         m,
-        rows,
+        plane_floats,
         &of,
         np,
-        id,
+        numbers,
         settings.plane_merge,
         settings.plane_merge_cos,
         settings.plane_merge_offset,
-        hi,
+        keys,
         words,
         scratch,
         index,
         &mut next,
-        linked,
-        members,
+        adjacency,
+        plane_triangles,
         &mut first,
-        kept,
+        plane_words,
         queue,
-        starts,
-        gfloats,
+        offsets,
+        floats,
     );
     ranked::ranked_planes(
-        area,
+        triangles,
         handles,
         n,
         m,
         settings.max_reflection_planes as usize,
         &first,
-        gfloats,
-        linked,
-        members,
+        floats,
+        adjacency,
+        plane_triangles,
         ng,
-        hi,
-        lo,
+        keys,
+        low_keys,
         index,
         words,
         scratch,
-        id,
+        numbers,
         queue,
-        starts,
+        offsets,
         &mut next,
-        rows,
-        kept,
-        edges,
+        plane_floats,
+        plane_words,
+        plane_edges,
     )
 }

@@ -43,7 +43,7 @@ use Rattle.answer.specs.declared.Answered.{Answered}
 use Rattle.answer.proofs.Silence.{used-most}
 use Rattle.front.specs.declared.Front.{Front}
 use Rattle.front.specs.Asked.{frontOf, earlyOf, searchOrder}
-use Rattle.query.specs.Areas.{Work, zeroed, lengthsOf}
+use Rattle.query.specs.Areas.{Work, work, zeroed, lengthsOf}
 use Rattle.query.specs.Trace.{silentOf, usedOrder, orderOf, limitOf, queryIn, byRefusal, traceOf, callOf, workAfter, mostRays, Traced}
 
 -- ---- what loading answers
@@ -87,14 +87,15 @@ early-less k e z = absurd (subst T (sym e ∙ ap (λ (j : ℕ). earlyOf j) z) tt
 -- the areas with other columns and handles
 abbrev withScene : Work → List Float → List ℕ → Work
 withScene w columns′ handles′ =
-    record { columns = columns′; handles = handles′; tree = w .tree; nodes = w .nodes; perm = w .perm; hi = w .hi; lo = w .lo; words = w .words; scratch = w .scratch; index = w .index; id = w .id; linked = w .linked; queue = w .queue; starts = w .starts; gfloats = w .gfloats; members = w .members; rows = w .rows; kept = w .kept; edges = w .edges }
+    work columns′ handles′ (w .tree) (w .nodes) (w .leaf-order) (w .keys) (w .low-keys) (w .words) (w .scratch) (w .index) (w .numbers) (w .adjacency) (w .queue) (w .offsets)
+    (w .floats) (w .plane-triangles) (w .plane-floats) (w .plane-words) (w .plane-edges)
 
 -- columns and handles as they were
 pub scene-found :
-    (k : ℕ) (w : Work) (columns′ : List Float) (handles′ : List ℕ) → columns′ ≡ w .columns → handles′ ≡ w .handles → earlyOf k ≡ true →
+    (k : ℕ) (w : Work) (columns′ : List Float) (handles′ : List ℕ) → columns′ ≡ w .triangles → handles′ ≡ w .handles → earlyOf k ≡ true →
     _≡_ {A = Work} (withScene w columns′ handles′) (workAfter k w)
 scene-found k w columns′ handles′ e f early =
-    ap (λ (cs : List Float). withScene w cs handles′) e ∙ ap (λ (hs : List ℕ). withScene w (w .columns) hs) f ∙ sym (ap (λ (b : Bool). cond b w (zeroed w)) early)
+    ap (λ (cs : List Float). withScene w cs handles′) e ∙ ap (λ (hs : List ℕ). withScene w (w .triangles) hs) f ∙ sym (ap (λ (b : Bool). cond b w (zeroed w)) early)
 
 -- and after any other end they are zero
 pub work-cleared : (k : ℕ) (w w′ : Work) → w′ ≡ zeroed w → earlyOf k ≡ false → w′ ≡ workAfter k w

@@ -10,25 +10,25 @@ ghost use Rattle.query.specs.Trace.{Traced};
 // The call. The work areas come first, in the order of docs/AREAS.md, then the output area; c is the candidate room, `rows_count` the rows of the
 // material table.
 pub fn trace_early_reflections(
-    columns: &mut [f32],
+    triangles: &mut [f32],
     handles: &mut [u32],
     tree: &mut [f32],
     nodes: &mut [u32],
-    perm: &mut [u32],
-    hi: &mut [u64],
-    lo: &mut [u64],
+    leaf_order: &mut [u32],
+    keys: &mut [u64],
+    low_keys: &mut [u64],
     words: &mut [u64],
     scratch: &mut [u64],
     index: &mut [u32],
-    id: &mut [u32],
-    linked: &mut [u32],
+    numbers: &mut [u32],
+    adjacency: &mut [u32],
     queue: &mut [u32],
-    starts: &mut [u32],
-    gfloats: &mut [f32],
-    members: &mut [u32],
-    rows: &mut [f32],
-    kept: &mut [u32],
-    edges: &mut [f32],
+    offsets: &mut [u32],
+    floats: &mut [f32],
+    plane_triangles: &mut [u32],
+    plane_floats: &mut [f32],
+    plane_words: &mut [u32],
+    plane_edges: &mut [f32],
     out: &mut [u8],
     settings: Settings,
     c: u32,
@@ -44,35 +44,35 @@ pub fn trace_early_reflections(
 ) -> Answered
     ensures { λ r.
         let s = scene (now (meshes .entry)) (now (transforms .entry)) (now (positions .entry)) (now (indices .entry)) (now (materials .entry)) «rows_count» in
-        let found = work (now (columns .entry)) (now (handles .entry)) (now (tree .entry)) (now (nodes .entry)) (now (perm .entry)) (now (hi .entry))
-        (now (lo .entry)) (now (words .entry)) (now (scratch .entry)) (now (index .entry)) (now (id .entry)) (now (linked .entry))
-        (now (queue .entry)) (now (starts .entry)) (now (gfloats .entry)) (now (members .entry)) (now (rows .entry)) (now (kept .entry))
-        (now (edges .entry)) in
-        let left = work (now (columns .exit)) (now (handles .exit)) (now (tree .exit)) (now (nodes .exit)) (now (perm .exit)) (now (hi .exit)) (now (lo .exit))
-        (now (words .exit)) (now (scratch .exit)) (now (index .exit)) (now (id .exit)) (now (linked .exit)) (now (queue .exit))
-        (now (starts .exit)) (now (gfloats .exit)) (now (members .exit)) (now (rows .exit)) (now (kept .exit)) (now (edges .exit)) in
+        let found = work (now (triangles .entry)) (now (handles .entry)) (now (tree .entry)) (now (nodes .entry)) (now («leaf_order» .entry)) (now (keys .entry))
+        (now («low_keys» .entry)) (now (words .entry)) (now (scratch .entry)) (now (index .entry)) (now (numbers .entry)) (now (adjacency .entry))
+        (now (queue .entry)) (now (offsets .entry)) (now (floats .entry)) (now («plane_triangles» .entry)) (now («plane_floats» .entry)) (now («plane_words» .entry))
+        (now («plane_edges» .entry)) in
+        let left = work (now (triangles .exit)) (now (handles .exit)) (now (tree .exit)) (now (nodes .exit)) (now («leaf_order» .exit)) (now (keys .exit)) (now («low_keys» .exit))
+        (now (words .exit)) (now (scratch .exit)) (now (index .exit)) (now (numbers .exit)) (now (adjacency .exit)) (now (queue .exit))
+        (now (offsets .exit)) (now (floats .exit)) (now («plane_triangles» .exit)) (now («plane_floats» .exit)) (now («plane_words» .exit)) (now («plane_edges» .exit)) in
         ⌜ Traced settings c s source listener separated r (now (out .entry)) (now (out .exit)) found left ⌝ }
 {
     let lens = [
-        columns.len(),
+        triangles.len(),
         handles.len(),
         tree.len(),
         nodes.len(),
-        perm.len(),
-        hi.len(),
-        lo.len(),
+        leaf_order.len(),
+        keys.len(),
+        low_keys.len(),
         words.len(),
         scratch.len(),
         index.len(),
-        id.len(),
-        linked.len(),
+        numbers.len(),
+        adjacency.len(),
         queue.len(),
-        starts.len(),
-        gfloats.len(),
-        members.len(),
-        rows.len(),
-        kept.len(),
-        edges.len(),
+        offsets.len(),
+        floats.len(),
+        plane_triangles.len(),
+        plane_floats.len(),
+        plane_words.len(),
+        plane_edges.len(),
         out.len(),
     ];
     let loaded = placing::load_scene(
@@ -85,7 +85,7 @@ pub fn trace_early_reflections(
         materials,
         rows_count,
         lens,
-        columns,
+        triangles,
         handles,
     );
     let front = front::front_of(loaded);
@@ -93,25 +93,25 @@ pub fn trace_early_reflections(
         return answer::refused(front.refusal);
     }
     answer::answer_loaded(
-        columns,
+        triangles,
         handles,
         tree,
         nodes,
-        perm,
-        hi,
-        lo,
+        leaf_order,
+        keys,
+        low_keys,
         words,
         scratch,
         index,
-        id,
-        linked,
+        numbers,
+        adjacency,
         queue,
-        starts,
-        gfloats,
-        members,
-        rows,
-        kept,
-        edges,
+        offsets,
+        floats,
+        plane_triangles,
+        plane_floats,
+        plane_words,
+        plane_edges,
         out,
         front.refusal,
         front.triples,

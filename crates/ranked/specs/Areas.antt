@@ -55,15 +55,15 @@ pub record RankedRoom (m count : ℕ) (floats : List Float) (words : List ℕ) (
   pub edges-room : edgeFloats * (3 * m) ≤ length edges
 
 -- the edges of all planes, counted
-pub record EdgesRoom (n : ℕ) (hi lo index words scratch id queue starts : List ℕ) : Type 0 where
-  pub hi-room : 3 * n ≤ length hi
-  pub lo-room : 3 * n ≤ length lo
+pub record EdgesRoom (n : ℕ) (keys low-keys index words scratch numbers queue offsets : List ℕ) : Type 0 where
+  pub keys-room : 3 * n ≤ length keys
+  pub low-keys-room : 3 * n ≤ length low-keys
   pub index-room : 3 * n ≤ length index
   pub words-room : 3 * n ≤ length words
   pub scratch-room : 3 * n ≤ length scratch
-  pub id-room : 3 * n ≤ length id
+  pub numbers-room : 3 * n ≤ length numbers
   pub queue-room : 3 * n ≤ length queue
-  pub starts-room : 3 * n ≤ length starts
+  pub offsets-room : 3 * n ≤ length offsets
 
 -- the planes of the groups, each with the triangles that have its number
 pub record GroupPlanes (m ng : ℕ) (gfloats : List Float) (gwords members numbers : List ℕ) : Type 0 where

@@ -110,25 +110,25 @@ rooms t c lens e =
     let none = area 0 0 0 0 in
     let at : (i : ℕ) → i < 20 → leastOf (getD areaTable i none) t c ≤ getD lens i 0 = λ i h. room areaTable lens t c none e i h in
     record {
-      columns-room = omega (arith, at 0 (omega arith));
+      triangles-room = omega (arith, at 0 (omega arith));
       handles-room = omega (arith, at 1 (omega arith));
       tree-room = omega (arith, at 2 (omega arith));
       nodes-room = omega (arith, at 3 (omega arith));
-      perm-room = omega (arith, at 4 (omega arith));
-      hi-room = omega (arith, at 5 (omega arith));
-      lo-room = omega (arith, at 6 (omega arith));
+      leaf-order-room = omega (arith, at 4 (omega arith));
+      keys-room = omega (arith, at 5 (omega arith));
+      low-keys-room = omega (arith, at 6 (omega arith));
       words-room = omega (arith, at 7 (omega arith));
       scratch-room = omega (arith, at 8 (omega arith));
       index-room = omega (arith, at 9 (omega arith));
-      id-room = omega (arith, at 10 (omega arith));
-      linked-room = omega (arith, at 11 (omega arith));
+      numbers-room = omega (arith, at 10 (omega arith));
+      adjacency-room = omega (arith, at 11 (omega arith));
       queue-room = omega (arith, at 12 (omega arith));
-      starts-room = omega (arith, at 13 (omega arith));
-      gfloats-room = omega (arith, at 14 (omega arith));
-      members-room = omega (arith, at 15 (omega arith));
-      rows-room = omega (arith, at 16 (omega arith));
-      kept-room = omega (arith, at 17 (omega arith));
-      edges-room = omega (arith, at 18 (omega arith));
+      offsets-room = omega (arith, at 13 (omega arith));
+      floats-room = omega (arith, at 14 (omega arith));
+      plane-triangles-room = omega (arith, at 15 (omega arith));
+      plane-floats-room = omega (arith, at 16 (omega arith));
+      plane-words-room = omega (arith, at 17 (omega arith));
+      plane-edges-room = omega (arith, at 18 (omega arith));
       output-room = omega (arith, at 19 (omega arith));
     }
 

@@ -31,25 +31,25 @@ area w t c m = record { words = w; triples = t; candidates = c; more = m }
 -- the areas in the order in which their lengths are given; the output is no work area, so its elements count no words
 abbrev pub areaTable : List Area
 areaTable =
-    area 1 columnCount 0 0  -- 0 columns
+    area 1 columnCount 0 0  -- 0 triangles
     ∷ area 1 1 0 0  -- 1 handles
     ∷ area 1 22 0 0  -- 2 tree
     ∷ area 1 8 0 0  -- 3 nodes
-    ∷ area 1 1 0 0  -- 4 perm
-    ∷ area 2 3 1 0  -- 5 hi
-    ∷ area 2 3 0 0  -- 6 lo
+    ∷ area 1 1 0 0  -- 4 leaf_order
+    ∷ area 2 3 1 0  -- 5 keys
+    ∷ area 2 3 0 0  -- 6 low_keys
     ∷ area 2 24 1 0  -- 7 words
     ∷ area 2 24 1 0  -- 8 scratch
     ∷ area 1 3 0 0  -- 9 index
-    ∷ area 1 3 candidateWords 0  -- 10 id
-    ∷ area 1 24 0 0  -- 11 linked
+    ∷ area 1 3 candidateWords 0  -- 10 numbers
+    ∷ area 1 24 0 0  -- 11 adjacency
     ∷ area 1 3 1 0  -- 12 queue
-    ∷ area 1 3 0 1  -- 13 starts
-    ∷ area 1 12 candidateFloats 0  -- 14 gfloats
-    ∷ area 1 1 0 1  -- 15 members
-    ∷ area 1 12 0 0  -- 16 rows
-    ∷ area 1 5 0 0  -- 17 kept
-    ∷ area 1 18 0 0  -- 18 edges
+    ∷ area 1 3 0 1  -- 13 offsets
+    ∷ area 1 12 candidateFloats 0  -- 14 floats
+    ∷ area 1 1 0 1  -- 15 plane_triangles
+    ∷ area 1 12 0 0  -- 16 plane_floats
+    ∷ area 1 5 0 0  -- 17 plane_words
+    ∷ area 1 18 0 0  -- 18 plane_edges
     ∷ area 0 0 0 outputBytes  -- 19 output
     ∷ []
 
@@ -77,27 +77,27 @@ shortOf t c lens = shortIn areaTable t c lens
 
 -- lengths, in the order of the table, that are not short
 pub record Roomy
-    (t c columns handles tree nodes perm hi lo words scratch index id linked queue starts gfloats members rows kept edges output : ℕ)
+    (t c triangles handles tree nodes leaf-order keys low-keys words scratch index numbers adjacency queue offsets floats plane-triangles plane-floats plane-words plane-edges output : ℕ)
     : Type 0 where
-  pub columns-room : columnCount * t ≤ columns
+  pub triangles-room : columnCount * t ≤ triangles
   pub handles-room : t ≤ handles
   pub tree-room : 22 * t ≤ tree
   pub nodes-room : 8 * t ≤ nodes
-  pub perm-room : t ≤ perm
-  pub hi-room : 3 * t + c ≤ hi
-  pub lo-room : 3 * t ≤ lo
+  pub leaf-order-room : t ≤ leaf-order
+  pub keys-room : 3 * t + c ≤ keys
+  pub low-keys-room : 3 * t ≤ low-keys
   pub words-room : 24 * t + c ≤ words
   pub scratch-room : 24 * t + c ≤ scratch
   pub index-room : 3 * t ≤ index
-  pub id-room : 3 * t + candidateWords * c ≤ id
-  pub linked-room : 24 * t ≤ linked
+  pub numbers-room : 3 * t + candidateWords * c ≤ numbers
+  pub adjacency-room : 24 * t ≤ adjacency
   pub queue-room : 3 * t + c ≤ queue
-  pub starts-room : 3 * t + 1 ≤ starts
-  pub gfloats-room : 12 * t + candidateFloats * c ≤ gfloats
-  pub members-room : t + 1 ≤ members
-  pub rows-room : 12 * t ≤ rows
-  pub kept-room : 5 * t ≤ kept
-  pub edges-room : 18 * t ≤ edges
+  pub offsets-room : 3 * t + 1 ≤ offsets
+  pub floats-room : 12 * t + candidateFloats * c ≤ floats
+  pub plane-triangles-room : t + 1 ≤ plane-triangles
+  pub plane-floats-room : 12 * t ≤ plane-floats
+  pub plane-words-room : 5 * t ≤ plane-words
+  pub plane-edges-room : 18 * t ≤ plane-edges
   pub output-room : outputBytes ≤ output
 
 -- the same of a list of lengths

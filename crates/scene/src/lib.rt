@@ -44,74 +44,74 @@ pub const AREAS: usize = 20;
 
 // The least length of each area: so much a triple,
 pub const TRIPLES: [usize; AREAS] = [
-    columns::COLUMNS, // columns
+    columns::COLUMNS, // triangles
     1, // handles
     22, // tree
     8, // nodes
-    1, // perm
-    3, // hi
-    3, // lo
+    1, // leaf_order
+    3, // keys
+    3, // low_keys
     24, // words
     24, // scratch
     3, // index
-    3, // id
-    24, // linked
+    3, // numbers
+    24, // adjacency
     3, // queue
-    3, // starts
-    12, // gfloats
-    1, // members
-    12, // rows
-    5, // kept
-    18, // edges
-    0, // output
+    3, // offsets
+    12, // floats
+    1, // plane_triangles
+    12, // plane_floats
+    5, // plane_words
+    18, // plane_edges
+    0, // out
 ];
 
 // so much a candidate,
 pub const CANDIDATES: [usize; AREAS] = [
-    0, // columns
+    0, // triangles
     0, // handles
     0, // tree
     0, // nodes
-    0, // perm
-    1, // hi
-    0, // lo
+    0, // leaf_order
+    1, // keys
+    0, // low_keys
     1, // words
     1, // scratch
     0, // index
-    2, // id
-    0, // linked
+    2, // numbers
+    0, // adjacency
     1, // queue
-    0, // starts
-    13, // gfloats
-    0, // members
-    0, // rows
-    0, // kept
-    0, // edges
-    0, // output
+    0, // offsets
+    13, // floats
+    0, // plane_triangles
+    0, // plane_floats
+    0, // plane_words
+    0, // plane_edges
+    0, // out
 ];
 
 // and so much more.
 pub const MORE: [usize; AREAS] = [
-    0, // columns
+    0, // triangles
     0, // handles
     0, // tree
     0, // nodes
-    0, // perm
-    0, // hi
-    0, // lo
+    0, // leaf_order
+    0, // keys
+    0, // low_keys
     0, // words
     0, // scratch
     0, // index
-    0, // id
-    0, // linked
+    0, // numbers
+    0, // adjacency
     0, // queue
-    1, // starts
-    0, // gfloats
-    1, // members
-    0, // rows
-    0, // kept
-    0, // edges
-    3465, // output
+    1, // offsets
+    0, // floats
+    1, // plane_triangles
+    0, // plane_floats
+    0, // plane_words
+    0, // plane_edges
+    3465, // out
 ];
 
 // ---- 1, the settings
@@ -362,7 +362,9 @@ pub fn check(
     rows: u32,
     lens: [usize; AREAS],
 ) -> Checked
-    ensures { λ r. ⌜ r ≡ checkOf settings c (scene (now (meshes .entry)) (now (transforms .entry)) (now (positions .entry)) (now (indices .entry)) (now (materials .entry)) rows) lens ⌝ }
+    ensures { λ r.
+        ⌜ r ≡ checkOf settings c
+        (scene (now (meshes .entry)) (now (transforms .entry)) (now (positions .entry)) (now (indices .entry)) (now (materials .entry)) rows) lens ⌝ }
 {
     if within_limits(settings, c) {
         if lengths_right(

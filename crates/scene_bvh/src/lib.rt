@@ -17,13 +17,13 @@ pub fn clear_from(handles: &mut [u32], m: usize)
 
 // The tree of the first m triangles of columns of n triples, with handles that `clear_from` made ready. The answer is the count of nodes.
 pub fn scene_bvh(
-    columns: &[f32],
+    triangles: &[f32],
     handles: &[u32],
     n: usize,
     m: usize,
     extents: &mut [f32],
     keys: &mut [u64],
-    perm: &mut [u32],
+    leaf_order: &mut [u32],
     words: &mut [u64],
     scratch: &mut [u64],
     areas: &mut [f32],
@@ -31,16 +31,20 @@ pub fn scene_bvh(
     nodes: &mut [u32],
     tree: &mut [f32],
 ) -> usize
-    requires { ⌜ Roomy (now columns) (now handles) n m (now extents) (now keys) (now perm) (now words) (now scratch) (now areas) (now boxes) (now nodes) (now tree) ⌝ }
-    ensures { λ r. ⌜ ((s : Scene) (found : List ℕ) → SceneLoaded s (now (columns .entry)) found n m → now (handles .entry) ≡ clearedFrom m found → SceneTree s (now (columns .entry)) (now (handles .entry)) n m (paddedIn m (now (tree .exit))) (now (nodes .exit)) (take m (now (perm .exit))) (rowsIn m (now (tree .exit))) r) ⌝ }
+    requires { ⌜ Roomy (now triangles) (now handles) n m (now extents) (now keys) (now «leaf_order») (now words) (now scratch) (now areas) (now boxes) (now nodes)
+        (now tree) ⌝ }
+    ensures { λ r.
+        ⌜ ((s : Scene) (found : List ℕ) → SceneLoaded s (now (triangles .entry)) found n m → now (handles .entry) ≡ clearedFrom m found →
+        SceneTree s (now (triangles .entry)) (now (handles .entry)) n m (paddedIn m (now (tree .exit))) (now (nodes .exit))
+        (take m (now («leaf_order» .exit))) (rowsIn m (now (tree .exit))) r) ⌝ }
 {
     bvh::build_flat_bvh(
-        columns,
+        triangles,
         handles,
         n,
         extents,
         keys,
-        &mut perm[..m],
+        &mut leaf_order[..m],
         words,
         scratch,
         areas,

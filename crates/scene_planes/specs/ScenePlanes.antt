@@ -26,15 +26,15 @@ planesFor st ts = planesOf (planeSettings st) (probeOf (triangleAt ts) (treeOf t
 -- ---- what is asked
 
 -- what the tree takes beside the areas of the planes, for columns of n triples: padded boxes and rows of the leaves' triangles, links, leaf order
-pub record TreeRoom (n : ℕ) (tree : List Float) (nodes perm : List ℕ) : Type 0 where
+pub record TreeRoom (n : ℕ) (tree : List Float) (nodes leaf-order : List ℕ) : Type 0 where
   pub tree-room : 22 * n ≤ length tree
   pub nodes-room : 8 * n ≤ length nodes
-  pub perm-room : n ≤ length perm
+  pub leaf-order-room : n ≤ length leaf-order
 
 -- the columns and handles are those of some scene with a triangle, the handles past its triangles 0, and there is room for its tree and its planes
 pub record PlanesReady
-    (n m : ℕ) (columns : List Float) (handles : List ℕ) (tree : List Float) (nodes perm hi lo words scratch index id linked queue starts members kept : List ℕ)
-    (rows gfloats edges : List Float)
+    (n m : ℕ) (columns : List Float) (handles : List ℕ) (tree : List Float) (nodes leaf-order keys low-keys words scratch index numbers adjacency queue offsets plane-triangles plane-words : List ℕ)
+    (plane-floats floats plane-edges : List Float)
     : Type 0 where
   pub scene : Scene
   pub found : List ℕ
@@ -42,25 +42,25 @@ pub record PlanesReady
   pub cleared : handles ≡ clearedFrom m found
   pub some : 0 < m
   pub lent : TrianglesLent columns handles n m
-  pub for-tree : TreeRoom n tree nodes perm
-  pub for-planes : PlanesRoom n hi lo words scratch index id linked queue starts members kept rows gfloats edges
+  pub for-tree : TreeRoom n tree nodes leaf-order
+  pub for-planes : PlanesRoom n keys low-keys words scratch index numbers adjacency queue offsets plane-triangles plane-words plane-floats floats plane-edges
 
 -- ---- what then stands in the areas
 
 -- r planes: those of the scene that was loaded
 pub record PlanesStand
-    (st : Settings) (n m : ℕ) (columns : List Float) (handles : List ℕ) (rows : List Float) (kept members : List ℕ) (edges : List Float) (r : ℕ)
+    (st : Settings) (n m : ℕ) (columns : List Float) (handles : List ℕ) (plane-floats : List Float) (plane-words plane-triangles : List ℕ) (plane-edges : List Float) (r : ℕ)
     : Type 0 where
-  pub are : (s : Scene) (found : List ℕ) → SceneLoaded s columns found n m → handles ≡ clearedFrom m found → planesIn rows kept members edges r ≡ planesFor st (triangles s)
+  pub are : (s : Scene) (found : List ℕ) → SceneLoaded s columns found n m → handles ≡ clearedFrom m found → planesIn plane-floats plane-words plane-triangles plane-edges r ≡ planesFor st (triangles s)
   pub most : r ≤ st .«max_reflection_planes»
-  pub held : PlanesHeld rows kept members edges m r
+  pub held : PlanesHeld plane-floats plane-words plane-triangles plane-edges m r
 
 -- the tree of the scene that was loaded, its triangles, and its planes. What stands in these areas beside them, and in the others, is open: a step serves
 -- itself of areas that earlier ones are done with
 pub record SceneBuilt
-    (st : Settings) (n m : ℕ) (columns : List Float) (handles : List ℕ) (tree : List Float) (nodes perm : List ℕ) (rows : List Float) (kept members : List ℕ)
-    (edges : List Float) (r : Built)
+    (st : Settings) (n m : ℕ) (columns : List Float) (handles : List ℕ) (tree : List Float) (nodes leaf-order : List ℕ) (plane-floats : List Float) (plane-words plane-triangles : List ℕ)
+    (plane-edges : List Float) (r : Built)
     : Type 0 where
   pub tree-stands : (s : Scene) (found : List ℕ) → SceneLoaded s columns found n m → handles ≡ clearedFrom m found →
-      SceneTree s columns handles n m (paddedIn m tree) nodes (take m perm) (rowsIn m tree) (r .nodes)
-  pub planes-stand : PlanesStand st n m columns handles rows kept members edges (r .planes)
+      SceneTree s columns handles n m (paddedIn m tree) nodes (take m leaf-order) (rowsIn m tree) (r .nodes)
+  pub planes-stand : PlanesStand st n m columns handles plane-floats plane-words plane-triangles plane-edges (r .planes)

@@ -9,80 +9,80 @@ pub struct Built {
     pub planes: usize,
 }
 
-// Tree and planes of a loaded scene of at least one triangle, its handles made ready by `clear_from`. The tree stands in tree, nodes and perm, the
-// planes in rows, kept, members and edges; what the other areas then hold is not said. Areas of the planes serve the tree before: hi holds the keys of
-// the three axes, rows the triangles' boxes, edges their surface areas, gfloats the boxes of the nodes.
+// Tree and planes of a loaded scene of at least one triangle, its handles made ready by `clear_from`. The tree stands in tree, nodes and leaf_order,
+// the planes in plane_floats, plane_words, plane_triangles and plane_edges; what the other areas then hold is not said. Areas of the planes serve the tree
+// before: keys holds those of the three axes, plane_floats the triangles' boxes, plane_edges their surface areas, floats the boxes of the nodes.
 pub fn build_scene(
     tree: &mut [f32],
     nodes: &mut [u32],
-    perm: &mut [u32],
-    hi: &mut [u64],
-    lo: &mut [u64],
+    leaf_order: &mut [u32],
+    keys: &mut [u64],
+    low_keys: &mut [u64],
     words: &mut [u64],
     scratch: &mut [u64],
     index: &mut [u32],
-    id: &mut [u32],
-    linked: &mut [u32],
+    numbers: &mut [u32],
+    adjacency: &mut [u32],
     queue: &mut [u32],
-    starts: &mut [u32],
-    gfloats: &mut [f32],
-    members: &mut [u32],
-    rows: &mut [f32],
-    kept: &mut [u32],
-    edges: &mut [f32],
-    columns: &[f32],
+    offsets: &mut [u32],
+    floats: &mut [f32],
+    plane_triangles: &mut [u32],
+    plane_floats: &mut [f32],
+    plane_words: &mut [u32],
+    plane_edges: &mut [f32],
+    triangles: &[f32],
     handles: &[u32],
     n: usize,
     m: usize,
     settings: Settings,
 ) -> Built
-    requires { ⌜ PlanesReady n m (now columns) (now handles) (now tree) (now nodes) (now perm) (now hi) (now lo) (now words) (now scratch)
-        (now index) (now id) (now linked) (now queue) (now starts) (now members) (now kept) (now rows) (now gfloats) (now edges) ⌝ }
-    ensures { λ r. ⌜ SceneBuilt settings n m (now (columns .entry)) (now (handles .entry)) (now (tree .exit)) (now (nodes .exit)) (now (perm .exit))
-        (now (rows .exit)) (now (kept .exit)) (now (members .exit)) (now (edges .exit)) r ⌝ }
+    requires { ⌜ PlanesReady n m (now triangles) (now handles) (now tree) (now nodes) (now «leaf_order») (now keys) (now «low_keys») (now words) (now scratch)
+        (now index) (now numbers) (now adjacency) (now queue) (now offsets) (now «plane_triangles») (now «plane_words») (now «plane_floats») (now floats) (now «plane_edges») ⌝ }
+    ensures { λ r. ⌜ SceneBuilt settings n m (now (triangles .entry)) (now (handles .entry)) (now (tree .exit)) (now (nodes .exit)) (now («leaf_order» .exit))
+        (now («plane_floats» .exit)) (now («plane_words» .exit)) (now («plane_triangles» .exit)) (now («plane_edges» .exit)) r ⌝ }
 {
     let nodes_count = scene_bvh::scene_bvh(
-        columns,
+        triangles,
         handles,
         n,
         m,
-        rows,
-        hi,
-        perm,
+        plane_floats,
+        keys,
+        leaf_order,
         words,
         scratch,
-        edges,
-        gfloats,
+        plane_edges,
+        floats,
         nodes,
         tree,
     );
     let from = 12 * m;
     let to = 22 * m;
     let planes = planes::build_planes(
-        columns,
+        triangles,
         handles,
         n,
         m,
         settings,
         &tree[0..from],
         nodes,
-        &perm[..m],
+        &leaf_order[..m],
         &tree[from..to],
         nodes_count,
-        hi,
-        lo,
+        keys,
+        low_keys,
         words,
         scratch,
         index,
-        id,
-        linked,
+        numbers,
+        adjacency,
         queue,
-        starts,
-        gfloats,
-        members,
-        rows,
-        kept,
-        edges,
+        offsets,
+        floats,
+        plane_triangles,
+        plane_floats,
+        plane_words,
+        plane_edges,
     );
     Built {
         nodes: nodes_count,

@@ -67,13 +67,23 @@ pub struct Found {
 // ---- one image more
 
 // Whether plane `p` may stand at place `depth`.
-fn may(floats: &[f32], words: &[u32], q: Task, seq: &[u32], depth: usize, p: usize) -> bool
+fn may(
+    plane_floats: &[f32],
+    plane_words: &[u32],
+    q: Task,
+    seq: &[u32],
+    depth: usize,
+    p: usize,
+) -> bool
     requires { ⌜ (depth ≤ length (now seq)) × (p < q .count) ⌝ }
-    requires { ⌜ (planeFloats * q .count ≤ length (now floats)) × (planeWords * q .count ≤ length (now words)) ⌝ }
-    ensures { λ r. ⌜ ((members : List ℕ) (edges : List Float) → r ≡ spec.may (onOf (planesIn (now (floats .entry)) (now (words .entry)) members edges (q .count)) (q .source)) (take depth (now (seq .entry))) p) ⌝ }
+    requires { ⌜ (planeFloats * q .count ≤ length (now «plane_floats»)) × (planeWords * q .count ≤ length (now «plane_words»)) ⌝ }
+    ensures { λ r.
+        ⌜ ((members : List ℕ) (edges : List Float) →
+        r ≡ spec.may (onOf (planesIn (now («plane_floats» .entry)) (now («plane_words» .entry)) members edges (q .count)) (q .source))
+        (take depth (now (seq .entry))) p) ⌝ }
 {
     if depth == 0 {
-        !bounces::lies_on(floats, words, p, q.source)
+        !bounces::lies_on(plane_floats, plane_words, p, q.source)
     } else {
         seq[depth - 1] as usize != p
     }
@@ -91,8 +101,8 @@ pub fn put_point(l: &mut [f32], at: usize, v: Vec3)
 
 // Puts plane `p` and its image at place `depth`.
 fn push(
-    floats: &[f32],
-    words: &[u32],
+    plane_floats: &[f32],
+    plane_words: &[u32],
     count: usize,
     depth: usize,
     p: usize,
@@ -100,16 +110,18 @@ fn push(
     images: &mut [f32],
 )
     requires { ⌜ (depth < length (now seq)) × (pointFloats * (depth + 2) ≤ length (now images)) × (p < count) × (count ≤ spec.mostPlanes) ⌝ }
-    requires { ⌜ (planeFloats * count ≤ length (now floats)) × (planeWords * count ≤ length (now words)) ⌝ }
+    requires { ⌜ (planeFloats * count ≤ length (now «plane_floats»)) × (planeWords * count ≤ length (now «plane_words»)) ⌝ }
     ensures { λ _. ⌜ now (seq .exit) ≡ set (now (seq .entry)) depth p ⌝ }
-    ensures { λ _. ⌜ ((members : List ℕ) (edges : List Float) → now (images .exit) ≡ pointPut (now (images .entry)) (pointFloats * (depth + 1)) (mirrorOf (planeAt (planesIn (now (floats .entry)) (now (words .entry)) members edges count) p) (pointIn (now (images .entry)) depth))) ⌝ }
+    ensures { λ _.
+        ⌜ ((members : List ℕ) (edges : List Float) → now (images .exit) ≡ pointPut (now (images .entry)) (pointFloats * (depth + 1)) (mirrorOf
+        (planeAt (planesIn (now («plane_floats» .entry)) (now («plane_words» .entry)) members edges count) p) (pointIn (now (images .entry)) depth))) ⌝ }
 {
     let from = mirror::vec_in(images, POINT_FLOATS * depth);
     seq[depth] = p as u32;
     put_point(
         images,
         POINT_FLOATS * (depth + 1),
-        bounces::next_image(floats, words, p, from),
+        bounces::next_image(plane_floats, plane_words, p, from),
     );
 }
 
@@ -163,13 +175,15 @@ fn keep(
     rays: u32,
     c: PathCandidate,
     t: Tally,
-    fs: &mut [f32],
-    ws: &mut [u32],
+    candidate_floats: &mut [f32],
+    candidate_words: &mut [u32],
 ) -> Tally
     requires { ⌜ (len ≤ maxOrder) × (t .found ≤ room) ⌝ }
     requires { ⌜ (t .nodes < spec.most) × (t .rays + rays < 4294967296) ⌝ }
-    requires { ⌜ Rows room (now fs) (now ws) ⌝ }
-    ensures { λ r. ⌜ Kept room len rays c t (now (fs .entry)) (now (ws .entry)) r (now (fs .exit)) (now (ws .exit)) ⌝ }
+    requires { ⌜ Rows room (now «candidate_floats») (now «candidate_words») ⌝ }
+    ensures { λ r.
+        ⌜ Kept room len rays c t (now («candidate_floats» .entry)) (now («candidate_words» .entry)) r (now («candidate_floats» .exit))
+        (now («candidate_words» .exit)) ⌝ }
 {
     if t.found < room {
         let direction = c.direction;
@@ -182,7 +196,7 @@ fn keep(
             gains,
             number: t.nodes + 1,
         };
-        ranking::put_candidate(fs, ws, t.found, tap);
+        ranking::put_candidate(candidate_floats, candidate_words, t.found, tap);
         return counted(t, rays, t.found + 1, t.over);
     }
     counted(t, rays, t.found, 1)
@@ -225,40 +239,46 @@ fn all_points(images: &[f32]) -> [Vec3; 9]
 fn judge(
     padded: &[f32],
     nodes: &[u32],
-    perm: &[u32],
-    rows: &[f32],
+    leaf_order: &[u32],
+    leaves: &[f32],
     handles: &[u32],
     materials: &[f32],
-    columns: &[f32],
-    floats: &[f32],
-    words: &[u32],
-    members: &[u32],
-    edges: &[f32],
+    triangles: &[f32],
+    plane_floats: &[f32],
+    plane_words: &[u32],
+    plane_triangles: &[u32],
+    plane_edges: &[f32],
     q: Task,
     len: usize,
     t: Tally,
     seq: &[u32],
     images: &[f32],
-    fs: &mut [f32],
-    ws: &mut [u32],
+    candidate_floats: &mut [f32],
+    candidate_words: &mut [u32],
 ) -> Tally
-    requires { ⌜ Visitable (scene (now padded) (now nodes) (now perm) (now rows) (now handles) (now materials) (now columns) (now floats) (now words) (now members) (now edges)) q len (state (now seq) (now images) t) (now fs) (now ws) ⌝ }
-    ensures { λ r. ⌜ Visited (scene (now (padded .entry)) (now (nodes .entry)) (now (perm .entry)) (now (rows .entry)) (now (handles .entry)) (now (materials .entry)) (now (columns .entry)) (now (floats .entry)) (now (words .entry)) (now (members .entry)) (now (edges .entry))) q len (now (seq .entry)) t (now (fs .entry)) (now (ws .entry)) r (now (fs .exit)) (now (ws .exit)) ⌝ }
+    requires { ⌜ Visitable (scene (now padded) (now nodes) (now «leaf_order») (now leaves) (now handles) (now materials) (now triangles) (now «plane_floats»)
+        (now «plane_words») (now «plane_triangles») (now «plane_edges»)) q len (state (now seq) (now images) t) (now «candidate_floats»)
+        (now «candidate_words») ⌝ }
+    ensures { λ r.
+        ⌜ Visited (scene (now (padded .entry)) (now (nodes .entry)) (now («leaf_order» .entry)) (now (leaves .entry)) (now (handles .entry))
+        (now (materials .entry)) (now (triangles .entry)) (now («plane_floats» .entry)) (now («plane_words» .entry)) (now («plane_triangles» .entry))
+        (now («plane_edges» .entry))) q len (now (seq .entry)) t (now («candidate_floats» .entry)) (now («candidate_words» .entry)) r
+        (now («candidate_floats» .exit)) (now («candidate_words» .exit)) ⌝ }
 {
     let v = paths::validate_image_path(
         padded,
         nodes,
-        perm,
-        rows,
+        leaf_order,
+        leaves,
         handles,
         q.nodes_count,
         materials,
-        columns,
+        triangles,
         q.n,
-        floats,
-        words,
-        members,
-        edges,
+        plane_floats,
+        plane_words,
+        plane_triangles,
+        plane_edges,
         q.count,
         q.settings,
         all_planes(seq),
@@ -271,7 +291,7 @@ fn judge(
     let Fate::Passed(c) = fate else {
         return counted(t, v.rays, t.found, t.over);
     };
-    keep(q.room, len, v.rays, c, t, fs, ws)
+    keep(q.room, len, v.rays, c, t, candidate_floats, candidate_words)
 }
 
 // Whether the square of the distance from the listener to an image is above `beyond`: no root is taken.
@@ -292,30 +312,32 @@ fn too_far(images: &[f32], len: usize, listener: Vec3, beyond: f32) -> bool
 
 // Whether all bounces of the path of the first `len` planes are made. Of nearly every path one fails.
 fn made(
-    columns: &[f32],
+    triangles: &[f32],
     n: usize,
-    floats: &[f32],
-    words: &[u32],
-    members: &[u32],
-    edges: &[f32],
+    plane_floats: &[f32],
+    plane_words: &[u32],
+    plane_triangles: &[u32],
+    plane_edges: &[f32],
     count: usize,
     seq: &[u32],
     images: &[f32],
     len: usize,
     listener: Vec3,
 ) -> bool
-    requires { ⌜ PlanesLent (now columns) n (now floats) (now words) (now members) (now edges) count ⌝ }
+    requires { ⌜ PlanesLent (now triangles) n (now «plane_floats») (now «plane_words») (now «plane_triangles») (now «plane_edges») count ⌝ }
     requires { ⌜ (len ≤ length (now seq)) × (pointFloats * len + pointFloats ≤ length (now images)) ⌝ }
     requires { ⌜ ((j : ℕ) → j < len → getD (now seq) j 0 < count) ⌝ }
-    ensures { λ r. ⌜ (r ≡ false → Lost (now (columns .entry)) n (now (floats .entry)) (now (words .entry)) (now (members .entry)) (now (edges .entry)) count (now (seq .entry)) (now (images .entry)) len listener) ⌝ }
+    ensures { λ r.
+        ⌜ (r ≡ false → Lost (now (triangles .entry)) n (now («plane_floats» .entry)) (now («plane_words» .entry)) (now («plane_triangles» .entry))
+        (now («plane_edges» .entry)) count (now (seq .entry)) (now (images .entry)) len listener) ⌝ }
 {
     let fate = bounces::fate_back(
-        columns,
+        triangles,
         n,
-        floats,
-        words,
-        members,
-        edges,
+        plane_floats,
+        plane_words,
+        plane_triangles,
+        plane_edges,
         count,
         seq,
         images,
@@ -332,33 +354,39 @@ fn made(
 fn visit(
     padded: &[f32],
     nodes: &[u32],
-    perm: &[u32],
-    rows: &[f32],
+    leaf_order: &[u32],
+    leaves: &[f32],
     handles: &[u32],
     materials: &[f32],
-    columns: &[f32],
-    floats: &[f32],
-    words: &[u32],
-    members: &[u32],
-    edges: &[f32],
+    triangles: &[f32],
+    plane_floats: &[f32],
+    plane_words: &[u32],
+    plane_triangles: &[u32],
+    plane_edges: &[f32],
     q: Task,
     len: usize,
     t: Tally,
     seq: &[u32],
     images: &[f32],
-    fs: &mut [f32],
-    ws: &mut [u32],
+    candidate_floats: &mut [f32],
+    candidate_words: &mut [u32],
 ) -> Tally
-    requires { ⌜ Visitable (scene (now padded) (now nodes) (now perm) (now rows) (now handles) (now materials) (now columns) (now floats) (now words) (now members) (now edges)) q len (state (now seq) (now images) t) (now fs) (now ws) ⌝ }
-    ensures { λ r. ⌜ Visited (scene (now (padded .entry)) (now (nodes .entry)) (now (perm .entry)) (now (rows .entry)) (now (handles .entry)) (now (materials .entry)) (now (columns .entry)) (now (floats .entry)) (now (words .entry)) (now (members .entry)) (now (edges .entry))) q len (now (seq .entry)) t (now (fs .entry)) (now (ws .entry)) r (now (fs .exit)) (now (ws .exit)) ⌝ }
+    requires { ⌜ Visitable (scene (now padded) (now nodes) (now «leaf_order») (now leaves) (now handles) (now materials) (now triangles) (now «plane_floats»)
+        (now «plane_words») (now «plane_triangles») (now «plane_edges»)) q len (state (now seq) (now images) t) (now «candidate_floats»)
+        (now «candidate_words») ⌝ }
+    ensures { λ r.
+        ⌜ Visited (scene (now (padded .entry)) (now (nodes .entry)) (now («leaf_order» .entry)) (now (leaves .entry)) (now (handles .entry))
+        (now (materials .entry)) (now (triangles .entry)) (now («plane_floats» .entry)) (now («plane_words» .entry)) (now («plane_triangles» .entry))
+        (now («plane_edges» .entry))) q len (now (seq .entry)) t (now («candidate_floats» .entry)) (now («candidate_words» .entry)) r
+        (now («candidate_floats» .exit)) (now («candidate_words» .exit)) ⌝ }
 {
     if made(
-        columns,
+        triangles,
         q.n,
-        floats,
-        words,
-        members,
-        edges,
+        plane_floats,
+        plane_words,
+        plane_triangles,
+        plane_edges,
         q.count,
         seq,
         images,
@@ -368,22 +396,22 @@ fn visit(
         return judge(
             padded,
             nodes,
-            perm,
-            rows,
+            leaf_order,
+            leaves,
             handles,
             materials,
-            columns,
-            floats,
-            words,
-            members,
-            edges,
+            triangles,
+            plane_floats,
+            plane_words,
+            plane_triangles,
+            plane_edges,
             q,
             len,
             t,
             seq,
             images,
-            fs,
-            ws,
+            candidate_floats,
+            candidate_words,
         );
     }
     passed_over(t)
@@ -394,8 +422,8 @@ fn visit(
 // From plane `from` on to the first whose image at the last place is not too far; those too far are visited here. Nearly all images of a search may
 // be such: so no plane and no image is stored, and no function is handed more than it reads.
 fn next_near(
-    floats: &[f32],
-    words: &[u32],
+    plane_floats: &[f32],
+    plane_words: &[u32],
     q: Task,
     seq: &[u32],
     images: &[f32],
@@ -404,8 +432,12 @@ fn next_near(
     t: Tally,
 ) -> Near
     requires { ⌜ (depth < length (now seq)) × (pointFloats * (depth + 1) ≤ length (now images)) × (from ≤ q .count) × (q .limit ≤ spec.most) ⌝ }
-    requires { ⌜ (planeFloats * q .count ≤ length (now floats)) × (planeWords * q .count ≤ length (now words)) ⌝ }
-    ensures { λ r. ⌜ ((padded : List Float) (nodes₁ : List ℕ) (perm : List ℕ) (rows : List Float) (handles : List ℕ) (materials : List Float) (columns : List Float) (members : List ℕ) (edges : List Float) → Skipped (scene padded nodes₁ perm rows handles materials columns (now (floats .entry)) (now (words .entry)) members edges) q depth (now (seq .entry)) (now (images .entry)) from t (r .plane) (r .tally)) ⌝ }
+    requires { ⌜ (planeFloats * q .count ≤ length (now «plane_floats»)) × (planeWords * q .count ≤ length (now «plane_words»)) ⌝ }
+    ensures { λ r.
+        ⌜ ((padded : List Float) (nodes₁ : List ℕ) (perm : List ℕ) (rows : List Float) (handles : List ℕ) (materials : List Float) (columns : List Float)
+        (members : List ℕ) (edges : List Float) →
+        Skipped (scene padded nodes₁ perm rows handles materials columns (now («plane_floats» .entry)) (now («plane_words» .entry)) members edges) q depth
+        (now (seq .entry)) (now (images .entry)) from t (r .plane) (r .tally)) ⌝ }
 {
     let image = mirror::vec_in(images, POINT_FLOATS * depth);
     let mut s = t;
@@ -416,8 +448,8 @@ fn next_near(
         if q.limit <= s.nodes {
             continue;
         }
-        if may(floats, words, q, seq, depth, at) {
-            let next = bounces::next_image(floats, words, at, image);
+        if may(plane_floats, plane_words, q, seq, depth, at) {
+            let next = bounces::next_image(plane_floats, plane_words, at, image);
             if far(q.listener, next, q.beyond) {
                 s = passed_over(s);
                 continue;
@@ -435,45 +467,53 @@ fn next_near(
 fn last_planes(
     padded: &[f32],
     nodes: &[u32],
-    perm: &[u32],
-    rows: &[f32],
+    leaf_order: &[u32],
+    leaves: &[f32],
     handles: &[u32],
     materials: &[f32],
-    columns: &[f32],
-    floats: &[f32],
-    words: &[u32],
-    members: &[u32],
-    edges: &[f32],
+    triangles: &[f32],
+    plane_floats: &[f32],
+    plane_words: &[u32],
+    plane_triangles: &[u32],
+    plane_edges: &[f32],
     q: Task,
     depth: usize,
     t: Tally,
     seq: &mut [u32],
     images: &mut [f32],
-    fs: &mut [f32],
-    ws: &mut [u32],
+    candidate_floats: &mut [f32],
+    candidate_words: &mut [u32],
 ) -> Tally
     requires { ⌜ depth + 1 ≡ q .order ⌝ }
-    requires { ⌜ Ready (scene (now padded) (now nodes) (now perm) (now rows) (now handles) (now materials) (now columns) (now floats) (now words) (now members) (now edges)) q depth (state (now seq) (now images) t) (now fs) (now ws) ⌝ }
-    ensures { λ r. ⌜ Walked (scene (now (padded .entry)) (now (nodes .entry)) (now (perm .entry)) (now (rows .entry)) (now (handles .entry)) (now (materials .entry)) (now (columns .entry)) (now (floats .entry)) (now (words .entry)) (now (members .entry)) (now (edges .entry))) q depth (spec.below (firstsOf (scene (now (padded .entry)) (now (nodes .entry)) (now (perm .entry)) (now (rows .entry)) (now (handles .entry)) (now (materials .entry)) (now (columns .entry)) (now (floats .entry)) (now (words .entry)) (now (members .entry)) (now (edges .entry))) q) (q .order - depth) (take depth (now (seq .entry)))) (state (now (seq .entry)) (now (images .entry)) t) (now (fs .entry)) (now (ws .entry)) (state (now (seq .exit)) (now (images .exit)) r) (now (fs .exit)) (now (ws .exit)) ⌝ }
+    requires { ⌜ Ready (scene (now padded) (now nodes) (now «leaf_order») (now leaves) (now handles) (now materials) (now triangles) (now «plane_floats»)
+        (now «plane_words») (now «plane_triangles») (now «plane_edges»)) q depth (state (now seq) (now images) t) (now «candidate_floats»)
+        (now «candidate_words») ⌝ }
+    ensures { λ r.
+        let areas = scene (now (padded .entry)) (now (nodes .entry)) (now («leaf_order» .entry)) (now (leaves .entry)) (now (handles .entry))
+        (now (materials .entry)) (now (triangles .entry)) (now («plane_floats» .entry)) (now («plane_words» .entry)) (now («plane_triangles» .entry))
+        (now («plane_edges» .entry)) in
+        ⌜ Walked areas q depth (spec.below (firstsOf areas q) (q .order - depth) (take depth (now (seq .entry))))
+        (state (now (seq .entry)) (now (images .entry)) t) (now («candidate_floats» .entry)) (now («candidate_words» .entry))
+        (state (now (seq .exit)) (now (images .exit)) r) (now («candidate_floats» .exit)) (now («candidate_words» .exit)) ⌝ }
 {
     let mut s = t;
     let mut p = 0;
     while p < q.count {
-        let next = next_near(floats, words, q, seq, images, depth, p, s);
+        let next = next_near(plane_floats, plane_words, q, seq, images, depth, p, s);
         let at = next.plane;
         let u = next.tally;
         if at == q.count {
             return u;
         }
         p = at + 1;
-        push(floats, words, q.count, depth, at, seq, images);
+        push(plane_floats, plane_words, q.count, depth, at, seq, images);
         if made(
-            columns,
+            triangles,
             q.n,
-            floats,
-            words,
-            members,
-            edges,
+            plane_floats,
+            plane_words,
+            plane_triangles,
+            plane_edges,
             q.count,
             seq,
             images,
@@ -483,22 +523,22 @@ fn last_planes(
             let v = judge(
                 padded,
                 nodes,
-                perm,
-                rows,
+                leaf_order,
+                leaves,
                 handles,
                 materials,
-                columns,
-                floats,
-                words,
-                members,
-                edges,
+                triangles,
+                plane_floats,
+                plane_words,
+                plane_triangles,
+                plane_edges,
                 q,
                 depth + 1,
                 u,
                 seq,
                 images,
-                fs,
-                ws,
+                candidate_floats,
+                candidate_words,
             );
             // field by field: a call answers into memory, where the tally of the loop would then stay
             s = Tally {
@@ -521,25 +561,33 @@ fn last_planes(
 fn expand_images(
     padded: &[f32],
     nodes: &[u32],
-    perm: &[u32],
-    rows: &[f32],
+    leaf_order: &[u32],
+    leaves: &[f32],
     handles: &[u32],
     materials: &[f32],
-    columns: &[f32],
-    floats: &[f32],
-    words: &[u32],
-    members: &[u32],
-    edges: &[f32],
+    triangles: &[f32],
+    plane_floats: &[f32],
+    plane_words: &[u32],
+    plane_triangles: &[u32],
+    plane_edges: &[f32],
     q: Task,
     depth: usize,
     t: Tally,
     seq: &mut [u32],
     images: &mut [f32],
-    fs: &mut [f32],
-    ws: &mut [u32],
+    candidate_floats: &mut [f32],
+    candidate_words: &mut [u32],
 ) -> Tally
-    requires { ⌜ Ready (scene (now padded) (now nodes) (now perm) (now rows) (now handles) (now materials) (now columns) (now floats) (now words) (now members) (now edges)) q depth (state (now seq) (now images) t) (now fs) (now ws) ⌝ }
-    ensures { λ r. ⌜ Walked (scene (now (padded .entry)) (now (nodes .entry)) (now (perm .entry)) (now (rows .entry)) (now (handles .entry)) (now (materials .entry)) (now (columns .entry)) (now (floats .entry)) (now (words .entry)) (now (members .entry)) (now (edges .entry))) q depth (spec.below (firstsOf (scene (now (padded .entry)) (now (nodes .entry)) (now (perm .entry)) (now (rows .entry)) (now (handles .entry)) (now (materials .entry)) (now (columns .entry)) (now (floats .entry)) (now (words .entry)) (now (members .entry)) (now (edges .entry))) q) (q .order - depth) (take depth (now (seq .entry)))) (state (now (seq .entry)) (now (images .entry)) t) (now (fs .entry)) (now (ws .entry)) (state (now (seq .exit)) (now (images .exit)) r) (now (fs .exit)) (now (ws .exit)) ⌝ }
+    requires { ⌜ Ready (scene (now padded) (now nodes) (now «leaf_order») (now leaves) (now handles) (now materials) (now triangles) (now «plane_floats»)
+        (now «plane_words») (now «plane_triangles») (now «plane_edges»)) q depth (state (now seq) (now images) t) (now «candidate_floats»)
+        (now «candidate_words») ⌝ }
+    ensures { λ r.
+        let areas = scene (now (padded .entry)) (now (nodes .entry)) (now («leaf_order» .entry)) (now (leaves .entry)) (now (handles .entry))
+        (now (materials .entry)) (now (triangles .entry)) (now («plane_floats» .entry)) (now («plane_words» .entry)) (now («plane_triangles» .entry))
+        (now («plane_edges» .entry)) in
+        ⌜ Walked areas q depth (spec.below (firstsOf areas q) (q .order - depth) (take depth (now (seq .entry))))
+        (state (now (seq .entry)) (now (images .entry)) t) (now («candidate_floats» .entry)) (now («candidate_words» .entry))
+        (state (now (seq .exit)) (now (images .exit)) r) (now («candidate_floats» .exit)) (now («candidate_words» .exit)) ⌝ }
 {
     let mut s = t;
     let mut p = 0;
@@ -549,30 +597,30 @@ fn expand_images(
         if q.limit <= s.nodes {
             continue;
         }
-        if may(floats, words, q, seq, depth, at) {
-            push(floats, words, q.count, depth, at, seq, images);
+        if may(plane_floats, plane_words, q, seq, depth, at) {
+            push(plane_floats, plane_words, q.count, depth, at, seq, images);
             if too_far(images, depth + 1, q.listener, q.beyond) {
                 s = passed_over(s);
             } else {
                 s = visit(
                     padded,
                     nodes,
-                    perm,
-                    rows,
+                    leaf_order,
+                    leaves,
                     handles,
                     materials,
-                    columns,
-                    floats,
-                    words,
-                    members,
-                    edges,
+                    triangles,
+                    plane_floats,
+                    plane_words,
+                    plane_triangles,
+                    plane_edges,
                     q,
                     depth + 1,
                     s,
                     seq,
                     images,
-                    fs,
-                    ws,
+                    candidate_floats,
+                    candidate_words,
                 );
             }
             if depth + 1 == q.order {
@@ -582,44 +630,44 @@ fn expand_images(
                 s = last_planes(
                     padded,
                     nodes,
-                    perm,
-                    rows,
+                    leaf_order,
+                    leaves,
                     handles,
                     materials,
-                    columns,
-                    floats,
-                    words,
-                    members,
-                    edges,
+                    triangles,
+                    plane_floats,
+                    plane_words,
+                    plane_triangles,
+                    plane_edges,
                     q,
                     depth + 1,
                     s,
                     seq,
                     images,
-                    fs,
-                    ws,
+                    candidate_floats,
+                    candidate_words,
                 );
                 continue;
             }
             s = expand_images(
                 padded,
                 nodes,
-                perm,
-                rows,
+                leaf_order,
+                leaves,
                 handles,
                 materials,
-                columns,
-                floats,
-                words,
-                members,
-                edges,
+                triangles,
+                plane_floats,
+                plane_words,
+                plane_triangles,
+                plane_edges,
                 q,
                 depth + 1,
                 s,
                 seq,
                 images,
-                fs,
-                ws,
+                candidate_floats,
+                candidate_words,
             );
         }
     }
@@ -649,34 +697,43 @@ fn square_beyond(far: f32) -> f32
     float::infinity()
 }
 
-// The search from nothing: at most 250,000 images of at most `order` planes, and at most `room` candidates, in rows of `fs` and `ws`.
+// The search from nothing: at most 250,000 images of at most `order` planes, and at most `room` candidates, in rows of `candidate_floats` and `candidate_words`.
 pub fn search_images(
     padded: &[f32],
     nodes: &[u32],
-    perm: &[u32],
-    rows: &[f32],
+    leaf_order: &[u32],
+    leaves: &[f32],
     handles: &[u32],
     nodes_count: usize,
     materials: &[f32],
-    columns: &[f32],
+    triangles: &[f32],
     n: usize,
-    floats: &[f32],
-    words: &[u32],
-    members: &[u32],
-    edges: &[f32],
+    plane_floats: &[f32],
+    plane_words: &[u32],
+    plane_triangles: &[u32],
+    plane_edges: &[f32],
     count: usize,
     settings: Settings,
     source: Vec3,
     listener: Vec3,
     order: usize,
     room: usize,
-    fs: &mut [f32],
-    ws: &mut [u32],
+    candidate_floats: &mut [f32],
+    candidate_words: &mut [u32],
 ) -> Found
-    requires { ⌜ Lent (now padded) (now nodes) (now perm) (now rows) (now handles) «nodes_count» (now materials) (now columns) n (now floats) (now words) (now members) (now edges) count ⌝ }
+    requires { ⌜ Lent (now padded) (now nodes) (now «leaf_order») (now leaves) (now handles) «nodes_count» (now materials) (now triangles) n (now «plane_floats»)
+        (now «plane_words») (now «plane_triangles») (now «plane_edges») count ⌝ }
     requires { ⌜ (order ≤ maxOrder) × (count ≤ spec.mostPlanes) ⌝ }
-    requires { ⌜ Rows room (now fs) (now ws) ⌝ }
-    ensures { λ r. ⌜ ((tri : ℕ → Triangle) (t : Tree) → ReadAs (now (padded .entry)) (now (nodes .entry)) (now (perm .entry)) (now (rows .entry)) (now (handles .entry)) (now (columns .entry)) n (now (floats .entry)) (now (words .entry)) (now (members .entry)) count tri t → search (r .images) (r .rays) (candidatesIn (r .found) (now (fs .exit)) (now (ws .exit))) (r .over) ≡ searched (onOf (planesIn (now (floats .entry)) (now (words .entry)) (now (members .entry)) (now (edges .entry)) count) source) order room (outcomesOf settings (planesIn (now (floats .entry)) (now (words .entry)) (now (members .entry)) (now (edges .entry)) count) tri t (now (materials .entry)) source listener)) ⌝ }
+    requires { ⌜ Rows room (now «candidate_floats») (now «candidate_words») ⌝ }
+    ensures { λ r.
+        ⌜ ((tri : ℕ → Triangle) (t : Tree) →
+        ReadAs (now (padded .entry)) (now (nodes .entry)) (now («leaf_order» .entry)) (now (leaves .entry)) (now (handles .entry)) (now (triangles .entry)) n
+        (now («plane_floats» .entry)) (now («plane_words» .entry)) (now («plane_triangles» .entry)) count tri t →
+        search (r .images) (r .rays) (candidatesIn (r .found) (now («candidate_floats» .exit)) (now («candidate_words» .exit))) (r .over) ≡ searched (onOf
+        (planesIn (now («plane_floats» .entry)) (now («plane_words» .entry)) (now («plane_triangles» .entry)) (now («plane_edges» .entry)) count) source)
+        order room (outcomesOf settings
+        (planesIn (now («plane_floats» .entry)) (now («plane_words» .entry)) (now («plane_triangles» .entry)) (now («plane_edges» .entry)) count) tri t
+        (now (materials .entry)) source listener)) ⌝ }
     ensures { λ r. ⌜ r .found ≤ room ⌝ }
 {
     if order == 0 {
@@ -711,22 +768,22 @@ pub fn search_images(
     let s = expand_images(
         padded,
         nodes,
-        perm,
-        rows,
+        leaf_order,
+        leaves,
         handles,
         materials,
-        columns,
-        floats,
-        words,
-        members,
-        edges,
+        triangles,
+        plane_floats,
+        plane_words,
+        plane_triangles,
+        plane_edges,
         q,
         0,
         nothing,
         &mut seq,
         &mut images,
-        fs,
-        ws,
+        candidate_floats,
+        candidate_words,
     );
     Found {
         images: s.nodes,

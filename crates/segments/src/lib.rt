@@ -13,7 +13,8 @@ ghost use Rattle.vector.specs.Vector.{length3Of, normalize3Of};
 ghost use Rattle.geometry.specs.declared.Triangle.{Triangle};
 ghost use Rattle.build.specs.Tree.{Tree};
 ghost use Rattle.segments.specs.Materials.{materialFloats, bandsIn, clampedOf, transmissionOf, coefficientOf, coefficientsOf, reflectionOf};
-ghost use Rattle.segments.specs.Segment.{maxCrossings, visibilityRadius, transmission, segmentRayOf, walkOf, segmentTransmissionOf, offsetOf, midOf, addPartOf, probeOf, segmentSoftTransmissionOf};
+ghost use Rattle.segments.specs.Segment.{maxCrossings, visibilityRadius, transmission, segmentRayOf, walkOf};
+ghost use Rattle.segments.specs.Segment.{segmentTransmissionOf, offsetOf, midOf, addPartOf, probeOf, segmentSoftTransmissionOf};
 ghost use Rattle.segments.specs.Areas.{traceIn, TreeReads, Traceable};
 
 const OCCLUSION_EPS: f32 = 1e-3;
@@ -133,8 +134,8 @@ fn segment_ray(origin: Vec3, dir: Vec3, remaining: f32) -> Ray
 fn walk(
     padded: &[f32],
     nodes: &[u32],
-    perm: &[u32],
-    rows: &[f32],
+    leaf_order: &[u32],
+    leaves: &[f32],
     handles: &[u32],
     count: usize,
     materials: &[f32],
@@ -145,16 +146,19 @@ fn walk(
     product: Band8,
     rays: u32,
 ) -> Transmission
-    requires { ⌜ Traceable (now padded) (now nodes) (now perm) (now rows) (now handles) count (now materials) ⌝ }
+    requires { ⌜ Traceable (now padded) (now nodes) (now «leaf_order») (now leaves) (now handles) count (now materials) ⌝ }
     requires { ⌜ rays + left + 1 < 2 ^ 32 ⌝ }
-    ensures { λ r. ⌜ ((tri : ℕ → Triangle) (t : Tree) → TreeReads (now (padded .entry)) (now (nodes .entry)) (now (perm .entry)) (now (rows .entry)) (now (handles .entry)) tri t → r ≡ walkOf (traceIn tri t) (transmissionOf (now (materials .entry))) dir left origin remaining product rays) ⌝ }
+    ensures { λ r.
+        ⌜ ((tri : ℕ → Triangle) (t : Tree) →
+        TreeReads (now (padded .entry)) (now (nodes .entry)) (now («leaf_order» .entry)) (now (leaves .entry)) (now (handles .entry)) tri t →
+        r ≡ walkOf (traceIn tri t) (transmissionOf (now (materials .entry))) dir left origin remaining product rays) ⌝ }
 {
     if remaining > 2.0 * OCCLUSION_EPS {
         let Hit::At(hit) = trace::intersect(
             padded,
             nodes,
-            perm,
-            rows,
+            leaf_order,
+            leaves,
             handles,
             count,
             segment_ray(origin, dir, remaining),
@@ -168,8 +172,8 @@ fn walk(
         return walk(
             padded,
             nodes,
-            perm,
-            rows,
+            leaf_order,
+            leaves,
             handles,
             count,
             materials,
@@ -206,16 +210,19 @@ fn direction(v: Vec3, len: f32) -> Vec3
 fn segment_transmission(
     padded: &[f32],
     nodes: &[u32],
-    perm: &[u32],
-    rows: &[f32],
+    leaf_order: &[u32],
+    leaves: &[f32],
     handles: &[u32],
     count: usize,
     materials: &[f32],
     from: Vec3,
     to: Vec3,
 ) -> Transmission
-    requires { ⌜ Traceable (now padded) (now nodes) (now perm) (now rows) (now handles) count (now materials) ⌝ }
-    ensures { λ r. ⌜ ((tri : ℕ → Triangle) (t : Tree) → TreeReads (now (padded .entry)) (now (nodes .entry)) (now (perm .entry)) (now (rows .entry)) (now (handles .entry)) tri t → r ≡ segmentTransmissionOf (traceIn tri t) (transmissionOf (now (materials .entry))) maxCrossings from to) ⌝ }
+    requires { ⌜ Traceable (now padded) (now nodes) (now «leaf_order») (now leaves) (now handles) count (now materials) ⌝ }
+    ensures { λ r.
+        ⌜ ((tri : ℕ → Triangle) (t : Tree) →
+        TreeReads (now (padded .entry)) (now (nodes .entry)) (now («leaf_order» .entry)) (now (leaves .entry)) (now (handles .entry)) tri t →
+        r ≡ segmentTransmissionOf (traceIn tri t) (transmissionOf (now (materials .entry))) maxCrossings from to) ⌝ }
     ensures { λ r. ⌜ r .rays ≤ maxCrossings + 1 ⌝ }
 {
     let v = vector::sub3(to, from);
@@ -224,8 +231,8 @@ fn segment_transmission(
     walk(
         padded,
         nodes,
-        perm,
-        rows,
+        leaf_order,
+        leaves,
         handles,
         count,
         materials,
@@ -279,8 +286,8 @@ fn add_part(s: Band8, g: Band8) -> Band8
 fn probe(
     padded: &[f32],
     nodes: &[u32],
-    perm: &[u32],
-    rows: &[f32],
+    leaf_order: &[u32],
+    leaves: &[f32],
     handles: &[u32],
     count: usize,
     materials: &[f32],
@@ -289,16 +296,19 @@ fn probe(
     to: Vec3,
     sum: Transmission,
 ) -> Transmission
-    requires { ⌜ Traceable (now padded) (now nodes) (now perm) (now rows) (now handles) count (now materials) ⌝ }
+    requires { ⌜ Traceable (now padded) (now nodes) (now «leaf_order») (now leaves) (now handles) count (now materials) ⌝ }
     requires { ⌜ sum .rays + 2 * (maxCrossings + 1) < 2 ^ 32 ⌝ }
-    ensures { λ r. ⌜ ((tri : ℕ → Triangle) (t : Tree) → TreeReads (now (padded .entry)) (now (nodes .entry)) (now (perm .entry)) (now (rows .entry)) (now (handles .entry)) tri t → r ≡ probeOf (traceIn tri t) (transmissionOf (now (materials .entry))) maxCrossings from via to sum) ⌝ }
+    ensures { λ r.
+        ⌜ ((tri : ℕ → Triangle) (t : Tree) →
+        TreeReads (now (padded .entry)) (now (nodes .entry)) (now («leaf_order» .entry)) (now (leaves .entry)) (now (handles .entry)) tri t →
+        r ≡ probeOf (traceIn tri t) (transmissionOf (now (materials .entry))) maxCrossings from via to sum) ⌝ }
     ensures { λ r. ⌜ r .rays ≤ sum .rays + 2 * (maxCrossings + 1) ⌝ }
 {
     let a = segment_transmission(
         padded,
         nodes,
-        perm,
-        rows,
+        leaf_order,
+        leaves,
         handles,
         count,
         materials,
@@ -308,8 +318,8 @@ fn probe(
     let b = segment_transmission(
         padded,
         nodes,
-        perm,
-        rows,
+        leaf_order,
+        leaves,
         handles,
         count,
         materials,
@@ -326,16 +336,19 @@ fn probe(
 pub fn segment_soft_transmission(
     padded: &[f32],
     nodes: &[u32],
-    perm: &[u32],
-    rows: &[f32],
+    leaf_order: &[u32],
+    leaves: &[f32],
     handles: &[u32],
     count: usize,
     materials: &[f32],
     from: Vec3,
     to: Vec3,
 ) -> Transmission
-    requires { ⌜ Traceable (now padded) (now nodes) (now perm) (now rows) (now handles) count (now materials) ⌝ }
-    ensures { λ r. ⌜ ((tri : ℕ → Triangle) (t : Tree) → TreeReads (now (padded .entry)) (now (nodes .entry)) (now (perm .entry)) (now (rows .entry)) (now (handles .entry)) tri t → r ≡ segmentSoftTransmissionOf (traceIn tri t) (transmissionOf (now (materials .entry))) maxCrossings visibilityRadius from to) ⌝ }
+    requires { ⌜ Traceable (now padded) (now nodes) (now «leaf_order») (now leaves) (now handles) count (now materials) ⌝ }
+    ensures { λ r.
+        ⌜ ((tri : ℕ → Triangle) (t : Tree) →
+        TreeReads (now (padded .entry)) (now (nodes .entry)) (now («leaf_order» .entry)) (now (leaves .entry)) (now (handles .entry)) tri t →
+        r ≡ segmentSoftTransmissionOf (traceIn tri t) (transmissionOf (now (materials .entry))) maxCrossings visibilityRadius from to) ⌝ }
     ensures { λ r. ⌜ r .rays ≤ 18 * (maxCrossings + 1) ⌝ }
 {
     let b = vector::probe_basis(vector::normalize3(vector::sub3(to, from)));
@@ -349,8 +362,8 @@ pub fn segment_soft_transmission(
     let mut sum = probe(
         padded,
         nodes,
-        perm,
-        rows,
+        leaf_order,
+        leaves,
         handles,
         count,
         materials,
@@ -364,8 +377,8 @@ pub fn segment_soft_transmission(
         sum = probe(
             padded,
             nodes,
-            perm,
-            rows,
+            leaf_order,
+            leaves,
             handles,
             count,
             materials,

@@ -9,7 +9,8 @@ ghost use lib.ListN.{length, getD, drop};
 ghost use Rattle.order.specs.Sort.{Below};
 ghost use Rattle.vector.specs.Vector.{axisOf};
 ghost use Rattle.geometry.specs.Aabb.{fromPointOf, surfaceAreaOf};
-ghost use Rattle.split.specs.Split.{aabbAtOf, centroidAtOf, countOf, InOrder, Keyed, sortOn, boundsOf, suffixOf, costOf, betterOf, sweepOf, found, searchAxisOf, searchAxesOf, divided, splitOf, Splits};
+ghost use Rattle.split.specs.Split.{aabbAtOf, centroidAtOf, countOf, InOrder, Keyed, sortOn, boundsOf, suffixOf};
+ghost use Rattle.split.specs.Split.{costOf, betterOf, sweepOf, found, searchAxisOf, searchAxesOf, divided, splitOf, Splits};
 
 // The best split so far: its cost, its axis, and how many triangles go left.
 pub struct BestSplit {
@@ -87,7 +88,9 @@ fn suffix_areas(extents: &[f32], n: usize, part: &[u32], areas: &mut [f32])
     requires { ⌜ 9 * n ≤ length (now extents) ⌝ }
     requires { ⌜ Below n (now part) ⌝ }
     requires { ⌜ length (now part) ≤ length (now areas) ⌝ }
-    ensures { λ _. ⌜ ((k : ℕ) → k < length (now (part .entry)) → getD (now (areas .exit)) k nan ≡ surfaceAreaOf (suffixOf (aabbAtOf (now (extents .entry))) (drop k (now (part .entry))))) ⌝ }
+    ensures { λ _.
+        ⌜ ((k : ℕ) → k < length (now (part .entry)) →
+        getD (now (areas .exit)) k nan ≡ surfaceAreaOf (suffixOf (aabbAtOf (now (extents .entry))) (drop k (now (part .entry))))) ⌝ }
 {
     let mut acc = geometry::new_empty();
     let mut i = part.len();
@@ -193,7 +196,10 @@ fn search_axis(
     requires { ⌜ (0 < length (now part)) × (length (now part) < 65536) ⌝ }
     requires { ⌜ (length (now part) ≤ length (now words)) × (length (now part) ≤ length (now scratch)) × (length (now part) ≤ length (now areas)) ⌝ }
     requires { ⌜ (n ≤ length (now keys)) × InOrder n (now keys) (λ i. axisOf (centroidAtOf (now extents) i) axis) ⌝ }
-    ensures { λ r. ⌜ (found (now (part .exit)) r ≡ searchAxisOf (aabbAtOf (now (extents .entry))) (centroidAtOf (now (extents .entry))) axis span (found (now (part .entry)) c)) × Below n (now (part .exit)) ⌝ }
+    ensures { λ r.
+        ⌜ (found (now (part .exit)) r ≡
+        searchAxisOf (aabbAtOf (now (extents .entry))) (centroidAtOf (now (extents .entry))) axis span (found (now (part .entry)) c)) ×
+        Below n (now (part .exit)) ⌝ }
 {
     if span < 1e-8 {
         return c;
@@ -216,7 +222,9 @@ fn search_axes(
     areas: &mut [f32],
 ) -> BestSplit
     requires { ⌜ Splits (now kx) (now ky) (now kz) (now extents) n (now part) (now words) (now scratch) (now areas) ⌝ }
-    ensures { λ r. ⌜ (found (now (part .exit)) r ≡ searchAxesOf (aabbAtOf (now (extents .entry))) (centroidAtOf (now (extents .entry))) (now (part .entry))) × Below n (now (part .exit)) ⌝ }
+    ensures { λ r.
+        ⌜ (found (now (part .exit)) r ≡ searchAxesOf (aabbAtOf (now (extents .entry))) (centroidAtOf (now (extents .entry))) (now (part .entry))) ×
+        Below n (now (part .exit)) ⌝ }
 {
     let m = centroid_aabb(extents, n, part);
     let c0 = BestSplit {
@@ -273,7 +281,9 @@ pub fn split(
     areas: &mut [f32],
 ) -> usize
     requires { ⌜ Splits (now kx) (now ky) (now kz) (now extents) n (now part) (now words) (now scratch) (now areas) ⌝ }
-    ensures { λ r. ⌜ (divided (now (part .exit)) r ≡ splitOf (aabbAtOf (now (extents .entry))) (centroidAtOf (now (extents .entry))) (now (part .entry))) × Below n (now (part .exit)) × (r < length (now (part .entry))) ⌝ }
+    ensures { λ r.
+        ⌜ (divided (now (part .exit)) r ≡ splitOf (aabbAtOf (now (extents .entry))) (centroidAtOf (now (extents .entry))) (now (part .entry))) ×
+        Below n (now (part .exit)) × (r < length (now (part .entry))) ⌝ }
 {
     let c = search_axes(kx, ky, kz, extents, n, part, words, scratch, areas);
     let at = c.at;

@@ -31,57 +31,82 @@ pub struct Packed {
 }
 
 // The bits of a float of a row.
-fn bits_at(fs: &[f32], i: usize) -> u32
-    requires { ⌜ (i < length (now fs)) × T (not (isNan (getD (now fs) i nan))) ⌝ }
-    ensures { λ r. ⌜ r ≡ bitsOf (getD (now (fs .entry)) i nan) ⌝ }
+fn bits_at(candidate_floats: &[f32], i: usize) -> u32
+    requires { ⌜ (i < length (now «candidate_floats»)) × T (not (isNan (getD (now «candidate_floats») i nan))) ⌝ }
+    ensures { λ r. ⌜ r ≡ bitsOf (getD (now («candidate_floats» .entry)) i nan) ⌝ }
 {
-    f32::to_bits(fs[i])
+    f32::to_bits(candidate_floats[i])
 }
 
 // The gains of the row that starts at p, to the tap that starts at `at`.
-fn put_gains(fs: &[f32], p: usize, taps: &mut [u32], at: usize)
-    requires { ⌜ (p + candidateFloats ≤ length (now fs)) × (at + tapWords ≤ length (now taps)) ⌝ }
-    requires { ⌜ Level8 (gainsAt (now fs) p) ⌝ }
-    ensures { λ _. ⌜ now (taps .exit) ≡ sets (now (taps .entry)) (at + fixedWords) (gainBits (gainsAt (now (fs .entry)) p)) ⌝ }
+fn put_gains(candidate_floats: &[f32], p: usize, taps: &mut [u32], at: usize)
+    requires { ⌜ (p + candidateFloats ≤ length (now «candidate_floats»)) × (at + tapWords ≤ length (now taps)) ⌝ }
+    requires { ⌜ Level8 (gainsAt (now «candidate_floats») p) ⌝ }
+    ensures { λ _. ⌜ now (taps .exit) ≡ sets (now (taps .entry)) (at + fixedWords) (gainBits (gainsAt (now («candidate_floats» .entry)) p)) ⌝ }
 {
-    taps[at + 6] = bits_at(fs, p + 5);
-    taps[at + 7] = bits_at(fs, p + 6);
-    taps[at + 8] = bits_at(fs, p + 7);
-    taps[at + 9] = bits_at(fs, p + 8);
-    taps[at + 10] = bits_at(fs, p + 9);
-    taps[at + 11] = bits_at(fs, p + 10);
-    taps[at + 12] = bits_at(fs, p + 11);
-    taps[at + 13] = bits_at(fs, p + 12);
+    taps[at + 6] = bits_at(candidate_floats, p + 5);
+    taps[at + 7] = bits_at(candidate_floats, p + 6);
+    taps[at + 8] = bits_at(candidate_floats, p + 7);
+    taps[at + 9] = bits_at(candidate_floats, p + 8);
+    taps[at + 10] = bits_at(candidate_floats, p + 9);
+    taps[at + 11] = bits_at(candidate_floats, p + 10);
+    taps[at + 12] = bits_at(candidate_floats, p + 11);
+    taps[at + 13] = bits_at(candidate_floats, p + 12);
 }
 
 // The candidate of row i, as the tap at place k.
-fn put_tap(fs: &[f32], ws: &[u32], n: usize, i: usize, taps: &mut [u32], k: usize)
-    requires { ⌜ Rows n (now fs) (now ws) ⌝ }
+fn put_tap(
+    candidate_floats: &[f32],
+    candidate_words: &[u32],
+    n: usize,
+    i: usize,
+    taps: &mut [u32],
+    k: usize,
+)
+    requires { ⌜ Rows n (now «candidate_floats») (now «candidate_words») ⌝ }
     requires { ⌜ (i < n) × (k * tapWords + tapWords ≤ length (now taps)) ⌝ }
-    requires { ⌜ Sound (candidateAt (now fs) (now ws) i) ⌝ }
-    ensures { λ _. ⌜ now (taps .exit) ≡ sets (now (taps .entry)) (k * tapWords) (wordsOf (tapOf (candidateAt (now (fs .entry)) (now (ws .entry)) i))) ⌝ }
+    requires { ⌜ Sound (candidateAt (now «candidate_floats») (now «candidate_words») i) ⌝ }
+    ensures { λ _.
+        ⌜ now (taps .exit) ≡
+        sets (now (taps .entry)) (k * tapWords) (wordsOf (tapOf (candidateAt (now («candidate_floats» .entry)) (now («candidate_words» .entry)) i))) ⌝ }
 {
     let p = i * CANDIDATE_FLOATS;
     let at = k * TAP_WORDS;
-    taps[at] = ws[i * CANDIDATE_WORDS];
-    taps[at + 1] = ws[i * CANDIDATE_WORDS + 1];
-    taps[at + 2] = bits_at(fs, p + 2);
-    taps[at + 3] = bits_at(fs, p + 3);
-    taps[at + 4] = bits_at(fs, p + 4);
-    taps[at + 5] = bits_at(fs, p + 1);
-    put_gains(fs, p, taps, at);
+    taps[at] = candidate_words[i * CANDIDATE_WORDS];
+    taps[at + 1] = candidate_words[i * CANDIDATE_WORDS + 1];
+    taps[at + 2] = bits_at(candidate_floats, p + 2);
+    taps[at + 3] = bits_at(candidate_floats, p + 3);
+    taps[at + 4] = bits_at(candidate_floats, p + 4);
+    taps[at + 5] = bits_at(candidate_floats, p + 1);
+    put_gains(candidate_floats, p, taps, at);
 }
 
 // The candidates at the first `count` positions in turn, as taps from the area's start on.
-fn put_taps(fs: &[f32], ws: &[u32], n: usize, positions: &[u32], count: usize, taps: &mut [u32])
-    requires { ⌜ Rows n (now fs) (now ws) ⌝ }
-    requires { ⌜ Pointing n count (now fs) (now ws) (now positions) ⌝ }
+fn put_taps(
+    candidate_floats: &[f32],
+    candidate_words: &[u32],
+    n: usize,
+    positions: &[u32],
+    count: usize,
+    taps: &mut [u32],
+)
+    requires { ⌜ Rows n (now «candidate_floats») (now «candidate_words») ⌝ }
+    requires { ⌜ Pointing n count (now «candidate_floats») (now «candidate_words») (now positions) ⌝ }
     requires { ⌜ count * tapWords ≤ length (now taps) ⌝ }
-    ensures { λ _. ⌜ now (taps .exit) ≡ sets (now (taps .entry)) 0 (allWords (tapsAt (now (fs .entry)) (now (ws .entry)) count (now (positions .entry)))) ⌝ }
+    ensures { λ _.
+        ⌜ now (taps .exit) ≡
+        sets (now (taps .entry)) 0 (allWords (tapsAt (now («candidate_floats» .entry)) (now («candidate_words» .entry)) count (now (positions .entry)))) ⌝ }
 {
     let mut k = 0;
     while k < count {
-        put_tap(fs, ws, n, positions[k] as usize, taps, k);
+        put_tap(
+            candidate_floats,
+            candidate_words,
+            n,
+            positions[k] as usize,
+            taps,
+            k,
+        );
         k += 1;
     }
 }
@@ -112,8 +137,8 @@ fn fresh_taps() -> [u32; 896]
 // Ranks the candidates of the first n rows and writes the packet of those that are kept. What keys, index, words and scratch
 // hold afterwards is not said.
 pub fn write_taps(
-    fs: &[f32],
-    ws: &[u32],
+    candidate_floats: &[f32],
+    candidate_words: &[u32],
     n: usize,
     speed: f32,
     rate: f32,
@@ -126,16 +151,21 @@ pub fn write_taps(
     scratch: &mut [u64],
     out: &mut [u8],
 ) -> Packed
-    requires { ⌜ Sends n limit images (now fs) (now ws) (now keys) (now index) (now words) (now scratch) (now out) ⌝ }
-    ensures count { λ r. ⌜ r .count ≡ length (ranked speed rate limit (candidatesIn n (now (fs .entry)) (now (ws .entry)))) ⌝ }
-    ensures bytes { λ r. ⌜ r .bytes ≡ length (packetOf images rays (ranked speed rate limit (candidatesIn n (now (fs .entry)) (now (ws .entry))))) ⌝ }
-    ensures packet { λ r. ⌜ now (out .exit) ≡ packetOf images rays (ranked speed rate limit (candidatesIn n (now (fs .entry)) (now (ws .entry)))) ++ drop (r .bytes) (now (out .entry)) ⌝ }
+    requires { ⌜ Sends n limit images (now «candidate_floats») (now «candidate_words») (now keys) (now index) (now words) (now scratch) (now out) ⌝ }
+    ensures count { λ r. ⌜ r .count ≡ length (ranked speed rate limit (candidatesIn n (now («candidate_floats» .entry)) (now («candidate_words» .entry)))) ⌝ }
+    ensures bytes { λ r.
+        ⌜ r .bytes ≡
+        length (packetOf images rays (ranked speed rate limit (candidatesIn n (now («candidate_floats» .entry)) (now («candidate_words» .entry))))) ⌝ }
+    ensures packet { λ r.
+        ⌜ now (out .exit) ≡
+        packetOf images rays (ranked speed rate limit (candidatesIn n (now («candidate_floats» .entry)) (now («candidate_words» .entry)))) ++ drop (r .bytes)
+        (now (out .entry)) ⌝ }
 {
     let mut kept = fresh_positions();
     let mut taps = fresh_taps();
     let count = ranking::rank_reflections(
-        fs,
-        ws,
+        candidate_floats,
+        candidate_words,
         n,
         speed,
         rate,
@@ -146,7 +176,14 @@ pub fn write_taps(
         scratch,
         &mut kept,
     );
-    put_taps(fs, ws, n, &kept, count, &mut taps);
+    put_taps(
+        candidate_floats,
+        candidate_words,
+        n,
+        &kept,
+        count,
+        &mut taps,
+    );
     let bytes = length_of(packet::write(count, images, rays, &taps, out));
     Packed { count, bytes }
 }

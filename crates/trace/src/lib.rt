@@ -58,34 +58,34 @@ pub struct Turns {
 
 // ---- leaves
 
-fn corner_at(rows: &[f32], k: usize) -> Vec3
-    requires { ⌜ 10 * k + 10 ≤ length (now rows) ⌝ }
-    ensures { λ r. ⌜ r ≡ cornerAtOf (now (rows .entry)) k ⌝ }
+fn corner_at(leaves: &[f32], k: usize) -> Vec3
+    requires { ⌜ 10 * k + 10 ≤ length (now leaves) ⌝ }
+    ensures { λ r. ⌜ r ≡ cornerAtOf (now (leaves .entry)) k ⌝ }
 {
     let at = 10 * k;
     Vec3 {
-        x: rows[at],
-        y: rows[at + 1],
-        z: rows[at + 2],
+        x: leaves[at],
+        y: leaves[at + 1],
+        z: leaves[at + 2],
     }
 }
 
-fn edges_at(rows: &[f32], k: usize) -> Edges
-    requires { ⌜ 10 * k + 10 ≤ length (now rows) ⌝ }
-    ensures { λ r. ⌜ r ≡ edgesAtOf (now (rows .entry)) k ⌝ }
+fn edges_at(leaves: &[f32], k: usize) -> Edges
+    requires { ⌜ 10 * k + 10 ≤ length (now leaves) ⌝ }
+    ensures { λ r. ⌜ r ≡ edgesAtOf (now (leaves .entry)) k ⌝ }
 {
     let at = 10 * k;
     let edge1 = Vec3 {
-        x: rows[at + 3],
-        y: rows[at + 4],
-        z: rows[at + 5],
+        x: leaves[at + 3],
+        y: leaves[at + 4],
+        z: leaves[at + 5],
     };
     let edge2 = Vec3 {
-        x: rows[at + 6],
-        y: rows[at + 7],
-        z: rows[at + 8],
+        x: leaves[at + 6],
+        y: leaves[at + 7],
+        z: leaves[at + 8],
     };
-    let least_det = rows[at + 9];
+    let least_det = leaves[at + 9];
     Edges {
         edge1,
         edge2,
@@ -134,22 +134,24 @@ fn visit(a: Vec3, e: Edges, ray: Ray, i: usize, best: Closest) -> Closest
 
 // Tries the triangles of a leaf.
 fn visit_leaf(
-    perm: &[u32],
-    rows: &[f32],
+    leaf_order: &[u32],
+    leaves: &[f32],
     ray: Ray,
     start: usize,
     len: usize,
     best: Closest,
 ) -> Closest
-    requires { ⌜ (10 * length (now perm) ≤ length (now rows)) × (start + len ≤ length (now perm)) ⌝ }
-    ensures { λ r. ⌜ ((tri : ℕ → Triangle) → Rows tri (now (perm .entry)) (now (rows .entry)) → r ≡ visitAllOf tri ray (take len (drop start (now (perm .entry)))) best) ⌝ }
+    requires { ⌜ (10 * length (now «leaf_order») ≤ length (now leaves)) × (start + len ≤ length (now «leaf_order»)) ⌝ }
+    ensures { λ r.
+        ⌜ ((tri : ℕ → Triangle) → Rows tri (now («leaf_order» .entry)) (now (leaves .entry)) →
+        r ≡ visitAllOf tri ray (take len (drop start (now («leaf_order» .entry)))) best) ⌝ }
 {
     let end = start + len;
     let mut closest = best;
     let mut k = start;
     while k < end {
-        let i = perm[k] as usize;
-        closest = visit(corner_at(rows, k), edges_at(rows, k), ray, i, closest);
+        let i = leaf_order[k] as usize;
+        closest = visit(corner_at(leaves, k), edges_at(leaves, k), ray, i, closest);
         k += 1;
     }
     closest
@@ -341,9 +343,14 @@ fn in_turn(a: Entry, b: Entry, l: usize, r: usize) -> Turns
 fn order_at(padded: &[f32], way: Way, l: usize, r: usize, t: f32) -> Turns
     requires { ⌜ (6 * l + 6 ≤ length (now padded)) × (6 * r + 6 ≤ length (now padded)) ⌝ }
     requires { ⌜ way ≡ wayOf (way .ray) ⌝ }
-    ensures list { λ w. ⌜ (lt t (way .ray .«min_distance») ≡ false → listOf w ≡ orderOf (slabOf (boxAtOf (now (padded .entry)) l) (way .ray) t) (slabOf (boxAtOf (now (padded .entry)) r) (way .ray) t) l r) ⌝ }
-    ensures first { λ w. ⌜ (lt t (way .ray .«min_distance») ≡ false → (w .count ≡ 0 → ⊥) → entered (slabOf (boxAtOf (now (padded .entry)) (w .first)) (way .ray) t) ≡ true) ⌝ }
-    ensures second { λ w. ⌜ (lt t (way .ray .«min_distance») ≡ false → (w .count ≡ 0 → ⊥) → (w .count ≡ 1 → ⊥) → slabOf (boxAtOf (now (padded .entry)) (w .second)) (way .ray) t ≡ At (w .far)) ⌝ }
+    ensures list { λ w.
+        ⌜ (lt t (way .ray .«min_distance») ≡ false →
+        listOf w ≡ orderOf (slabOf (boxAtOf (now (padded .entry)) l) (way .ray) t) (slabOf (boxAtOf (now (padded .entry)) r) (way .ray) t) l r) ⌝ }
+    ensures first { λ w.
+        ⌜ (lt t (way .ray .«min_distance») ≡ false → (w .count ≡ 0 → ⊥) → entered (slabOf (boxAtOf (now (padded .entry)) (w .first)) (way .ray) t) ≡ true) ⌝ }
+    ensures second { λ w.
+        ⌜ (lt t (way .ray .«min_distance») ≡ false → (w .count ≡ 0 → ⊥) → (w .count ≡ 1 → ⊥) →
+        slabOf (boxAtOf (now (padded .entry)) (w .second)) (way .ray) t ≡ At (w .far)) ⌝ }
     ensures both { λ w. ⌜ ((m : ℕ) → l < m → r < m → (w .first < m) × (w .second < m)) ⌝ }
 {
     let p = build::box_at(padded, l);
@@ -362,18 +369,21 @@ fn order_at(padded: &[f32], way: Way, l: usize, r: usize, t: f32) -> Turns
 fn trace(
     padded: &[f32],
     nodes: &[u32],
-    perm: &[u32],
-    rows: &[f32],
+    leaf_order: &[u32],
+    leaves: &[f32],
     count: usize,
     way: Way,
     fuel: usize,
     i: usize,
     best: Closest,
 ) -> Closest
-    requires { ⌜ Held (now padded) (now nodes) (now perm) (now rows) count ⌝ }
+    requires { ⌜ Held (now padded) (now nodes) (now «leaf_order») (now leaves) count ⌝ }
     requires { ⌜ i < count ⌝ }
     requires { ⌜ way ≡ wayOf (way .ray) ⌝ }
-    ensures { λ r. ⌜ ((tri : ℕ → Triangle) → Rows tri (now (perm .entry)) (now (rows .entry)) → lt (best .distance) (way .ray .«min_distance») ≡ false → entered (slabOf (boxAtOf (now (padded .entry)) i) (way .ray) (best .distance)) ≡ true → r ≡ traceOf slabOf tri (way .ray) (treeAtOf (now (padded .entry)) (now (nodes .entry)) (now (perm .entry)) fuel i) best) ⌝ }
+    ensures { λ r.
+        ⌜ ((tri : ℕ → Triangle) → Rows tri (now («leaf_order» .entry)) (now (leaves .entry)) → lt (best .distance) (way .ray .«min_distance») ≡ false →
+        entered (slabOf (boxAtOf (now (padded .entry)) i) (way .ray) (best .distance)) ≡ true →
+        r ≡ traceOf slabOf tri (way .ray) (treeAtOf (now (padded .entry)) (now (nodes .entry)) (now («leaf_order» .entry)) fuel i) best) ⌝ }
 {
     if fuel == 0 {
         return best;
@@ -385,30 +395,52 @@ fn trace(
         if w.count == 0 {
             return best;
         }
-        let one = trace(padded, nodes, perm, rows, count, way, left, w.first, best);
+        let one = trace(
+            padded,
+            nodes,
+            leaf_order,
+            leaves,
+            count,
+            way,
+            left,
+            w.first,
+            best,
+        );
         if w.count == 1 {
             return one;
         }
         if one.distance < w.far {
             return one;
         }
-        return trace(padded, nodes, perm, rows, count, way, left, w.second, one);
+        return trace(
+            padded,
+            nodes,
+            leaf_order,
+            leaves,
+            count,
+            way,
+            left,
+            w.second,
+            one,
+        );
     }
-    visit_leaf(perm, rows, way.ray, k.start, k.len, best)
+    visit_leaf(leaf_order, leaves, way.ray, k.start, k.len, best)
 }
 
 // The whole tree. A ray that ends before it begins crosses nothing; `trace` is for the others.
 fn closest_hit(
     padded: &[f32],
     nodes: &[u32],
-    perm: &[u32],
-    rows: &[f32],
+    leaf_order: &[u32],
+    leaves: &[f32],
     count: usize,
     ray: Ray,
 ) -> Closest
-    requires { ⌜ Held (now padded) (now nodes) (now perm) (now rows) count ⌝ }
+    requires { ⌜ Held (now padded) (now nodes) (now «leaf_order») (now leaves) count ⌝ }
     requires { ⌜ 0 < count ⌝ }
-    ensures { λ r. ⌜ ((tri : ℕ → Triangle) → Rows tri (now (perm .entry)) (now (rows .entry)) → r ≡ traceOf slabOf tri ray (treeAtOf (now (padded .entry)) (now (nodes .entry)) (now (perm .entry)) 33 0) (none ray)) ⌝ }
+    ensures { λ r.
+        ⌜ ((tri : ℕ → Triangle) → Rows tri (now («leaf_order» .entry)) (now (leaves .entry)) →
+        r ≡ traceOf slabOf tri ray (treeAtOf (now (padded .entry)) (now (nodes .entry)) (now («leaf_order» .entry)) 33 0) (none ray)) ⌝ }
 {
     let nothing = Closest {
         distance: ray.max_distance,
@@ -420,7 +452,17 @@ fn closest_hit(
     }
     let way = way_of(ray);
     if enters(build::box_at(padded, 0), way, ray.max_distance) {
-        return trace(padded, nodes, perm, rows, count, way, 33, 0, nothing);
+        return trace(
+            padded,
+            nodes,
+            leaf_order,
+            leaves,
+            count,
+            way,
+            33,
+            0,
+            nothing,
+        );
     }
     nothing
 }
@@ -439,17 +481,20 @@ fn handle_at(handles: &[u32], i: usize) -> u32
 pub fn intersect(
     padded: &[f32],
     nodes: &[u32],
-    perm: &[u32],
-    rows: &[f32],
+    leaf_order: &[u32],
+    leaves: &[f32],
     handles: &[u32],
     count: usize,
     ray: Ray,
 ) -> Hit
-    requires { ⌜ Held (now padded) (now nodes) (now perm) (now rows) count ⌝ }
+    requires { ⌜ Held (now padded) (now nodes) (now «leaf_order») (now leaves) count ⌝ }
     requires { ⌜ 0 < count ⌝ }
-    ensures { λ r. ⌜ ((tri : ℕ → Triangle) (t : Tree) → Rows tri (now (perm .entry)) (now (rows .entry)) → ((i : ℕ) → tri i .«material_handle» ≡ getD (now (handles .entry)) i 0) → treeAtOf (now (padded .entry)) (now (nodes .entry)) (now (perm .entry)) 33 0 ≡ paddedTreeOf t → r ≡ intersectOf tri ray t) ⌝ }
+    ensures { λ r.
+        ⌜ ((tri : ℕ → Triangle) (t : Tree) → Rows tri (now («leaf_order» .entry)) (now (leaves .entry)) →
+        ((i : ℕ) → tri i .«material_handle» ≡ getD (now (handles .entry)) i 0) →
+        treeAtOf (now (padded .entry)) (now (nodes .entry)) (now («leaf_order» .entry)) 33 0 ≡ paddedTreeOf t → r ≡ intersectOf tri ray t) ⌝ }
 {
-    let c = closest_hit(padded, nodes, perm, rows, count, ray);
+    let c = closest_hit(padded, nodes, leaf_order, leaves, count, ray);
     if c.found == 0 {
         return Hit::Nothing;
     }

@@ -78,14 +78,14 @@ pub call-walls :
     (st : Settings) (c : ℕ) (s : Scene) (source listener : Vec3) (separated : Bool) (r : Answered) (out out′ : List ℕ) (found left found′ left′ : Work) (p : ℕ)
     (records records′ : List ℕ) →
     Traced st c s source listener separated r out out′ found left → PlanesOf st c s found′ left′ p → firstRefusal st c s (lensOf found′) ≡ 0 →
-    0 < length (triangles s) → ListsImages (onOf (planesIn (left′ .rows) (left′ .kept) (left′ .members) (left′ .edges) p) source) (searchOrder st) records records′ →
-    fits (onOf (planesIn (left′ .rows) (left′ .kept) (left′ .members) (left′ .edges) p) source) (searchOrder st) records ≡ true → (a : Answer) →
+    0 < length (triangles s) → ListsImages (onOf (planesIn (left′ .plane-floats) (left′ .plane-words) (left′ .plane-triangles) (left′ .plane-edges) p) source) (searchOrder st) records records′ →
+    fits (onOf (planesIn (left′ .plane-floats) (left′ .plane-words) (left′ .plane-triangles) (left′ .plane-edges) p) source) (searchOrder st) records ≡ true → (a : Answer) →
     callOf st c s source listener separated found out ≡ given a → (t : Candidate) → Has t (a .taps) →
     Walled (pathFor st (triangles s) (s .materials) source listener) records′ t
 call-walls st c s source listener separated r out out′ found left found′ left′ p records records′ traced planes none some lists room a is t h =
     by (silentOf separated source listener (length (triangles s))) (traced .complete a is)
   where
-    same : planesIn (left′ .rows) (left′ .kept) (left′ .members) (left′ .edges) p ≡ planesFor st (triangles s)
+    same : planesIn (left′ .plane-floats) (left′ .plane-words) (left′ .plane-triangles) (left′ .plane-edges) p ≡ planesFor st (triangles s)
     same = planes .are none some
 
     by : (b : Bool) → Complete (onOf (planesFor st (triangles s)) source) (usedOrder b (searchOrder st)) (st .«speed_of_sound») (st .«sample_rate») (limitOf st) (pathFor st (triangles s) (s .materials) source listener) a → Walled (pathFor st (triangles s) (s .materials) source listener) records′ t

@@ -35,18 +35,18 @@ left-unbuilt (suc k) z l filled e = rw (ne-eqb (suc k) 0 (λ n0. omega arith))
 
 both-unbuilt :
     (b : Bool) (w : Work) (columns : List Float) (handles : List ℕ) →
-    _≡_ {A = Work} (withScene w (cond b columns (w .columns)) (cond b handles (w .handles))) (cond b (withScene w columns handles) w)
+    _≡_ {A = Work} (withScene w (cond b columns (w .triangles)) (cond b handles (w .handles))) (cond b (withScene w columns handles) w)
 both-unbuilt true w columns handles = refl
 both-unbuilt false w columns handles = refl
 
 pub work-unbuilt :
-    (k : ℕ) (s : Scene) (w : Work) (r : Loaded) (columns′ : List Float) (handles′ : List ℕ) → Loading k s (w .columns) (w .handles) r columns′ handles′ → (k ≡ 0 → length (triangles s) ≡ 0) →
+    (k : ℕ) (s : Scene) (w : Work) (r : Loaded) (columns′ : List Float) (handles′ : List ℕ) → Loading k s (w .triangles) (w .handles) r columns′ handles′ → (k ≡ 0 → length (triangles s) ≡ 0) →
     _≡_ {A = Work} (withScene w columns′ handles′) (unbuiltOf k w)
 work-unbuilt k s w r columns′ handles′ l none =
-    let cs : columns′ ≡ cond (eqb k 6) (replicate (length (w .columns)) zero32) (w .columns) =
-    l .filled ∙ left-unbuilt k zero32 (w .columns) (putAll (w .columns) (triplesIn s) 0 (triangles s)) (λ z. none-put (w .columns) (triplesIn s) (triangles s) (none z)) in
+    let cs : columns′ ≡ cond (eqb k 6) (replicate (length (w .triangles)) zero32) (w .triangles) =
+    l .filled ∙ left-unbuilt k zero32 (w .triangles) (putAll (w .triangles) (triplesIn s) 0 (triangles s)) (λ z. none-put (w .triangles) (triplesIn s) (triangles s) (none z)) in
     let hs : handles′ ≡ cond (eqb k 6) (replicate (length (w .handles)) 0) (w .handles) =
     l .named ∙ left-unbuilt k 0 (w .handles) (putHandles (w .handles) 0 (triangles s)) (λ z. none-named (w .handles) (triangles s) (none z)) in
     ap (λ (l : List Float). withScene w l handles′) cs
-    ∙ ap (λ (l : List ℕ). withScene w (cond (eqb k 6) (replicate (length (w .columns)) zero32) (w .columns)) l) hs
-    ∙ both-unbuilt (eqb k 6) w (replicate (length (w .columns)) zero32) (replicate (length (w .handles)) 0)
+    ∙ ap (λ (l : List ℕ). withScene w (cond (eqb k 6) (replicate (length (w .triangles)) zero32) (w .triangles)) l) hs
+    ∙ both-unbuilt (eqb k 6) w (replicate (length (w .triangles)) zero32) (replicate (length (w .handles)) 0)

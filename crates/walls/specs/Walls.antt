@@ -26,47 +26,47 @@ use Rattle.query.specs.Areas.{Work, work}
 -- the lengths of the areas, and that of an output area which is long enough
 abbrev pub lensOf : Work → List ℕ
 lensOf w =
-    length (w .columns) ∷
+    length (w .triangles) ∷
     length (w .handles) ∷
     length (w .tree) ∷
     length (w .nodes) ∷
-    length (w .perm) ∷
-    length (w .hi) ∷
-    length (w .lo) ∷
+    length (w .leaf-order) ∷
+    length (w .keys) ∷
+    length (w .low-keys) ∷
     length (w .words) ∷
     length (w .scratch) ∷
     length (w .index) ∷
-    length (w .id) ∷
-    length (w .linked) ∷
+    length (w .numbers) ∷
+    length (w .adjacency) ∷
     length (w .queue) ∷
-    length (w .starts) ∷
-    length (w .gfloats) ∷
-    length (w .members) ∷
-    length (w .rows) ∷
-    length (w .kept) ∷
-    length (w .edges) ∷
+    length (w .offsets) ∷
+    length (w .floats) ∷
+    length (w .plane-triangles) ∷
+    length (w .plane-floats) ∷
+    length (w .plane-words) ∷
+    length (w .plane-edges) ∷
     outputBytes ∷ []
 
 -- the areas with other columns and handles
 abbrev pub withScene : Work → List Float → List ℕ → Work
 withScene w columns handles =
-    work columns handles (w .tree) (w .nodes) (w .perm) (w .hi) (w .lo) (w .words) (w .scratch) (w .index) (w .id) (w .linked) (w .queue) (w .starts) (w .gfloats)
-    (w .members) (w .rows) (w .kept) (w .edges)
+    work columns handles (w .tree) (w .nodes) (w .leaf-order) (w .keys) (w .low-keys) (w .words) (w .scratch) (w .index) (w .numbers) (w .adjacency) (w .queue) (w .offsets) (w .floats)
+    (w .plane-triangles) (w .plane-floats) (w .plane-words) (w .plane-edges)
 
 -- the areas where nothing is built, for k the first refusal: as found, after 6 with columns and handles zero
 abbrev pub unbuiltOf : ℕ → Work → Work
-unbuiltOf k w = cond (eqb k 6) (withScene w (replicate (length (w .columns)) zero32) (replicate (length (w .handles)) 0)) w
+unbuiltOf k w = cond (eqb k 6) (withScene w (replicate (length (w .triangles)) zero32) (replicate (length (w .handles)) 0)) w
 
 -- where no refusal of 1 to 6 applies and a triangle is kept, the r planes in the areas are those of the query, and what stands in the areas beside them is
 -- open: later steps serve themselves of areas that earlier ones are done with. Else r is 0
 pub record PlanesOf (st : Settings) (c : ℕ) (s : Scene) (found left : Work) (r : ℕ) : Type 0 where
-  pub are : firstRefusal st c s (lensOf found) ≡ 0 → 0 < length (triangles s) → planesIn (left .rows) (left .kept) (left .members) (left .edges) r ≡ planesFor st (triangles s)
+  pub are : firstRefusal st c s (lensOf found) ≡ 0 → 0 < length (triangles s) → planesIn (left .plane-floats) (left .plane-words) (left .plane-triangles) (left .plane-edges) r ≡ planesFor st (triangles s)
   pub refused : (firstRefusal st c s (lensOf found) ≡ 0 → ⊥) → r ≡ 0
   pub bare : length (triangles s) ≡ 0 → r ≡ 0
   pub unbuilt : (firstRefusal st c s (lensOf found) ≡ 0 → length (triangles s) ≡ 0) → left ≡ unbuiltOf (firstRefusal st c s (lensOf found)) found
   pub few : r ≤ mostPlanes
-  pub floats-room : planeFloats * r ≤ length (left .rows)
-  pub words-room : planeWords * r ≤ length (left .kept)
+  pub floats-room : planeFloats * r ≤ length (left .plane-floats)
+  pub words-room : planeWords * r ≤ length (left .plane-words)
 
 -- ---- the walls of an image
 

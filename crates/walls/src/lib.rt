@@ -23,28 +23,29 @@ const MOST_PLANES: usize = 256;
 
 // ---- the planes
 
-// The planes of a scene: their number, 0 where loading refuses it or keeps no triangle. They stand in rows, kept, members and edges. The areas
-// are those of the query, which leaves them zero; where nothing is built they are as found, after refusal 6 with columns and handles zero.
+// The planes of a scene: their number, 0 where loading refuses it or keeps no triangle. They stand in plane_floats, plane_words, plane_triangles and
+// plane_edges. The areas are those of the query, which leaves them zero; where nothing is built they are as found, after refusal 6 with triangles and
+// handles zero.
 pub fn planes_of(
-    columns: &mut [f32],
+    triangles: &mut [f32],
     handles: &mut [u32],
     tree: &mut [f32],
     nodes: &mut [u32],
-    perm: &mut [u32],
-    hi: &mut [u64],
-    lo: &mut [u64],
+    leaf_order: &mut [u32],
+    keys: &mut [u64],
+    low_keys: &mut [u64],
     words: &mut [u64],
     scratch: &mut [u64],
     index: &mut [u32],
-    id: &mut [u32],
-    linked: &mut [u32],
+    numbers: &mut [u32],
+    adjacency: &mut [u32],
     queue: &mut [u32],
-    starts: &mut [u32],
-    gfloats: &mut [f32],
-    members: &mut [u32],
-    rows: &mut [f32],
-    kept: &mut [u32],
-    edges: &mut [f32],
+    offsets: &mut [u32],
+    floats: &mut [f32],
+    plane_triangles: &mut [u32],
+    plane_floats: &mut [f32],
+    plane_words: &mut [u32],
+    plane_edges: &mut [f32],
     settings: Settings,
     c: u32,
     meshes: &[u32],
@@ -56,35 +57,35 @@ pub fn planes_of(
 ) -> usize
     ensures { λ r.
         let s = scene (now (meshes .entry)) (now (transforms .entry)) (now (positions .entry)) (now (indices .entry)) (now (materials .entry)) «rows_count» in
-        let found = work (now (columns .entry)) (now (handles .entry)) (now (tree .entry)) (now (nodes .entry)) (now (perm .entry)) (now (hi .entry))
-        (now (lo .entry)) (now (words .entry)) (now (scratch .entry)) (now (index .entry)) (now (id .entry)) (now (linked .entry))
-        (now (queue .entry)) (now (starts .entry)) (now (gfloats .entry)) (now (members .entry)) (now (rows .entry)) (now (kept .entry))
-        (now (edges .entry)) in
-        let left = work (now (columns .exit)) (now (handles .exit)) (now (tree .exit)) (now (nodes .exit)) (now (perm .exit)) (now (hi .exit)) (now (lo .exit))
-        (now (words .exit)) (now (scratch .exit)) (now (index .exit)) (now (id .exit)) (now (linked .exit)) (now (queue .exit))
-        (now (starts .exit)) (now (gfloats .exit)) (now (members .exit)) (now (rows .exit)) (now (kept .exit)) (now (edges .exit)) in
+        let found = work (now (triangles .entry)) (now (handles .entry)) (now (tree .entry)) (now (nodes .entry)) (now («leaf_order» .entry)) (now (keys .entry))
+        (now («low_keys» .entry)) (now (words .entry)) (now (scratch .entry)) (now (index .entry)) (now (numbers .entry)) (now (adjacency .entry))
+        (now (queue .entry)) (now (offsets .entry)) (now (floats .entry)) (now («plane_triangles» .entry)) (now («plane_floats» .entry)) (now («plane_words» .entry))
+        (now («plane_edges» .entry)) in
+        let left = work (now (triangles .exit)) (now (handles .exit)) (now (tree .exit)) (now (nodes .exit)) (now («leaf_order» .exit)) (now (keys .exit)) (now («low_keys» .exit))
+        (now (words .exit)) (now (scratch .exit)) (now (index .exit)) (now (numbers .exit)) (now (adjacency .exit)) (now (queue .exit))
+        (now (offsets .exit)) (now (floats .exit)) (now («plane_triangles» .exit)) (now («plane_floats» .exit)) (now («plane_words» .exit)) (now («plane_edges» .exit)) in
         ⌜ PlanesOf settings c s found left r ⌝ }
 {
     let lens = [
-        columns.len(),
+        triangles.len(),
         handles.len(),
         tree.len(),
         nodes.len(),
-        perm.len(),
-        hi.len(),
-        lo.len(),
+        leaf_order.len(),
+        keys.len(),
+        low_keys.len(),
         words.len(),
         scratch.len(),
         index.len(),
-        id.len(),
-        linked.len(),
+        numbers.len(),
+        adjacency.len(),
         queue.len(),
-        starts.len(),
-        gfloats.len(),
-        members.len(),
-        rows.len(),
-        kept.len(),
-        edges.len(),
+        offsets.len(),
+        floats.len(),
+        plane_triangles.len(),
+        plane_floats.len(),
+        plane_words.len(),
+        plane_edges.len(),
         OUTPUT,
     ];
     let loaded = placing::load_scene(
@@ -97,7 +98,7 @@ pub fn planes_of(
         materials,
         rows_count,
         lens,
-        columns,
+        triangles,
         handles,
     );
     let front = front::front_of(loaded);
@@ -108,22 +109,22 @@ pub fn planes_of(
     let built = scene_planes::build_scene(
         tree,
         nodes,
-        perm,
-        hi,
-        lo,
+        leaf_order,
+        keys,
+        low_keys,
         words,
         scratch,
         index,
-        id,
-        linked,
+        numbers,
+        adjacency,
         queue,
-        starts,
-        gfloats,
-        members,
-        rows,
-        kept,
-        edges,
-        columns,
+        offsets,
+        floats,
+        plane_triangles,
+        plane_floats,
+        plane_words,
+        plane_edges,
+        triangles,
         handles,
         front.triples,
         front.kept,
@@ -137,7 +138,9 @@ pub fn planes_of(
 // 1 where the source lies on plane p, so that no sequence begins with it.
 fn lies_on(floats: &[f32], words: &[u32], p: usize, source: Vec3) -> u8
     requires { ⌜ (planeFloats * p + planeFloats ≤ length (now floats)) × (planeWords * p + planeWords ≤ length (now words)) ⌝ }
-    ensures { λ r. ⌜ ((members : List ℕ) (edges : List Float) (count : ℕ) → p < count → r ≡ getD (onOf (planesIn (now (floats .entry)) (now (words .entry)) members edges count) source) p 0) ⌝ }
+    ensures { λ r.
+        ⌜ ((members : List ℕ) (edges : List Float) (count : ℕ) → p < count →
+        r ≡ getD (onOf (planesIn (now (floats .entry)) (now (words .entry)) members edges count) source) p 0) ⌝ }
 {
     if bounces::lies_on(floats, words, p, source) {
         return 1;
@@ -148,7 +151,9 @@ fn lies_on(floats: &[f32], words: &[u32], p: usize, source: Vec3) -> u8
 // A byte for each plane.
 fn mark_planes(floats: &[f32], words: &[u32], source: Vec3, on: &mut [u8])
     requires { ⌜ (planeFloats * length (now on) ≤ length (now floats)) × (planeWords * length (now on) ≤ length (now words)) ⌝ }
-    ensures { λ _. ⌜ ((members : List ℕ) (edges : List Float) → now (on .exit) ≡ onOf (planesIn (now (floats .entry)) (now (words .entry)) members edges (length (now (on .entry)))) source) ⌝ }
+    ensures { λ _.
+        ⌜ ((members : List ℕ) (edges : List Float) →
+        now (on .exit) ≡ onOf (planesIn (now (floats .entry)) (now (words .entry)) members edges (length (now (on .entry)))) source) ⌝ }
 {
     let mut p = 0;
     while p < on.len() {
@@ -167,7 +172,9 @@ fn list_over(
     order: usize,
 )
     requires { ⌜ (planeFloats * length (now on) ≤ length (now floats)) × (planeWords * length (now on) ≤ length (now words)) ⌝ }
-    ensures { λ _. ⌜ ((members : List ℕ) (edges : List Float) → now (records .exit) ≡ areaOf (onOf (planesIn (now (floats .entry)) (now (words .entry)) members edges (length (now (on .entry)))) source) order (now (records .entry))) ⌝ }
+    ensures { λ _.
+        ⌜ ((members : List ℕ) (edges : List Float) → now (records .exit) ≡
+        areaOf (onOf (planesIn (now (floats .entry)) (now (words .entry)) members edges (length (now (on .entry)))) source) order (now (records .entry))) ⌝ }
 {
     mark_planes(floats, words, source, on);
     sequences::enumerate(on, order, records);
@@ -189,7 +196,10 @@ pub fn list_images(
     records: &mut [u8],
 )
     requires { ⌜ (count ≤ mostPlanes) × (planeFloats * count ≤ length (now floats)) × (planeWords * count ≤ length (now words)) ⌝ }
-    ensures { λ _. ⌜ ((members : List ℕ) (edges : List Float) → ListsImages (onOf (planesIn (now (floats .entry)) (now (words .entry)) members edges count) source) order (now (records .entry)) (now (records .exit))) ⌝ }
+    ensures { λ _.
+        ⌜ ((members : List ℕ) (edges : List Float) →
+        ListsImages (onOf (planesIn (now (floats .entry)) (now (words .entry)) members edges count) source) order (now (records .entry))
+        (now (records .exit))) ⌝ }
 {
     let mut on = fresh_on();
     list_over(&mut on[..count], records, floats, words, source, order);

@@ -57,7 +57,7 @@ send-requires c κs = let s = c .before .before .before .before .before .before 
       sortable = record {
         rows = record { few = omega (arith, few, rr .few); floats = omega (arith, few, rr .floats, f .kept .1 .1 .1 .1 .1 .1 .1 .1 .1 .1 .1 .1 .0); words = omega (arith, few, rr .words, f .kept .1 .1 .1 .1 .1 .1 .1 .1 .0) };
         numbers = sendable-rankable (r .images) (r .found) (f .last .1 .1 .1 .1 .1 .1 .1 .1 .1 .1 .1 .1 .0) (f .last .1 .1 .1 .1 .1 .1 .1 .1 .0) good;
-        for-keys = omega (arith, few, q .hi-room, f .kept .1 .1 .1 .0);
+        for-keys = omega (arith, few, q .keys-room, f .kept .1 .1 .1 .0);
       };
       for-index = omega (arith, few, q .queue-room, f .kept .1 .1 .1 .1 .1 .1 .1 .1 .1 .1 .0);
       for-words = omega (arith, few, q .words-room, f .kept .1 .1 .1 .1 .1 .0);
@@ -142,20 +142,20 @@ returns c = let a = c .before .before .before .before .before .before .before .b
       },
       (
         record {
-          hi-zero = k .0;
-          lo-zero = k .1;
+          keys-zero = k .0;
+          low-keys-zero = k .1;
           words-zero = k .2;
           scratch-zero = k .3;
           index-zero = l .0;
-          id-zero = l .1;
-          linked-zero = l .2;
+          numbers-zero = l .1;
+          adjacency-zero = l .2;
           queue-zero = l .3;
-          starts-zero = l .4;
-          members-zero = j .0;
-          kept-zero = j .1;
-          rows-zero = g .0;
-          gfloats-zero = g .1;
-          edges-zero = g .2;
+          offsets-zero = l .4;
+          plane-triangles-zero = j .0;
+          plane-words-zero = j .1;
+          plane-floats-zero = g .0;
+          floats-zero = g .1;
+          plane-edges-zero = g .2;
         },
         c .before .before .before .before .before .before .before .before .before .before .clear-scene .ensures,
       ),

@@ -15,24 +15,24 @@ use Rattle.answer.proofs.send.Tie as tie
 
 returns : tie.Need-returns
 returns c = let a = c .before .before .before .before .before .before .before .before .before .args in let f = a .found in let st = a .settings in
-    let w = claim.search (f .images) (f .rays) (candidatesIn (f .found) (a .fs .now) (a .ws .now)) (f .over) in
+    let w = claim.search (f .images) (f .rays) (candidatesIn (f .found) (a .candidate-floats .now) (a .candidate-words .now)) (f .over) in
     let e = by-some (a .refusal) (ended (st .«speed_of_sound») (st .«sample_rate») (limitOf st) w) (c .before .if1 .taken) in
     record { answer = c .refused .ensures ∙ ap answeredOf e; output = ap (λ (q : Query). outputOf q (a .out .now)) e }
 
 returns-2 : tie.Need-returns-2
 returns-2 c = let a = c .before .before .before .before .before .before .before .before .before .before .args in let f = a .found in let st = a .settings in
-    let cs = candidatesIn (f .found) (a .fs .now) (a .ws .now) in
+    let cs = candidatesIn (f .found) (a .candidate-floats .now) (a .candidate-words .now) in
     let q = ended (st .«speed_of_sound») (st .«sample_rate») (limitOf st) (claim.search (f .images) (f .rays) cs (f .over)) in
     let e = over-answer (st .«speed_of_sound») (st .«sample_rate») (limitOf st) (f .images) (f .rays) cs (f .over) q (c .before .if2 .taken) refl ∙ by-none (a .refusal) q (c .before .before .if1 .left) in
     record { answer = c .refused2 .ensures ∙ ap answeredOf e; output = ap (λ (q : Query). outputOf q (a .out .now)) e }
 
 write-taps-requires : tie.Need-write-taps-requires
 write-taps-requires c κs = let a = c .before .before .before .before .before .before .before .before .before .before .before .before .before .before .before .args in let f = a .found in
-    sends-limit (f .found) (limitOf (a .settings)) (c .before .before .before .before .before .list-limit .result) (f .images) (a .fs .now) (a .ws .now) (a .hi .now) (a .queue .now) (a .words .now) (a .scratch .now) (a .out .now) (c .before .before .before .before .before .list-limit .ensures) (c .before .before .before .before .before .before .before .before .before .before .before .before .before .before .before .pre (c .before .before .before .before .before .before .before .if1 .left))
+    sends-limit (f .found) (limitOf (a .settings)) (c .before .before .before .before .before .list-limit .result) (f .images) (a .candidate-floats .now) (a .candidate-words .now) (a .keys .now) (a .queue .now) (a .words .now) (a .scratch .now) (a .out .now) (c .before .before .before .before .before .list-limit .ensures) (c .before .before .before .before .before .before .before .before .before .before .before .before .before .before .before .pre (c .before .before .before .before .before .before .before .if1 .left))
 
 returns-3 : tie.Need-returns-3
 returns-3 c = let a = c .before .before .before .before .before .before .before .before .before .before .before .before .before .before .before .before .before .before .before .before .before .before .before .before .before .before .args in let f = a .found in let st = a .settings in let limit = c .before .before .before .before .before .before .before .before .before .before .before .before .before .before .before .before .list-limit .result in let t = c .before .before .before .before .before .before .before .before .before .before .write-taps in
-    let cs = candidatesIn (f .found) (a .fs .now) (a .ws .now) in
+    let cs = candidatesIn (f .found) (a .candidate-floats .now) (a .candidate-words .now) in
     let w = claim.search (f .images) (f .rays) cs (f .over) in
     let q = ended (st .«speed_of_sound») (st .«sample_rate») (limitOf st) w in
     let e =

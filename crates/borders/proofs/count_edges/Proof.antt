@@ -33,7 +33,7 @@ returns c = let a = c .before .before .before .before .before .before .before .b
     let len : length first ≡ 3 * a .m = omega arith in
     let firsts : (e : ℕ) → e < 3 * a .m → getD first e 0 ≡ firstAt (keyAt hi lo) e = λ e h. c .before .before .before .before .before .before .before .before .before .before .before .before .before .first-indexes .ensures e (omega (arith, h, kh, q)) in (
       firsts-low (a .m) (keyAt hi lo) first len firsts,
-      λ area k h num. once-counted area (a .n) k (a .m) (a .id .now) (a .of .now) num (p .1) h (o .0) (o .1) (keyAt hi lo) first uses (c .before .before .before .before .before .before .before .before .before .before .before .before .before .before .before .before .before .before .before .before .before .before .before .before .edge-keys .ensures .1) firsts
+      λ area k h num. once-counted area (a .n) k (a .m) (a .numbers .now) (a .of .now) num (p .1) h (o .0) (o .1) (keyAt hi lo) first uses (c .before .before .before .before .before .before .before .before .before .before .before .before .before .before .before .before .before .before .before .before .before .before .before .before .edge-keys .ensures .1) firsts
           (λ e l. c .before .before .count-uses .ensures e (omega (arith, l, len)) ∙ ap (countIn first e) len),
     )
 

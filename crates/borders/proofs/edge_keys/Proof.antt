@@ -13,7 +13,7 @@ abbrev μ-loop : tie.MeasureT-loop
 μ-loop id n of m hi₀ lo₀ t₀ hi lo t = m - t
 
 loop-holds : tie.Need-loop-holds Inv-loop μ-loop
-loop-holds c = let a = c .before .before .before .before .args in (omega arith, keyed-none (a .id .now) (a .n) (a .of .now) (a .hi .now) (a .lo .now))
+loop-holds c = let a = c .before .before .before .before .args in (omega arith, keyed-none (a .numbers .now) (a .n) (a .of .now) (a .keys .now) (a .low-keys .now))
 
 mul-put-key : tie.Need-mul-put-key Inv-loop μ-loop
 mul-put-key c = let h = c .before .before .before .before .before .before .loop-test .taken in let p = c .before .before .before .before .before .before .before .before .before .before .before .before .pre .1 .1 in omega arith
@@ -47,7 +47,7 @@ loop-less c = let h = c .before .before .before .before .before .before .before 
 
 loop-again : tie.Need-loop-again Inv-loop μ-loop
 loop-again c = let a = c .before .before .before .before .before .before .before .before .before .before .before .before .before .before .before .before .before .before .before .before .before .before .before .before .before .before .before .before .before .before .before .args in let l = c .before .before .before .before .before .before .before .before .before .before .before .before .before .before .before .before .before .before .before .before .before .before .before .before .before .before .loop in let h = c .before .before .before .before .before .before .before .before .before .before .before .before .before .before .before .before .before .before .before .before .before .before .before .before .before .loop-test .taken in let p = c .before .before .before .before .before .before .before .before .before .before .before .before .before .before .before .before .before .before .before .before .before .before .before .before .before .before .before .before .before .before .before .pre .1 .1 in
-    (omega arith, keyed-more (a .id .now) (a .n) (a .of .now) (a .hi .now) (a .lo .now) (l .hi) (l .lo) (c .before .before .before .before .before .before .before .before .before .before .before .before .before .before .before .before .before .before .put-key .last .0) (c .before .before .before .before .before .before .before .before .before .before .before .before .before .before .before .before .before .before .put-key .last .1 .0) (c .before .before .before .before .before .before .before .before .before .before .before .put-key2 .last .0) (c .before .before .before .before .before .before .before .before .before .before .before .put-key2 .last .1 .0) (c .before .before .before .before .put-key3 .last .0) (c .before .before .before .before .put-key3 .last .1 .0) (l .t) (l .inv .1) (omega arith) (omega arith) (c .before .before .before .before .before .before .before .before .before .before .before .before .before .before .before .before .before .before .put-key .ensures) (c .before .before .before .before .before .before .before .before .before .before .before .put-key2 .ensures) (c .before .before .before .before .put-key3 .ensures))
+    (omega arith, keyed-more (a .numbers .now) (a .n) (a .of .now) (a .keys .now) (a .low-keys .now) (l .keys) (l .low-keys) (c .before .before .before .before .before .before .before .before .before .before .before .before .before .before .before .before .before .before .put-key .last .0) (c .before .before .before .before .before .before .before .before .before .before .before .before .before .before .before .before .before .before .put-key .last .1 .0) (c .before .before .before .before .before .before .before .before .before .before .before .put-key2 .last .0) (c .before .before .before .before .before .before .before .before .before .before .before .put-key2 .last .1 .0) (c .before .before .before .before .put-key3 .last .0) (c .before .before .before .before .put-key3 .last .1 .0) (l .t) (l .inv .1) (omega arith) (omega arith) (c .before .before .before .before .before .before .before .before .before .before .before .before .before .before .before .before .before .before .put-key .ensures) (c .before .before .before .before .before .before .before .before .before .before .before .put-key2 .ensures) (c .before .before .before .before .put-key3 .ensures))
 
 same-length : tie.Need-same-length Inv-loop μ-loop
 same-length c = c .before .loop .inv .1 .len-hi
@@ -57,7 +57,7 @@ same-length-2 c = c .before .loop .inv .1 .len-lo
 
 returns : tie.Need-returns Inv-loop μ-loop
 returns c = let a = c .before .before .before .before .before .before .args in let l = c .before .loop in let p = c .before .before .before .before .before .before .pre .1 .1 in let q = c .loop-test .left in
-    (keyed-low (a .id .now) (a .n) (a .of .now) (a .hi .now) (a .lo .now) (l .hi) (l .lo) (l .t) (l .inv .1) (omega arith), λ t j h g. l .inv .1 .keys t j (omega (arith, h, q)) g)
+    (keyed-low (a .numbers .now) (a .n) (a .of .now) (a .keys .now) (a .low-keys .now) (l .keys) (l .low-keys) (l .t) (l .inv .1) (omega arith), λ t j h g. l .inv .1 .keys t j (omega (arith, h, q)) g)
 
 pub edge-keys-spec : {M : Type 1} → statement M
 edge-keys-spec =

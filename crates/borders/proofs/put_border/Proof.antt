@@ -17,7 +17,7 @@ abbrev μ-loop : tie.MeasureT-loop
 μ-loop area n tris first uses edges₀ at r₀ k₀ edges r k = length tris - k
 
 loop-holds : tie.Need-loop-holds Inv-loop μ-loop
-loop-holds c = let a = c .before .before .before .before .before .args in (omega arith, omega arith, refl, border-none (a .area .now) (a .n) (a .first .now) (a .uses .now) (a .tris .now) (a .edges .now) (a .at))
+loop-holds c = let a = c .before .before .before .before .before .args in (omega arith, omega arith, refl, border-none (a .triangles .now) (a .n) (a .first .now) (a .uses .now) (a .tris .now) (a .plane-edges .now) (a .at))
 
 cast-put-sides : tie.Need-cast-put-sides Inv-loop μ-loop
 cast-put-sides c = let b = below-at (length (c .before .before .before .before .before .before .before .before .args .first .now) / 3) (c .before .before .before .before .before .before .before .before .args .tris .now) (c .before .before .loop .k) (c .before .before .before .before .before .before .before .before .pre .1 .0) (c .before .loop-test .taken) in omega arith
@@ -34,14 +34,14 @@ loop-less c = let h = c .before .before .before .before .before .loop-test .take
 
 loop-again : tie.Need-loop-again Inv-loop μ-loop
 loop-again c = let a = c .before .before .before .before .before .before .before .before .before .before .before .before .args in let l = c .before .before .before .before .before .before .loop in let h = c .before .before .before .before .before .loop-test .taken in let i = c .before .before .before .before .before .before .loop .inv .1 in let s = c .before .before .put-sides .ensures .0 in
-    (omega arith, omega arith, c .before .before .put-sides .kept .1 .1 .1 .1 .1 .0 ∙ l .inv .2, border-more (a .area .now) (a .n) (a .first .now) (a .uses .now) (a .tris .now) (l .k) (a .edges .now) (l .edges) (c .before .before .put-sides .last .1 .1 .1 .1 .1 .0) (a .at) (l .r) (c .before .before .put-sides .result) h (l .inv .3) (c .before .before .put-sides .ensures .1))
+    (omega arith, omega arith, c .before .before .put-sides .kept .1 .1 .1 .1 .1 .0 ∙ l .inv .2, border-more (a .triangles .now) (a .n) (a .first .now) (a .uses .now) (a .tris .now) (l .k) (a .plane-edges .now) (l .plane-edges) (c .before .before .put-sides .last .1 .1 .1 .1 .1 .0) (a .at) (l .r) (c .before .before .put-sides .result) h (l .inv .3) (c .before .before .put-sides .ensures .1))
 
 same-length : tie.Need-same-length Inv-loop μ-loop
 same-length c = c .before .loop .inv .2
 
 returns : tie.Need-returns Inv-loop μ-loop
 returns c = let a = c .before .before .before .before .before .before .before .args in let l = c .before .loop in let i = c .before .loop .inv in let h = c .loop-test .left in
-    (omega arith, border-all (a .area .now) (a .n) (a .first .now) (a .uses .now) (a .tris .now) (l .k) (a .edges .now) (l .edges) (a .at) (l .r) (omega arith) (l .inv .3))
+    (omega arith, border-all (a .triangles .now) (a .n) (a .first .now) (a .uses .now) (a .tris .now) (l .k) (a .plane-edges .now) (l .plane-edges) (a .at) (l .r) (omega arith) (l .inv .3))
 
 pub put-border-spec : {M : Type 1} → statement M
 put-border-spec =

@@ -20,8 +20,8 @@ same-length c = c .before .before .put-point2 .kept .1 .1 .1 .0 ∙ c .before .b
 returns : tie.Need-returns
 unfolding edgeAt
 returns c = let a = c .before .before .before .before .before .before .before .before .before .before .args in let l = c .before .before .before .before .before .before .put-point .last .1 .1 .1 .0 in let m = c .before .before .put-point2 .last .1 .1 .1 .0 in (
-  edge-stored (a .edges .now) l m (a .k) (vecAtOf (a .area .now) (a .n) (a .p)) (vecAtOf (a .area .now) (a .n) (a .q)) (c .before .before .before .before .before .before .put-point .ensures .0) (c .before .before .put-point2 .ensures .0) (c .before .before .put-point2 .ensures .1),
-  edge-before (a .edges .now) l m (a .k) (c .before .before .before .before .before .before .put-point .ensures .1) (c .before .before .put-point2 .ensures .1),
+  edge-stored (a .plane-edges .now) l m (a .k) (vecAtOf (a .triangles .now) (a .n) (a .p)) (vecAtOf (a .triangles .now) (a .n) (a .q)) (c .before .before .before .before .before .before .put-point .ensures .0) (c .before .before .put-point2 .ensures .0) (c .before .before .put-point2 .ensures .1),
+  edge-before (a .plane-edges .now) l m (a .k) (c .before .before .before .before .before .before .put-point .ensures .1) (c .before .before .put-point2 .ensures .1),
 )
 
 pub put-edge-spec : {M : Type 1} → statement M

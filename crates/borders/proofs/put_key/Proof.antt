@@ -8,7 +8,7 @@ use Rattle.borders.proofs.put_key.Tie as tie
 
 returns : tie.Need-returns
 returns c = let a = c .before .before .before .before .args in
-    (ap (λ (z : ℕ). set (a .hi .now) (a .e) (a .plane * 4294967296 + z)) (c .before .lower .ensures), (ap (λ (z : ℕ). set (a .lo .now) (a .e) z) (c .higher .ensures), rw (← c .higher .ensures) (search needs)))
+    (ap (λ (z : ℕ). set (a .keys .now) (a .e) (a .plane * 4294967296 + z)) (c .before .lower .ensures), (ap (λ (z : ℕ). set (a .low-keys .now) (a .e) z) (c .higher .ensures), rw (← c .higher .ensures) (search needs)))
 
 pub put-key-spec : {M : Type 1} → statement M
 put-key-spec =

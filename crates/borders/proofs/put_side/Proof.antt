@@ -20,12 +20,12 @@ same-length c = c .before .before .put-edge .kept .1 .1 .1 .1 .0
 returns : tie.Need-returns
 returns c = let a = c .before .before .before .before .before .before .before .before .before .before .args in
     let once : isOnceIn (a .first .now) (a .uses .now) (a .e) ≡ true = sym (c .before .before .before .before .before .is-once .ensures) ∙ c .before .before .before .before .if1 .taken in
-    (omega arith, rw once (appended-one (a .edges .now) (c .before .before .put-edge .last .1 .1 .1 .1 .0) (a .k) (edgeAt (a .area .now) (a .n) (a .p) (a .q)) (c .before .before .put-edge .ensures .0) (c .before .before .put-edge .ensures .1)))
+    (omega arith, rw once (appended-one (a .plane-edges .now) (c .before .before .put-edge .last .1 .1 .1 .1 .0) (a .k) (edgeAt (a .triangles .now) (a .n) (a .p) (a .q)) (c .before .before .put-edge .ensures .0) (c .before .before .put-edge .ensures .1)))
 
 returns-2 : tie.Need-returns-2
 returns-2 c = let a = c .before .before .before .before .before .before .args in
     let once : isOnceIn (a .first .now) (a .uses .now) (a .e) ≡ false = sym (c .before .is-once .ensures) ∙ c .if1 .left in
-    (omega arith, rw once (appended-none (a .edges .now) (a .k)))
+    (omega arith, rw once (appended-none (a .plane-edges .now) (a .k)))
 
 pub put-side-spec : {M : Type 1} → statement M
 put-side-spec =

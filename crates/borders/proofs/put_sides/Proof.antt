@@ -58,7 +58,7 @@ same-length c = c .before .before .put-side3 .kept .1 .1 .1 .1 .1 .1 .1 .0 ∙ c
 
 returns : tie.Need-returns
 returns c = let a = c .before .before .before .before .before .before .before .before .before .before .before .before .before .before .before .before .args in let r = c .before .before .before .before .before .before .before .before .before .before .put-side .ensures .0 in let s = c .before .before .before .before .before .before .put-side2 .ensures .0 in let v = c .before .before .put-side3 .ensures .0 in
-    (omega arith, appended-sides (a .area .now) (a .n) (a .first .now) (a .uses .now) (a .t) (a .edges .now) (c .before .before .before .before .before .before .before .before .before .before .put-side .last .1 .1 .1 .1 .1 .1 .1 .0) (c .before .before .before .before .before .before .put-side2 .last .1 .1 .1 .1 .1 .1 .1 .0) (c .before .before .put-side3 .last .1 .1 .1 .1 .1 .1 .1 .0) (a .k) (c .before .before .before .before .before .before .before .before .before .before .put-side .result) (c .before .before .before .before .before .before .put-side2 .result) (c .before .before .put-side3 .result) (c .before .before .before .before .before .before .before .before .before .before .put-side .ensures .1) (c .before .before .before .before .before .before .put-side2 .ensures .1) (c .before .before .put-side3 .ensures .1))
+    (omega arith, appended-sides (a .triangles .now) (a .n) (a .first .now) (a .uses .now) (a .t) (a .plane-edges .now) (c .before .before .before .before .before .before .before .before .before .before .put-side .last .1 .1 .1 .1 .1 .1 .1 .0) (c .before .before .before .before .before .before .put-side2 .last .1 .1 .1 .1 .1 .1 .1 .0) (c .before .before .put-side3 .last .1 .1 .1 .1 .1 .1 .1 .0) (a .k) (c .before .before .before .before .before .before .before .before .before .before .put-side .result) (c .before .before .before .before .before .before .put-side2 .result) (c .before .before .put-side3 .result) (c .before .before .before .before .before .before .before .before .before .before .put-side .ensures .1) (c .before .before .before .before .before .before .put-side2 .ensures .1) (c .before .before .put-side3 .ensures .1))
 
 pub put-sides-spec : {M : Type 1} → statement M
 put-sides-spec =

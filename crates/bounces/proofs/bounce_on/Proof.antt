@@ -17,9 +17,9 @@ returns c = λ tri h.
     let a = c .before .before .before .before .before .before .before .before .before .args in
     let row = c .before .before .before .plane-at .result in
     rw (
-      plane-row (a .floats .now) (a .words .now) (a .members .now) (a .edges .now) (a .count) (a .p) (c .before .before .before .before .before .before .before .before .before .pre .1),
+      plane-row (a .plane-floats .now) (a .plane-words .now) (a .plane-triangles .now) (a .plane-edges .now) (a .count) (a .p) (c .before .before .before .before .before .before .before .before .before .pre .1),
       ← c .before .before .before .plane-at .ensures,
-      ← c .before .before .crossing .ensures (trisOf row (a .members .now)) (borderOf row (a .edges .now)),
+      ← c .before .before .crossing .ensures (trisOf row (a .plane-triangles .now)) (borderOf row (a .plane-edges .now)),
       c .enum-told .given .1,
     )
 
@@ -32,9 +32,9 @@ returns-2 c = λ tri h.
     let a = c .before .before .before .before .before .before .before .before .before .before .before .before .before .args in
     let row = c .before .before .before .before .before .before .before .plane-at .result in
     rw (
-      plane-row (a .floats .now) (a .words .now) (a .members .now) (a .edges .now) (a .count) (a .p) (c .before .before .before .before .before .before .before .before .before .before .before .before .before .pre .1),
+      plane-row (a .plane-floats .now) (a .plane-words .now) (a .plane-triangles .now) (a .plane-edges .now) (a .count) (a .p) (c .before .before .before .before .before .before .before .before .before .before .before .before .before .pre .1),
       ← c .before .before .before .before .before .before .before .plane-at .ensures,
-      ← c .before .before .before .before .before .before .crossing .ensures (trisOf row (a .members .now)) (borderOf row (a .edges .now)),
+      ← c .before .before .before .before .before .before .crossing .ensures (trisOf row (a .plane-triangles .now)) (borderOf row (a .plane-edges .now)),
       c .before .before .before .before .b .given .1,
       ← c .before .before .locate-on-plane .ensures tri (rw (c .before .before .before .before .before .before .before .plane-at .ensures) (h _ (c .before .before .before .before .before .before .before .before .before .before .before .before .before .pre .1))),
       c .enum-told2 .given .1,
@@ -46,9 +46,9 @@ returns-3 c = λ tri h.
     let a = c .before .before .before .before .before .before .before .before .before .before .before .before .before .before .args in
     let row = c .before .before .before .before .before .before .before .before .plane-at .result in
     rw (
-      plane-row (a .floats .now) (a .words .now) (a .members .now) (a .edges .now) (a .count) (a .p) (c .before .before .before .before .before .before .before .before .before .before .before .before .before .before .pre .1),
+      plane-row (a .plane-floats .now) (a .plane-words .now) (a .plane-triangles .now) (a .plane-edges .now) (a .count) (a .p) (c .before .before .before .before .before .before .before .before .before .before .before .before .before .before .pre .1),
       ← c .before .before .before .before .before .before .before .before .plane-at .ensures,
-      ← c .before .before .before .before .before .before .before .crossing .ensures (trisOf row (a .members .now)) (borderOf row (a .edges .now)),
+      ← c .before .before .before .before .before .before .before .crossing .ensures (trisOf row (a .plane-triangles .now)) (borderOf row (a .plane-edges .now)),
       c .before .before .before .before .before .b .given .1,
       ← c .before .before .before .locate-on-plane .ensures tri (rw (c .before .before .before .before .before .before .before .before .plane-at .ensures) (h _ (c .before .before .before .before .before .before .before .before .before .before .before .before .before .before .pre .1))),
       c .before .i .given .1,

@@ -49,19 +49,19 @@ turn-on-requires : tie.Need-turn-on-requires Inv-loop μ-loop
 turn-on-requires c κs = (c .before .before .before .before .before .before .before .before .before .before .before .pre .0, c .before .before .before .before .before .before .before .before .before .before .before .pre .1 .1 (c .before .before .before .loop .k - 1) (omega (arith, c .before .before .before .loop .inv .0, c .before .before .loop-test .taken)))
 
 returns : tie.Need-returns Inv-loop μ-loop
-returns c = λ tri fade h. sym (c .before .before .before .before .before .before .loop .inv .1 tri fade h ∙ fate-next tri fade (planeOn (planesIn (c .before .before .before .before .before .before .before .before .before .before .before .before .before .before .args .floats .now) (c .before .before .before .before .before .before .before .before .before .before .before .before .before .before .args .words .now) (c .before .before .before .before .before .before .before .before .before .before .before .before .before .before .args .members .now) (c .before .before .before .before .before .before .before .before .before .before .before .before .before .before .args .edges .now) (c .before .before .before .before .before .before .before .before .before .before .before .before .before .before .args .count)) (c .before .before .before .before .before .before .before .before .before .before .before .before .before .before .args .seq .now)) (pointIn (c .before .before .before .before .before .before .before .before .before .before .before .before .before .before .args .images .now)) (c .before .before .before .before .before .before .loop .k) (c .before .before .before .before .before .before .loop .prev) one32 [] [] (c .before .before .before .before .before .loop-test .taken) (c .before .before .before .before .vec-in .result) NotCrossed (c .before .before .before .before .vec-in .ensures) (sym (c .enum-told .given .1) ∙ c .before .before .turn-on .ensures tri fade h))
+returns c = λ tri fade h. sym (c .before .before .before .before .before .before .loop .inv .1 tri fade h ∙ fate-next tri fade (planeOn (planesIn (c .before .before .before .before .before .before .before .before .before .before .before .before .before .before .args .plane-floats .now) (c .before .before .before .before .before .before .before .before .before .before .before .before .before .before .args .plane-words .now) (c .before .before .before .before .before .before .before .before .before .before .before .before .before .before .args .plane-triangles .now) (c .before .before .before .before .before .before .before .before .before .before .before .before .before .before .args .plane-edges .now) (c .before .before .before .before .before .before .before .before .before .before .before .before .before .before .args .count)) (c .before .before .before .before .before .before .before .before .before .before .before .before .before .before .args .seq .now)) (pointIn (c .before .before .before .before .before .before .before .before .before .before .before .before .before .before .args .images .now)) (c .before .before .before .before .before .before .loop .k) (c .before .before .before .before .before .before .loop .prev) one32 [] [] (c .before .before .before .before .before .loop-test .taken) (c .before .before .before .before .vec-in .result) NotCrossed (c .before .before .before .before .vec-in .ensures) (sym (c .enum-told .given .1) ∙ c .before .before .turn-on .ensures tri fade h))
 
 returns-2 : tie.Need-returns-2 Inv-loop μ-loop
-returns-2 c = λ tri fade h. sym (c .before .before .before .before .before .before .loop .inv .1 tri fade h ∙ fate-next tri fade (planeOn (planesIn (c .before .before .before .before .before .before .before .before .before .before .before .before .before .before .args .floats .now) (c .before .before .before .before .before .before .before .before .before .before .before .before .before .before .args .words .now) (c .before .before .before .before .before .before .before .before .before .before .before .before .before .before .args .members .now) (c .before .before .before .before .before .before .before .before .before .before .before .before .before .before .args .edges .now) (c .before .before .before .before .before .before .before .before .before .before .before .before .before .before .args .count)) (c .before .before .before .before .before .before .before .before .before .before .before .before .before .before .args .seq .now)) (pointIn (c .before .before .before .before .before .before .before .before .before .before .before .before .before .before .args .images .now)) (c .before .before .before .before .before .before .loop .k) (c .before .before .before .before .before .before .loop .prev) one32 [] [] (c .before .before .before .before .before .loop-test .taken) (c .before .before .before .before .vec-in .result) OffSurface (c .before .before .before .before .vec-in .ensures) (sym (c .enum-told2 .given .1) ∙ c .before .before .turn-on .ensures tri fade h))
+returns-2 c = λ tri fade h. sym (c .before .before .before .before .before .before .loop .inv .1 tri fade h ∙ fate-next tri fade (planeOn (planesIn (c .before .before .before .before .before .before .before .before .before .before .before .before .before .before .args .plane-floats .now) (c .before .before .before .before .before .before .before .before .before .before .before .before .before .before .args .plane-words .now) (c .before .before .before .before .before .before .before .before .before .before .before .before .before .before .args .plane-triangles .now) (c .before .before .before .before .before .before .before .before .before .before .before .before .before .before .args .plane-edges .now) (c .before .before .before .before .before .before .before .before .before .before .before .before .before .before .args .count)) (c .before .before .before .before .before .before .before .before .before .before .before .before .before .before .args .seq .now)) (pointIn (c .before .before .before .before .before .before .before .before .before .before .before .before .before .before .args .images .now)) (c .before .before .before .before .before .before .loop .k) (c .before .before .before .before .before .before .loop .prev) one32 [] [] (c .before .before .before .before .before .loop-test .taken) (c .before .before .before .before .vec-in .result) OffSurface (c .before .before .before .before .vec-in .ensures) (sym (c .enum-told2 .given .1) ∙ c .before .before .turn-on .ensures tri fade h))
 
 loop-less : tie.Need-loop-less Inv-loop μ-loop
 loop-less c = omega (arith, c .before .before .before .before .before .before .loop-test .taken)
 
 loop-again : tie.Need-loop-again Inv-loop μ-loop
-loop-again c = (omega (arith, c .before .before .before .before .before .before .before .loop .inv .0), λ tri fade h. c .before .before .before .before .before .before .before .loop .inv .1 tri fade h ∙ fate-next tri fade (planeOn (planesIn (c .before .before .before .before .before .before .before .before .before .before .before .before .before .before .before .args .floats .now) (c .before .before .before .before .before .before .before .before .before .before .before .before .before .before .before .args .words .now) (c .before .before .before .before .before .before .before .before .before .before .before .before .before .before .before .args .members .now) (c .before .before .before .before .before .before .before .before .before .before .before .before .before .before .before .args .edges .now) (c .before .before .before .before .before .before .before .before .before .before .before .before .before .before .before .args .count)) (c .before .before .before .before .before .before .before .before .before .before .before .before .before .before .before .args .seq .now)) (pointIn (c .before .before .before .before .before .before .before .before .before .before .before .before .before .before .before .args .images .now)) (c .before .before .before .before .before .before .before .loop .k) (c .before .before .before .before .before .before .before .loop .prev) one32 [] [] (c .before .before .before .before .before .before .loop-test .taken) (c .before .before .before .before .before .vec-in .result) (On (c .before .q .given .0 .0)) (c .before .before .before .before .before .vec-in .ensures) (sym (c .before .q .given .1) ∙ c .before .before .before .turn-on .ensures tri fade h))
+loop-again c = (omega (arith, c .before .before .before .before .before .before .before .loop .inv .0), λ tri fade h. c .before .before .before .before .before .before .before .loop .inv .1 tri fade h ∙ fate-next tri fade (planeOn (planesIn (c .before .before .before .before .before .before .before .before .before .before .before .before .before .before .before .args .plane-floats .now) (c .before .before .before .before .before .before .before .before .before .before .before .before .before .before .before .args .plane-words .now) (c .before .before .before .before .before .before .before .before .before .before .before .before .before .before .before .args .plane-triangles .now) (c .before .before .before .before .before .before .before .before .before .before .before .before .before .before .before .args .plane-edges .now) (c .before .before .before .before .before .before .before .before .before .before .before .before .before .before .before .args .count)) (c .before .before .before .before .before .before .before .before .before .before .before .before .before .before .before .args .seq .now)) (pointIn (c .before .before .before .before .before .before .before .before .before .before .before .before .before .before .before .args .images .now)) (c .before .before .before .before .before .before .before .loop .k) (c .before .before .before .before .before .before .before .loop .prev) one32 [] [] (c .before .before .before .before .before .before .loop-test .taken) (c .before .before .before .before .before .vec-in .result) (On (c .before .q .given .0 .0)) (c .before .before .before .before .before .vec-in .ensures) (sym (c .before .q .given .1) ∙ c .before .before .before .turn-on .ensures tri fade h))
 
 returns-3 : tie.Need-returns-3 Inv-loop μ-loop
-returns-3 c = λ tri fade h. sym (c .before .loop .inv .1 tri fade h ∙ fate-none tri fade (planeOn (planesIn (c .before .before .before .before .before .before .before .before .before .args .floats .now) (c .before .before .before .before .before .before .before .before .before .args .words .now) (c .before .before .before .before .before .before .before .before .before .args .members .now) (c .before .before .before .before .before .before .before .before .before .args .edges .now) (c .before .before .before .before .before .before .before .before .before .args .count)) (c .before .before .before .before .before .before .before .before .before .args .seq .now)) (pointIn (c .before .before .before .before .before .before .before .before .before .args .images .now)) (c .before .loop .k) (c .before .loop .prev) one32 [] [] (omega (arith, c .loop-test .left)))
+returns-3 c = λ tri fade h. sym (c .before .loop .inv .1 tri fade h ∙ fate-none tri fade (planeOn (planesIn (c .before .before .before .before .before .before .before .before .before .args .plane-floats .now) (c .before .before .before .before .before .before .before .before .before .args .plane-words .now) (c .before .before .before .before .before .before .before .before .before .args .plane-triangles .now) (c .before .before .before .before .before .before .before .before .before .args .plane-edges .now) (c .before .before .before .before .before .before .before .before .before .args .count)) (c .before .before .before .before .before .before .before .before .before .args .seq .now)) (pointIn (c .before .before .before .before .before .before .before .before .before .args .images .now)) (c .before .loop .k) (c .before .loop .prev) one32 [] [] (omega (arith, c .loop-test .left)))
 
 pub fate-back-spec : {M : Type 1} → statement M
 fate-back-spec =

@@ -20,9 +20,9 @@ returns c = λ tri fade h.
     let a = c .before .before .before .before .before .before .before .before .before .args in
     let row = c .before .before .before .plane-at .result in
     rw (
-      plane-row (a .floats .now) (a .words .now) (a .members .now) (a .edges .now) (a .count) (a .p) (c .before .before .before .before .before .before .before .before .before .pre .1),
+      plane-row (a .plane-floats .now) (a .plane-words .now) (a .plane-triangles .now) (a .plane-edges .now) (a .count) (a .p) (c .before .before .before .before .before .before .before .before .before .pre .1),
       ← c .before .before .before .plane-at .ensures,
-      ← c .before .before .crossing .ensures (trisOf row (a .members .now)) (borderOf row (a .edges .now)),
+      ← c .before .before .crossing .ensures (trisOf row (a .plane-triangles .now)) (borderOf row (a .plane-edges .now)),
       c .enum-told .given .1,
     )
 
@@ -31,7 +31,7 @@ plane-at-requires-2 c κs = (omega (arith, c .before .before .before .before .be
 
 surface-requires : tie.Need-surface-requires
 surface-requires c κs =
-    let runs : RunsIn (c .plane-at2 .result) (c .before .before .before .before .before .before .before .before .before .before .before .args .n) (c .before .before .before .before .before .before .before .before .before .before .before .args .members .now) (c .before .before .before .before .before .before .before .before .before .before .before .args .edges .now) = rw (c .plane-at2 .ensures) (c .before .before .before .before .before .before .before .before .before .before .before .pre .0 .held .runs _ (c .before .before .before .before .before .before .before .before .before .before .before .pre .1)) in
+    let runs : RunsIn (c .plane-at2 .result) (c .before .before .before .before .before .before .before .before .before .before .before .args .n) (c .before .before .before .before .before .before .before .before .before .before .before .args .plane-triangles .now) (c .before .before .before .before .before .before .before .before .before .before .before .args .plane-edges .now) = rw (c .plane-at2 .ensures) (c .before .before .before .before .before .before .before .before .before .before .before .pre .0 .held .runs _ (c .before .before .before .before .before .before .before .before .before .before .before .pre .1)) in
     (c .before .before .before .before .before .before .before .before .before .before .before .pre .0 .columns-room, (runs .members-room, runs .below))
 
 returns-2 : tie.Need-returns-2
@@ -41,12 +41,12 @@ returns-2 c = λ tri fade h.
     let row = c .before .before .before .before .before .before .before .before .plane-at .result in
     let again : c .before .before .before .plane-at2 .result ≡ row = c .before .before .before .plane-at2 .ensures ∙ sym (c .before .before .before .before .before .before .before .before .plane-at .ensures) in
     rw (
-      plane-row (a .floats .now) (a .words .now) (a .members .now) (a .edges .now) (a .count) (a .p) (c .before .before .before .before .before .before .before .before .before .before .before .before .before .before .pre .1),
+      plane-row (a .plane-floats .now) (a .plane-words .now) (a .plane-triangles .now) (a .plane-edges .now) (a .count) (a .p) (c .before .before .before .before .before .before .before .before .before .before .before .before .before .before .pre .1),
       ← c .before .before .before .before .before .before .before .before .plane-at .ensures,
-      ← c .before .before .before .before .before .before .before .crossing .ensures (trisOf row (a .members .now)) (borderOf row (a .edges .now)),
+      ← c .before .before .before .before .before .before .before .crossing .ensures (trisOf row (a .plane-triangles .now)) (borderOf row (a .plane-edges .now)),
       c .before .before .before .before .before .b .given .1,
       locate-surface,
-      ← rw again at (c .before .before .surface .ensures tri (borderOf row (a .edges .now)) (rw (c .before .before .before .plane-at2 .ensures) (h _ (c .before .before .before .before .before .before .before .before .before .before .before .before .before .before .pre .1)))),
+      ← rw again at (c .before .before .surface .ensures tri (borderOf row (a .plane-edges .now)) (rw (c .before .before .before .plane-at2 .ensures) (h _ (c .before .before .before .before .before .before .before .before .before .before .before .before .before .before .pre .1)))),
       c .enum-told2 .given .1,
     )
 
@@ -57,12 +57,12 @@ returns-3 c = λ tri fade h.
     let row = c .before .before .before .before .before .before .before .before .before .plane-at .result in
     let again : c .before .before .before .before .plane-at2 .result ≡ row = c .before .before .before .before .plane-at2 .ensures ∙ sym (c .before .before .before .before .before .before .before .before .before .plane-at .ensures) in
     rw (
-      plane-row (a .floats .now) (a .words .now) (a .members .now) (a .edges .now) (a .count) (a .p) (c .before .before .before .before .before .before .before .before .before .before .before .before .before .before .before .pre .1),
+      plane-row (a .plane-floats .now) (a .plane-words .now) (a .plane-triangles .now) (a .plane-edges .now) (a .count) (a .p) (c .before .before .before .before .before .before .before .before .before .before .before .before .before .before .before .pre .1),
       ← c .before .before .before .before .before .before .before .before .before .plane-at .ensures,
-      ← c .before .before .before .before .before .before .before .before .crossing .ensures (trisOf row (a .members .now)) (borderOf row (a .edges .now)),
+      ← c .before .before .before .before .before .before .before .before .crossing .ensures (trisOf row (a .plane-triangles .now)) (borderOf row (a .plane-edges .now)),
       c .before .before .before .before .before .before .b .given .1,
       locate-surface,
-      ← rw again at (c .before .before .before .surface .ensures tri (borderOf row (a .edges .now)) (rw (c .before .before .before .before .plane-at2 .ensures) (h _ (c .before .before .before .before .before .before .before .before .before .before .before .before .before .before .before .pre .1)))),
+      ← rw again at (c .before .before .before .surface .ensures tri (borderOf row (a .plane-edges .now)) (rw (c .before .before .before .before .plane-at2 .ensures) (h _ (c .before .before .before .before .before .before .before .before .before .before .before .before .before .before .before .pre .1)))),
       c .before .q .given .1,
     )
 

@@ -45,7 +45,7 @@ pub +build-sah-spec : {M : Type 1} → statement M
     (λ c. c .before .before .before .before .put-leaf .kept .1 .1 .1 .1 .1 .1 .0)
     (λ c.
     let a = c .before .before .before .before .before .before .before .before .before .before .before .before .before .before .before .before .before .before .before .before .before .before .before .before .before .before .before .before .before .before .before .before .args in
-    law.built-after (a .perm .now) (c .before .before .before .before .before .before .before .before .before .before .before .before .before .before .before .before .before .split-node .kept .1 .1 .1 .1 .1 .1 .1 .1 .0) (c .before .before .before .before .before .before .before .before .before .before .before .before .before .before .before .before .before .split-node .ensures .low) (c .before .before .before .before .before .before .before .before .before .before .before .before .before .before .before .before .before .split-node .ensures .high)
+    law.built-after (a .leaf-order .now) (c .before .before .before .before .before .before .before .before .before .before .before .before .before .before .before .before .before .split-node .kept .1 .1 .1 .1 .1 .1 .1 .1 .0) (c .before .before .before .before .before .before .before .before .before .before .before .before .before .before .before .before .before .split-node .ensures .low) (c .before .before .before .before .before .before .before .before .before .before .before .before .before .before .before .before .before .split-node .ensures .high)
     (law.built-as (c .before .before .before .before .before .before .before .before .before .before .before .before .before .before .before .before .before .split-node .ensures .leaf-of (c .before .before .before .before .before .before .before .before .if1 .taken)) (c .before .before .before .before .put-leaf .ensures (a .levels))))
     (λ c. let R = c .before .before .before .before .before .before .before .before .before .before .before .before .before .before .before .before .before .before .before .before .before .before .before .before .pre .1 .0 in let w = c .before .before .before .before .before .before .before .before .before .split-node .ensures .within in let q = R .within in let f = R .few in let e = R .size in omega arith)
     (λ c. let z = c .before .before .before .before .before .before .before .before .before .split-node .ensures .deep (c .if1 .left) in omega arith)
@@ -132,8 +132,8 @@ pub +build-sah-spec : {M : Type 1} → statement M
     let room = R .1 .1 .nodes-room in
     let small = R .1 .1 .small in
     law.built-step v mids (a .levels) (a .n) (a .lo) (a .hi) at (a .next) (c .before .before .before .before .before .before .before .before .before .before .before .before .before .before .before .before .before .before .before .before .before .before .before .before .before .before .before .before .before .before .before .before .before .before .before .before .before .before .build-sah .result) (c .before .before .before .before .before .before .before .before .before .before .before .before .before .before .before .before .before .before .before .build-sah2 .result)
-    (a .perm .now) p1 (c .before .before .before .before .before .before .before .before .before .before .before .before .before .before .before .before .before .before .before .before .before .before .before .before .before .before .before .before .before .before .before .before .before .before .before .before .before .before .build-sah .last .1 .1 .1 .1 .1 .1 .1 .1 .0) (c .before .before .before .before .before .before .before .before .before .before .before .before .before .before .before .before .before .before .before .build-sah2 .last .1 .1 .1 .1 .1 .1 .1 .1 .0)
+    (a .leaf-order .now) p1 (c .before .before .before .before .before .before .before .before .before .before .before .before .before .before .before .before .before .before .before .before .before .before .before .before .before .before .before .before .before .before .before .before .before .before .before .before .before .before .build-sah .last .1 .1 .1 .1 .1 .1 .1 .1 .0) (c .before .before .before .before .before .before .before .before .before .before .before .before .before .before .before .before .before .before .before .build-sah2 .last .1 .1 .1 .1 .1 .1 .1 .1 .0)
     (a .boxes .now) (c .before .before .before .before .before .before .before .before .before .before .before .before .before .before .before .before .before .before .before .before .before .before .before .before .before .before .before .before .before .before .before .before .before .before .before .before .before .before .build-sah .last .1 .1 .1 .1 .1 .1 .1 .1 .1 .1 .1 .1 .0) (c .before .before .before .before .before .before .before .before .before .before .before .before .before .before .before .before .before .before .before .build-sah2 .last .1 .1 .1 .1 .1 .1 .1 .1 .1 .1 .1 .1 .0) (c .before .before .before .before .put-inner .last .0)
     (a .nodes .now) (c .before .before .before .before .before .before .before .before .before .before .before .before .before .before .before .before .before .before .before .before .before .before .before .before .before .before .before .before .before .before .before .before .before .before .before .before .before .before .build-sah .last .1 .1 .1 .1 .1 .1 .1 .1 .1 .1 .1 .1 .1 .0) (c .before .before .before .before .before .before .before .before .before .before .before .before .before .before .before .before .before .before .before .build-sah2 .last .1 .1 .1 .1 .1 .1 .1 .1 .1 .1 .1 .1 .1 .0) (c .before .before .before .before .put-inner .last .1 .0)
     (c .before .before .before .before .before .before .before .before .before .before .before .before .before .before .before .before .before .before .before .before .before .before .before .before .before .before .before .before .before .before .before .before .before .before .before .before .before .before .before .before .before .before .before .before .before .before .before .before .before .before .before .before .before .before .split-node .ensures .deep nz) (c .before .before .before .before .before .before .before .before .before .before .before .before .before .before .before .before .before .before .before .before .before .before .before .before .before .before .before .before .before .before .before .before .before .before .before .before .before .before .before .before .before .before .before .before .before .before .before .before .before .before .before .before .before .before .split-node .ensures .many nz) nz (R .0 .within) (c .before .before .before .before .before .before .before .before .before .before .before .before .before .before .before .before .before .before .before .before .before .before .before .before .before .before .before .before .before .before .before .before .before .before .before .before .before .before .before .before .before .before .before .before .before .before .before .before .before .before .before .before .before .before .split-node .kept .1 .1 .1 .1 .1 .1 .1 .1 .0) (c .before .before .before .before .before .before .before .before .before .before .before .before .before .before .before .before .before .before .before .before .before .before .before .before .before .before .before .before .before .before .before .before .before .before .before .before .before .before .build-sah .kept .1 .1 .1 .1 .1 .1 .1 .1 .0) (c .before .before .before .before .before .before .before .before .before .before .before .before .before .before .before .before .before .before .before .build-sah2 .kept .1 .1 .1 .1 .1 .1 .1 .1 .0) (omega arith) (omega arith)
-    (law.chosen-parted v mids (a .levels) (a .n) (a .lo) (a .hi) (a .perm .now) at p1 nz (c .before .before .before .before .before .before .before .before .before .before .before .before .before .before .before .before .before .before .before .before .before .before .before .before .before .before .before .before .before .before .before .before .before .before .before .before .before .before .before .before .before .before .before .before .before .before .before .before .before .before .before .before .before .before .split-node .ensures)) (c .before .before .before .before .before .before .before .before .before .before .before .before .before .before .before .before .before .before .before .before .before .before .before .before .before .before .before .before .before .before .before .before .before .before .before .before .before .before .build-sah .ensures) (c .before .before .before .before .before .before .before .before .before .before .before .before .before .before .before .before .before .before .before .build-sah2 .ensures) (c .before .before .before .before .put-inner .ensures))
+    (law.chosen-parted v mids (a .levels) (a .n) (a .lo) (a .hi) (a .leaf-order .now) at p1 nz (c .before .before .before .before .before .before .before .before .before .before .before .before .before .before .before .before .before .before .before .before .before .before .before .before .before .before .before .before .before .before .before .before .before .before .before .before .before .before .before .before .before .before .before .before .before .before .before .before .before .before .before .before .before .before .split-node .ensures)) (c .before .before .before .before .before .before .before .before .before .before .before .before .before .before .before .before .before .before .before .before .before .before .before .before .before .before .before .before .before .before .before .before .before .before .before .before .before .before .build-sah .ensures) (c .before .before .before .before .before .before .before .before .before .before .before .before .before .before .before .before .before .before .before .build-sah2 .ensures) (c .before .before .before .before .put-inner .ensures))

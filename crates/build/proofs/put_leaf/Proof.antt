@@ -21,7 +21,7 @@ part-bounds-end : tie.Need-part-bounds-end
 part-bounds-end c = let L = c .before .before .before .before .pre .0 in let R = c .before .before .before .before .pre .1 in let some = L .some in let within = L .within in let size = L .size in let few = L .few in let br = R .boxes-room in let nr = R .nodes-room in let small = R .small in omega arith
 
 bounds-requires : tie.Need-bounds-requires
-bounds-requires c κs = let a = c .before .before .before .before .before .args in let L = c .before .before .before .before .before .pre .0 in (L .wide, below-take (a .n) (a .hi - a .lo) (drop (a .lo) (a .perm .now)) (below-drop (a .n) (a .lo) (a .perm .now) (L .inside)))
+bounds-requires c κs = let a = c .before .before .before .before .before .args in let L = c .before .before .before .before .before .pre .0 in (L .wide, below-take (a .n) (a .hi - a .lo) (drop (a .lo) (a .leaf-order .now)) (below-drop (a .n) (a .lo) (a .leaf-order .now) (L .inside)))
 
 cast-put-node : tie.Need-cast-put-node
 cast-put-node c = let L = c .before .before .before .before .before .before .before .before .pre .0 in let R = c .before .before .before .before .before .before .before .before .pre .1 in let some = L .some in let within = L .within in let size = L .size in let few = L .few in let br = R .boxes-room in let nr = R .nodes-room in let small = R .small in omega arith
@@ -48,7 +48,7 @@ returns : tie.Need-returns
 returns c =
     let a = c .before .before .before .before .before .before .before .before .before .before .before .before .before .args in
     let L = c .before .before .before .before .before .before .before .before .before .before .before .before .before .pre .0 in
-    λ fuel. law.built-leaf (aabbAtOf (a .extents .now)) (a .n) (a .lo) (a .hi) (a .next) fuel (a .perm .now) (L .some) (L .inside) (rw (c .before .before .before .before .before .before .before .bounds .ensures) at (c .before .before .before .before .put-node .ensures))
+    λ fuel. law.built-leaf (aabbAtOf (a .extents .now)) (a .n) (a .lo) (a .hi) (a .next) fuel (a .leaf-order .now) (L .some) (L .inside) (rw (c .before .before .before .before .before .before .before .bounds .ensures) at (c .before .before .before .before .put-node .ensures))
 
 pub put-leaf-spec : {M : Type 1} → statement M
 put-leaf-spec =

@@ -9,7 +9,7 @@ returns : tie.Need-returns
 returns c =
     let a = c .before .before .before .before .before .before .before .before .before .args in
     let L = c .before .before .before .before .before .before .before .before .before .pre .0 in
-    law.chosen-zero (aabbAtOf (a .extents .now)) (centroidAtOf (a .extents .now)) (a .levels) (a .n) (a .lo) (a .hi) (a .perm .now) (c .if1 .taken) (L .some) (L .inside)
+    law.chosen-zero (aabbAtOf (a .extents .now)) (centroidAtOf (a .extents .now)) (a .levels) (a .n) (a .lo) (a .hi) (a .leaf-order .now) (c .if1 .taken) (L .some) (L .inside)
 
 sub-if2 : tie.Need-sub-if2
 sub-if2 c = let L = c .before .before .before .before .before .before .before .before .before .pre .0 in let some = L .some in omega arith
@@ -18,7 +18,7 @@ returns-2 : tie.Need-returns-2
 returns-2 c =
     let a = c .before .before .before .before .before .before .before .before .before .before .args in
     let L = c .before .before .before .before .before .before .before .before .before .before .pre .0 in
-    law.chosen-few (aabbAtOf (a .extents .now)) (centroidAtOf (a .extents .now)) (a .levels) (a .n) (a .lo) (a .hi) (a .perm .now) (c .before .if1 .left) (c .if2 .taken) (L .within) (L .some) (L .inside)
+    law.chosen-few (aabbAtOf (a .extents .now)) (centroidAtOf (a .extents .now)) (a .levels) (a .n) (a .lo) (a .hi) (a .leaf-order .now) (c .before .if1 .left) (c .if2 .taken) (L .within) (L .some) (L .inside)
 
 split-part-requires : tie.Need-split-part-requires
 split-part-requires c κs = c .before .before .before .before .before .before .before .before .before .before .before .before .before .before .pre
@@ -39,7 +39,7 @@ returns-3 : tie.Need-returns-3
 returns-3 c =
     let a = c .before .before .before .before .before .before .before .before .before .before .before .before .before .before .before .before .before .before .before .before .before .before .before .args in
     let L = c .before .before .before .before .before .before .before .before .before .before .before .before .before .before .before .before .before .before .before .before .before .before .before .pre .0 in
-    law.chosen-split (aabbAtOf (a .extents .now)) (centroidAtOf (a .extents .now)) (a .levels) (a .n) (a .lo) (a .hi) (a .perm .now) (c .before .before .before .before .before .before .before .before .before .before .before .before .before .before .if1 .left) (c .before .before .before .before .before .before .before .before .before .before .before .before .before .if2 .left) (L .within) (c .before .before .before .before .before .before .before .before .split-part .result) (c .before .before .before .before .before .before .before .before .split-part .last .1 .1 .1 .1 .1 .1 .1 .0) (c .before .before .before .before .before .before .before .before .split-part .ensures)
+    law.chosen-split (aabbAtOf (a .extents .now)) (centroidAtOf (a .extents .now)) (a .levels) (a .n) (a .lo) (a .hi) (a .leaf-order .now) (c .before .before .before .before .before .before .before .before .before .before .before .before .before .before .if1 .left) (c .before .before .before .before .before .before .before .before .before .before .before .before .before .if2 .left) (L .within) (c .before .before .before .before .before .before .before .before .split-part .result) (c .before .before .before .before .before .before .before .before .split-part .last .1 .1 .1 .1 .1 .1 .1 .0) (c .before .before .before .before .before .before .before .before .split-part .ensures)
 
 pub split-node-spec : {M : Type 1} → statement M
 split-node-spec =

@@ -29,10 +29,10 @@ split-requires c κs =
     let S = c .before .before .before .before .before .before .before .before .before .before .before .before .pre .1 in
     let some = L .some in let within = L .within in let size = L .size in let few = L .few in
     let w = S .words-room in let s = S .scratch-room in let r = S .areas-room in
-    let l = part-length (a .lo) (a .hi) (a .perm .now) (omega arith) (L .within) in
+    let l = part-length (a .lo) (a .hi) (a .leaf-order .now) (omega arith) (L .within) in
     record {
       wide = L .wide;
-      inside = below-take (a .n) (a .hi - a .lo) (drop (a .lo) (a .perm .now)) (below-drop (a .n) (a .lo) (a .perm .now) (L .inside));
+      inside = below-take (a .n) (a .hi - a .lo) (drop (a .lo) (a .leaf-order .now)) (below-drop (a .n) (a .lo) (a .leaf-order .now) (L .inside));
       some = omega arith;
       few = omega arith;
       words-room = omega arith;
@@ -42,7 +42,7 @@ split-requires c κs =
     }
 
 same-length : tie.Need-same-length
-same-length c = let a = c .before .before .before .before .before .before .before .before .before .before .before .before .before .before .before .before .before .before .before .before .before .args in same-len-mid (a .lo) (a .hi - a .lo) (a .perm .now) (c .before .before .before .before .before .before .before .before .split .last .1 .1 .1 .1 .1 .0) (c .before .before .before .before .before .before .before .before .split .kept .1 .1 .1 .1 .1 .0)
+same-length c = let a = c .before .before .before .before .before .before .before .before .before .before .before .before .before .before .before .before .before .before .before .before .before .args in same-len-mid (a .lo) (a .hi - a .lo) (a .leaf-order .now) (c .before .before .before .before .before .before .before .before .split .last .1 .1 .1 .1 .1 .0) (c .before .before .before .before .before .before .before .before .split .kept .1 .1 .1 .1 .1 .0)
 
 same-length-2 : tie.Need-same-length-2
 same-length-2 c = c .before .before .before .before .before .before .before .before .split .kept .1 .1 .1 .1 .1 .1 .0
@@ -58,7 +58,7 @@ returns c =
     let a = c .before .before .before .before .before .before .before .before .before .before .before .before .before .before .before .before .before .before .before .before .before .args in
     let L = c .before .before .before .before .before .before .before .before .before .before .before .before .before .before .before .before .before .before .before .before .before .pre .0 in
     let some = L .some in
-    law.back-split (a .lo) (a .hi) (a .perm .now) (c .before .before .before .before .before .before .before .before .split .last .1 .1 .1 .1 .1 .0) (omega arith) (L .within) (c .before .before .before .before .before .before .before .before .split .kept .1 .1 .1 .1 .1 .0)
+    law.back-split (a .lo) (a .hi) (a .leaf-order .now) (c .before .before .before .before .before .before .before .before .split .last .1 .1 .1 .1 .1 .0) (omega arith) (L .within) (c .before .before .before .before .before .before .before .before .split .kept .1 .1 .1 .1 .1 .0)
     (aabbAtOf (a .extents .now)) (centroidAtOf (a .extents .now)) (a .n) (c .before .before .before .before .before .before .before .before .split .result) (L .inside) (c .before .before .before .before .before .before .before .before .split .ensures .0) (c .before .before .before .before .before .before .before .before .split .ensures .1) (c .before .before .before .before .before .before .before .before .split .ensures .2)
 
 pub split-part-spec : {M : Type 1} → statement M

@@ -52,8 +52,8 @@ loop-again c = let a = c .before .before .before .before .before .before .before
     let room : l .p < length (l .flags) = omega (arith, c .before .before .before .before .before .loop-test .taken, c .before .before .before .before .before .before .before .before .before .before .before .before .before .before .before .pre .0 .3, l .inv .1) in (
       omega arith,
       length-set (l .flags) (l .p) (c .flag .result) ∙ l .inv .1,
-      tells-more (λ q v. Tells (a .padded .now) (a .nodes .now) (a .perm .now) (a .leaves .now) (a .handles .now) (triangleAtOf (a .area .now) (a .handles .now) (a .n) (orZero (getD (a .largest .now) q 0))) (a .reach) v) (l .flags) (l .p) (c .flag .result) room (l .inv .2)
-          (λ tri k h. c .flag .ensures ∙ c .before .is-between .ensures tri k h ∙ ap (λ (t : Triangle). isBetween (probeOf tri k) t (a .reach)) (c .before .before .triangle-at .ensures ∙ ap (triangleAtOf (a .area .now) (a .handles .now) (a .n)) (c .before .before .before .or-zero .ensures))),
+      tells-more (λ q v. Tells (a .padded .now) (a .nodes .now) (a .leaf-order .now) (a .leaves .now) (a .handles .now) (triangleAtOf (a .triangles .now) (a .handles .now) (a .n) (orZero (getD (a .largest .now) q 0))) (a .reach) v) (l .flags) (l .p) (c .flag .result) room (l .inv .2)
+          (λ tri k h. c .flag .ensures ∙ c .before .is-between .ensures tri k h ∙ ap (λ (t : Triangle). isBetween (probeOf tri k) t (a .reach)) (c .before .before .triangle-at .ensures ∙ ap (triangleAtOf (a .triangles .now) (a .handles .now) (a .n)) (c .before .before .before .or-zero .ensures))),
     )
 
 same-length : tie.Need-same-length Inv-loop μ-loop

@@ -21,7 +21,7 @@ largest-triangles-requires c κs = let q = c .before .before .before .before .be
 
 mark-open-requires : tie.Need-mark-open-requires
 mark-open-requires c κs = let a = c .before .before .before .before .before .before .before .before .before .before .before .before .before .before .before .before .before .before .before .before .before .before .args in let p = c .before .before .before .before .before .before .before .before .before .before .before .before .before .before .before .before .before .before .before .before .before .before .pre .0 in let q = c .before .before .before .before .before .before .before .before .before .before .before .before .before .before .before .before .before .before .before .before .before .before .pre .1 .0 in let k = c .before .before .before .before .before .before .largest-triangles .kept .1 .1 .1 .1 .1 .1 .1 .0 in
-    ((p .0, p .1, omega arith, q .3, omega arith), (c .before .before .before .before .before .before .before .before .before .before .before .before .before .before .before .before .before .before .before .before .before .before .pre .1 .1 .0, (c .before .before .before .before .before .before .before .before .before .before .before .before .before .before .before .before .before .before .before .before .before .before .pre .1 .1 .1 .0, λ i h. let b = largest-below (a .area .now) (a .handles .now) (a .n) (a .m) (a .of .now) (a .np) (c .before .before .before .before .before .before .largest-triangles .last .1 .1 .1 .1 .1 .1 .0) (c .before .before .before .before .before .before .largest-triangles .last .1 .1 .1 .1 .1 .1 .1 .0) (p .3) (c .before .before .before .before .before .before .largest-triangles .ensures) i h (q .0) in omega arith)))
+    ((p .0, p .1, omega arith, q .3, omega arith), (c .before .before .before .before .before .before .before .before .before .before .before .before .before .before .before .before .before .before .before .before .before .before .pre .1 .1 .0, (c .before .before .before .before .before .before .before .before .before .before .before .before .before .before .before .before .before .before .before .before .before .before .pre .1 .1 .1 .0, λ i h. let b = largest-below (a .triangles .now) (a .handles .now) (a .n) (a .m) (a .of .now) (a .np) (c .before .before .before .before .before .before .largest-triangles .last .1 .1 .1 .1 .1 .1 .0) (c .before .before .before .before .before .before .largest-triangles .last .1 .1 .1 .1 .1 .1 .1 .0) (p .3) (c .before .before .before .before .before .before .largest-triangles .ensures) i h (q .0) in omega arith)))
 
 close-rows-requires : tie.Need-close-rows-requires
 close-rows-requires c κs = let p = c .before .before .before .before .before .before .before .before .before .before .before .before .before .before .before .before .before .before .before .before .before .before .before .before .before .before .before .before .pre .0 in let q = c .before .before .before .before .before .before .before .before .before .before .before .before .before .before .before .before .before .before .before .before .before .before .before .before .before .before .before .before .pre .1 .0 in let k = c .before .before .before .before .before .mark-open .kept .1 .1 .1 .1 .1 .1 .1 .1 .1 .1 .1 .0 in let l = c .before .before .before .before .before .before .before .before .before .before .before .before .largest-triangles .kept .1 .1 .1 .1 .1 .1 .1 .0 in (q .4, omega arith, omega arith, omega arith)
@@ -35,7 +35,7 @@ returns-2 c = let a = c .before .before .before .before .before .before .before 
     let far : a .np ≤ noneOf = omega (arith, c .before .before .before .before .before .before .before .before .before .before .before .before .before .before .before .before .before .before .before .before .before .before .before .before .before .before .before .before .before .before .before .before .before .before .before .before .before .before .pre .0 .3, q .0) in
     let le = open-le f (a .np) in
     let er = c .before .before .before .before .before .before .before .before .before .close-rows .ensures .0 in (
-      λ tri k h. opened-is (a .area .now) (a .handles .now) (a .n) (a .m) (a .of .now) (a .np) (c .before .before .before .before .before .before .before .before .before .before .before .before .before .before .before .before .before .before .before .before .before .before .largest-triangles .last .1 .1 .1 .1 .1 .1 .0) (c .before .before .before .before .before .before .before .before .before .before .before .before .before .before .before .before .before .before .before .before .before .before .largest-triangles .last .1 .1 .1 .1 .1 .1 .1 .0) (c .before .before .before .before .before .before .before .before .before .before .before .before .before .before .before .before .before .before .before .before .before .before .before .before .before .before .before .before .before .before .before .before .before .before .before .before .before .before .pre .0 .3) (c .before .before .before .before .before .before .before .before .before .before .before .before .before .before .before .before .before .before .before .before .before .before .largest-triangles .ensures) (probeOf tri k) (a .reach) (a .rows .now) (c .before .before .before .before .before .before .before .before .before .close-rows .last .1 .1 .0) (c .before .before .renumber .last .0) f (c .before .before .before .before .before .before .before .before .before .close-rows .last .1 .1 .1 .0) (c .before .before .before .before .before .before .before .before .before .close-rows .result) (q .0) (c .before .before .before .before .before .before .before .before .before .before .before .before .before .before .before .before .before .before .before .before .before .before .before .before .before .before .if1 .taken) (λ p g. c .before .before .before .before .before .before .before .before .before .before .before .before .before .before .before .mark-open .ensures p g tri k h) er (c .before .before .before .before .before .before .before .before .before .close-rows .ensures .1 .0) (c .before .before .before .before .before .before .before .before .before .close-rows .ensures .1 .1) old (c .before .before .renumber .ensures),
+      λ tri k h. opened-is (a .triangles .now) (a .handles .now) (a .n) (a .m) (a .of .now) (a .np) (c .before .before .before .before .before .before .before .before .before .before .before .before .before .before .before .before .before .before .before .before .before .before .largest-triangles .last .1 .1 .1 .1 .1 .1 .0) (c .before .before .before .before .before .before .before .before .before .before .before .before .before .before .before .before .before .before .before .before .before .before .largest-triangles .last .1 .1 .1 .1 .1 .1 .1 .0) (c .before .before .before .before .before .before .before .before .before .before .before .before .before .before .before .before .before .before .before .before .before .before .before .before .before .before .before .before .before .before .before .before .before .before .before .before .before .before .pre .0 .3) (c .before .before .before .before .before .before .before .before .before .before .before .before .before .before .before .before .before .before .before .before .before .before .largest-triangles .ensures) (probeOf tri k) (a .reach) (a .rows .now) (c .before .before .before .before .before .before .before .before .before .close-rows .last .1 .1 .0) (c .before .before .renumber .last .0) f (c .before .before .before .before .before .before .before .before .before .close-rows .last .1 .1 .1 .0) (c .before .before .before .before .before .before .before .before .before .close-rows .result) (q .0) (c .before .before .before .before .before .before .before .before .before .before .before .before .before .before .before .before .before .before .before .before .before .before .before .before .before .before .if1 .taken) (λ p g. c .before .before .before .before .before .before .before .before .before .before .before .before .before .before .before .mark-open .ensures p g tri k h) er (c .before .before .before .before .before .before .before .before .before .close-rows .ensures .1 .0) (c .before .before .before .before .before .before .before .before .before .close-rows .ensures .1 .1) old (c .before .before .renumber .ensures),
       (omega arith, rw er (numbered-new f (a .np) far (c .before .before .before .before .before .before .before .before .before .close-rows .last .1 .1 .1 .0) (c .before .before .before .before .before .before .before .before .before .close-rows .ensures .1 .0) (a .m) (a .of .now) (c .before .before .renumber .last .0) old (c .before .before .renumber .ensures))),
     )
 

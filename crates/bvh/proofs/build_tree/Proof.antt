@@ -103,7 +103,7 @@ build-sah-requires : tie.Need-build-sah-requires
 build-sah-requires c κs =
     let a = c .before .before .before .before .before .before .before .before .before .before .before .before .before .before .before .before .before .before .before .before .before .before .before .before .before .before .before .before .before .before .before .before .before .before .args in
     let L = c .before .before .before .before .before .before .before .before .before .before .before .before .before .before .before .before .before .before .before .before .before .before .before .before .before .before .before .before .before .before .before .before .before .before .pre in
-    let m = length (a .perm .now) in
+    let m = length (a .leaf-order .now) in
     let ee = c .before .before .before .before .before .before .before .before .before .before .before .before .before .before .before .before .before .before .before .before .before .before .put-extents .kept .1 .1 .1 .1 .0 in
     let ek = c .before .before .before .before .before .before .before .before .before .before .before .before .before .before .before .before .before .before .put-all-keys .kept .1 .1 .1 .1 .0 in
     let ep = c .before .before .before .before .before .before .before .before .before .before .before .before .before .number .kept .0 in
@@ -116,7 +116,7 @@ build-sah-requires c κs =
       record { wide = omega arith; few = few; some = some; within = omega arith; size = ep; inside = c .before .before .before .before .before .before .before .before .before .before .before .before .before .number .ensures .1 },
       (
         record {
-          keyed = law.keyed-in (c .before .before .before .before .before .before .before .before .before .before .before .before .before .before .before .before .before .before .before .before .before .before .put-extents .last .1 .1 .1 .1 .0) (centroidOf (a .columns .now) (a .handles .now) (a .n)) m (c .before .before .before .before .before .before .before .before .before .before .before .before .before .before .before .before .before .before .put-all-keys .last .1 .1 .1 .1 .0)
+          keyed = law.keyed-in (c .before .before .before .before .before .before .before .before .before .before .before .before .before .before .before .before .before .before .before .before .before .before .put-extents .last .1 .1 .1 .1 .0) (centroidOf (a .triangles .now) (a .handles .now) (a .n)) m (c .before .before .before .before .before .before .before .before .before .before .before .before .before .before .before .before .before .before .put-all-keys .last .1 .1 .1 .1 .0)
               (λ i h. c .before .before .before .before .before .before .before .before .before .before .before .before .before .before .before .before .before .before .before .before .before .before .put-extents .ensures i h .1) (omega arith) (c .before .before .before .before .before .before .before .before .before .before .before .before .before .before .before .before .before .before .put-all-keys .ensures .1 (c .before .before .before .before .before .before .before .before .before .before .before .before .before .before .before .if1 .taken));
           words-room = L .words-room;
           scratch-room = L .scratch-room;
@@ -154,13 +154,13 @@ returns : tie.Need-returns
 returns c =
     let a = c .before .before .before .before .before .before .before .before .before .before .before .before .before .before .before .before .before .before .before .before .before .before .before .before .before .before .before .before .before .before .before .before .before .before .before .before .before .before .before .before .before .before .before .before .before .before .before .args in
     let L = c .before .before .before .before .before .before .before .before .before .before .before .before .before .before .before .before .before .before .before .before .before .before .before .before .before .before .before .before .before .before .before .before .before .before .before .before .before .before .before .before .before .before .before .before .before .before .before .pre in
-    let m = length (a .perm .now) in
+    let m = length (a .leaf-order .now) in
     let eb = c .before .before .before .before .before .before .before .before .before .before .before .before .build-sah .kept .1 .1 .1 .1 .1 .1 .1 .1 .1 .1 .1 .1 .0 in
     let en = c .before .before .before .before .before .before .before .before .before .before .before .before .build-sah .kept .1 .1 .1 .1 .1 .1 .1 .1 .1 .1 .1 .1 .1 .0 in
     let r5 = L .boxes-room in
     let r6 = L .nodes-room in
     record {
-      built = λ _. law.stands (a .columns .now) (a .handles .now) (a .n) m (c .before .before .before .before .before .before .before .before .before .before .before .before .build-sah .result) (c .before .before .before .before .before .before .before .before .before .before .before .before .before .before .before .before .before .before .before .before .before .before .before .before .before .before .before .before .before .before .before .before .before .before .before .put-extents .last .1 .1 .1 .1 .0) (c .before .before .before .before .before .before .before .before .before .before .before .before .before .before .before .before .before .before .before .before .before .before .before .before .before .before .number .last .0) (c .before .before .before .before .before .before .before .before .before .before .before .before .build-sah .last .1 .1 .1 .1 .1 .1 .1 .1 .0)
+      built = λ _. law.stands (a .triangles .now) (a .handles .now) (a .n) m (c .before .before .before .before .before .before .before .before .before .before .before .before .build-sah .result) (c .before .before .before .before .before .before .before .before .before .before .before .before .before .before .before .before .before .before .before .before .before .before .before .before .before .before .before .before .before .before .before .before .before .before .before .put-extents .last .1 .1 .1 .1 .0) (c .before .before .before .before .before .before .before .before .before .before .before .before .before .before .before .before .before .before .before .before .before .before .before .before .before .before .number .last .0) (c .before .before .before .before .before .before .before .before .before .before .before .before .build-sah .last .1 .1 .1 .1 .1 .1 .1 .1 .0)
           (a .boxes .now) (c .before .before .before .before .before .before .before .before .before .before .before .before .build-sah .last .1 .1 .1 .1 .1 .1 .1 .1 .1 .1 .1 .1 .0) (a .nodes .now) (c .before .before .before .before .before .before .before .before .before .before .before .before .build-sah .last .1 .1 .1 .1 .1 .1 .1 .1 .1 .1 .1 .1 .1 .0) (c .before .before .before .before .before .before .before .before .before .before .before .before .before .before .before .before .before .before .before .before .before .before .before .before .before .before .before .before .before .before .before .before .before .before .before .put-extents .ensures)
           (c .before .before .before .before .before .before .before .before .before .before .before .before .before .before .before .before .before .before .before .before .before .before .before .before .before .before .number .kept .0) (c .before .before .before .before .before .before .before .before .before .before .before .before .build-sah .kept .1 .1 .1 .1 .1 .1 .1 .1 .0 ∙ c .before .before .before .before .before .before .before .before .before .before .before .before .before .before .before .before .before .before .before .before .before .before .before .before .before .before .number .kept .0) (c .before .before .before .before .before .before .before .before .before .before .before .before .before .before .before .before .before .before .before .before .before .before .before .before .before .before .number .ensures .0) (c .before .before .before .before .before .before .before .before .before .before .before .before .before .before .before .before .before .before .before .before .before .before .before .before .before .before .number .ensures .1) (omega arith) (omega arith) (c .before .before .before .before .before .before .before .before .before .before .before .before .build-sah .ensures);
       none = λ f. law.not-both (sym f ∙ sym (c .before .before .before .before .before .before .before .before .before .before .before .before .before .before .before .before .before .before .before .before .before .before .before .before .before .before .before .before .before .before .before .put-all-keys .ensures .0) ∙ c .before .before .before .before .before .before .before .before .before .before .before .before .before .before .before .before .before .before .before .before .before .before .before .before .before .before .before .before .if1 .taken);

@@ -15,20 +15,20 @@ abbrev μ-loop : tie.MeasureT-loop
 μ-loop perm₀ i₀ perm i = length perm₀ - i
 
 loop-holds : tie.Need-loop-holds Inv-loop μ-loop
-loop-holds c = (omega arith, refl, law.counted-none (c .args .perm .now))
+loop-holds c = (omega arith, refl, law.counted-none (c .args .leaf-order .now))
 
-mul-perm : tie.Need-mul-perm Inv-loop μ-loop
-mul-perm c =
+mul-leaf-order : tie.Need-mul-leaf-order Inv-loop μ-loop
+mul-leaf-order c =
     let inv = c .before .loop .inv .1 in
     let t = c .loop-test .taken in
-    scaled-fits (c .before .loop .i) (length (c .before .loop .perm)) 4 (omega arith) (omega (arith, c .before .before .good .0 .0))
+    scaled-fits (c .before .loop .i) (length (c .before .loop .leaf-order)) 4 (omega arith) (omega (arith, c .before .before .good .0 .0))
 
 loop-again : tie.Need-loop-again Inv-loop μ-loop
 loop-again c =
     let inv = c .before .loop .inv in
     let long = inv .1 in
     let t = c .loop-test .taken in
-    (omega arith, length-set (c .before .loop .perm) (c .before .loop .i) (c .before .loop .i) ∙ inv .1, law.counted-more (c .before .loop .perm) (c .before .loop .i) t (inv .2))
+    (omega arith, length-set (c .before .loop .leaf-order) (c .before .loop .i) (c .before .loop .i) ∙ inv .1, law.counted-more (c .before .loop .leaf-order) (c .before .loop .i) t (inv .2))
 
 same-length : tie.Need-same-length Inv-loop μ-loop
 same-length c = c .before .loop .inv .1
@@ -36,7 +36,7 @@ same-length c = c .before .loop .inv .1
 returns : tie.Need-returns Inv-loop μ-loop
 returns c =
     let long = c .before .loop .inv .1 in
-    law.counted-done (c .before .loop .perm) (length (c .before .before .args .perm .now)) (c .before .loop .i) (c .before .loop .inv .1) (omega arith) (c .before .loop .inv .2)
+    law.counted-done (c .before .loop .leaf-order) (length (c .before .before .args .leaf-order .now)) (c .before .loop .i) (c .before .loop .inv .1) (omega arith) (c .before .loop .inv .2)
 
 pub number-spec : {M : Type 1} → statement M
 number-spec =
@@ -46,7 +46,7 @@ number-spec =
     μ-loop
     loop-holds
     (λ c. search needs)
-    mul-perm
+    mul-leaf-order
     (λ c. search needs)
     (λ c. search needs)
     (λ c. search needs)

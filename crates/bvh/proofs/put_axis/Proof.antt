@@ -35,7 +35,7 @@ returns c =
     let ys = y .last .1 .1 .1 .1 .1 .0 in
     let back = mid-back (a .from) (a .to) (a .keys .now) ys (omega (arith, q .0, q .1)) (y .kept .1 .1 .1 .1 .1 .0 ∙ long) in (
       y .ensures .0,
-      λ e. subst (λ (l : List ℕ). InOrder (a .count) l (λ i. axisOf (centroidOf (a .columns .now) (a .handles .now) (a .n) i) (a .k))) (sym back) (y .ensures .1 e),
+      λ e. subst (λ (l : List ℕ). InOrder (a .count) l (λ i. axisOf (centroidOf (a .triangles .now) (a .handles .now) (a .n) i) (a .k))) (sym back) (y .ensures .1 e),
       take-put (a .from) (a .to - a .from) (a .keys .now) ys (omega (arith, q .0, q .1)),
     )
 

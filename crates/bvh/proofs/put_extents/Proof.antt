@@ -18,7 +18,7 @@ abbrev μ-loop : tie.MeasureT-loop
 μ-loop columns handles n count extents₀ i₀ extents i = count - i
 
 loop-holds : tie.Need-loop-holds Inv-loop μ-loop
-loop-holds c = let a = c .before .before .before .args in (omega arith, refl, law.extents-none (a .columns .now) (a .handles .now) (a .n) (a .extents .now))
+loop-holds c = let a = c .before .before .before .args in (omega arith, refl, law.extents-none (a .triangles .now) (a .handles .now) (a .n) (a .extents .now))
 
 triangle-at-requires : tie.Need-triangle-at-requires Inv-loop μ-loop
 triangle-at-requires c κs = let p = c .before .before .before .before .before .pre in let t = c .loop-test .taken in (p .0, p .1, omega arith)
@@ -43,7 +43,7 @@ loop-again c =
     let e = c .before .before .before .before .before .before .triangle-at .ensures in (
       omega arith,
       c .before .before .put-extent .kept .0 ∙ inv .1,
-      law.extents-more (a .columns .now) (a .handles .now) (a .n) (c .before .before .before .before .before .before .before .before .loop .extents) (c .before .before .put-extent .last .0) (c .before .before .before .before .before .before .before .before .loop .i) (c .before .before .before .before .from-corners .result) (c .before .before .before .centroid .result) (omega arith)
+      law.extents-more (a .triangles .now) (a .handles .now) (a .n) (c .before .before .before .before .before .before .before .before .loop .extents) (c .before .before .put-extent .last .0) (c .before .before .before .before .before .before .before .before .loop .i) (c .before .before .before .before .from-corners .result) (c .before .before .before .centroid .result) (omega arith)
           (c .before .before .put-extent .ensures) (c .before .before .before .before .from-corners .ensures ∙ ap (λ (x : Triangle). fromCornersOf (x .a) (x .b) (x .c)) e) (c .before .before .before .centroid .ensures ∙ ap triangle.centroidOf e) (inv .2),
     )
 
@@ -51,7 +51,7 @@ same-length : tie.Need-same-length Inv-loop μ-loop
 same-length c = c .before .loop .inv .1
 
 returns : tie.Need-returns Inv-loop μ-loop
-returns c = let a = c .before .before .before .before .before .args in law.extents-done (a .columns .now) (a .handles .now) (a .n) (c .before .loop .extents) (c .before .loop .i) (a .count) (c .loop-test .left) (c .before .loop .inv .2)
+returns c = let a = c .before .before .before .before .before .args in law.extents-done (a .triangles .now) (a .handles .now) (a .n) (c .before .loop .extents) (c .before .loop .i) (a .count) (c .loop-test .left) (c .before .loop .inv .2)
 
 pub put-extents-spec : {M : Type 1} → statement M
 put-extents-spec =

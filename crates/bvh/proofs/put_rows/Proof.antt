@@ -16,7 +16,7 @@ abbrev μ-loop : tie.MeasureT-loop
 μ-loop columns n perm rows₀ k₀ rows k = length perm - k
 
 loop-holds : tie.Need-loop-holds Inv-loop μ-loop
-loop-holds c = let a = c .before .before .before .args in (omega arith, refl, law.rows-none (a .columns .now) (a .n) (a .perm .now) (a .rows .now))
+loop-holds c = let a = c .before .before .before .args in (omega arith, refl, law.rows-none (a .triangles .now) (a .n) (a .leaf-order .now) (a .leaves .now))
 
 cast-i : tie.Need-cast-i Inv-loop μ-loop
 cast-i c = omega (arith, c .shared-slice-known3 .given (c .before .before .loop .k))
@@ -47,7 +47,7 @@ loop-again c =
     let t = c .before .before .before .before .before .before .before .loop-test .taken in (
       omega arith,
       c .before .before .put-row .kept .0 ∙ inv .1,
-      law.rows-more (a .columns .now) (a .n) (a .perm .now) (c .before .before .before .before .before .before .before .before .loop .rows) (c .before .before .put-row .last .0) (c .before .before .before .before .before .before .before .before .loop .k) (c .before .before .before .before .corner-at .result) (c .before .before .before .edges-at .result) (omega arith)
+      law.rows-more (a .triangles .now) (a .n) (a .leaf-order .now) (c .before .before .before .before .before .before .before .before .loop .leaves) (c .before .before .put-row .last .0) (c .before .before .before .before .before .before .before .before .loop .k) (c .before .before .before .before .corner-at .result) (c .before .before .before .edges-at .result) (omega arith)
           (c .before .before .put-row .ensures) (c .before .before .before .before .corner-at .ensures) (c .before .before .before .edges-at .ensures) (inv .2),
     )
 
@@ -55,7 +55,7 @@ same-length : tie.Need-same-length Inv-loop μ-loop
 same-length c = c .before .loop .inv .1
 
 returns : tie.Need-returns Inv-loop μ-loop
-returns c = let a = c .before .before .before .before .before .args in law.rows-done (a .columns .now) (a .n) (a .perm .now) (c .before .loop .rows) (c .before .loop .k) (length (a .perm .now)) (c .loop-test .left) (c .before .loop .inv .2)
+returns c = let a = c .before .before .before .before .before .args in law.rows-done (a .triangles .now) (a .n) (a .leaf-order .now) (c .before .loop .leaves) (c .before .loop .k) (length (a .leaf-order .now)) (c .loop-test .left) (c .before .loop .inv .2)
 
 pub put-rows-spec : {M : Type 1} → statement M
 put-rows-spec =

@@ -9,7 +9,7 @@ use Rattle.clearing.proofs.clear_keys.Tie as tie
 -- `clearing::clear_keys` meets its contract.
 
 returns : tie.Need-returns
-returns c = (zero-of 0 (length (c .before .before .before .before .before .before .before .before .before .before .before .before .before .before .before .before .before .before .before .before .args .hi .now)) _ (c .before .before .before .before .before .before .before .before .before .before .before .before .before .before .wipe-u64 .ensures), zero-of 0 (length (c .before .before .before .before .before .before .before .before .before .before .before .before .before .before .before .before .before .before .before .before .args .lo .now)) _ (c .before .before .before .before .before .before .before .before .before .before .wipe-u642 .ensures), zero-of 0 (length (c .before .before .before .before .before .before .before .before .before .before .before .before .before .before .before .before .before .before .before .before .args .words .now)) _ (c .before .before .before .before .before .before .wipe-u643 .ensures), zero-of 0 (length (c .before .before .before .before .before .before .before .before .before .before .before .before .before .before .before .before .before .before .before .before .args .scratch .now)) _ (c .before .before .wipe-u644 .ensures))
+returns c = (zero-of 0 (length (c .before .before .before .before .before .before .before .before .before .before .before .before .before .before .before .before .before .before .before .before .args .keys .now)) _ (c .before .before .before .before .before .before .before .before .before .before .before .before .before .before .wipe-u64 .ensures), zero-of 0 (length (c .before .before .before .before .before .before .before .before .before .before .before .before .before .before .before .before .before .before .before .before .args .low-keys .now)) _ (c .before .before .before .before .before .before .before .before .before .before .wipe-u642 .ensures), zero-of 0 (length (c .before .before .before .before .before .before .before .before .before .before .before .before .before .before .before .before .before .before .before .before .args .words .now)) _ (c .before .before .before .before .before .before .wipe-u643 .ensures), zero-of 0 (length (c .before .before .before .before .before .before .before .before .before .before .before .before .before .before .before .before .before .before .before .before .args .scratch .now)) _ (c .before .before .wipe-u644 .ensures))
 
 pub clear-keys-spec : {M : Type 1} → statement M
 clear-keys-spec =

@@ -10,7 +10,7 @@ returns : tie.Need-returns
 returns c =
     let s = c .before .before .before .before .before .before .before .before .before .before .before .before .before .before .before .before .before .before .before .before .before .before .before .before in
     let g = s .args in
-    corners-all (g .area .now) (g .n) (g .scale) (g .hi .now) (g .lo .now) (c .before .before .before .before .before .before .before .before .before .before .before .before .before .before .before .before .before .before .point-keys .last .1 .1 .1 .1 .1 .0) (c .before .before .before .before .before .before .before .before .before .before .before .before .before .before .before .before .before .before .point-keys .last .1 .1 .1 .1 .1 .1 .0) (c .before .before .before .before .before .before .before .before .before .before .before .point-keys2 .last .1 .1 .1 .1 .1 .0) (c .before .before .before .before .before .before .before .before .before .before .before .point-keys2 .last .1 .1 .1 .1 .1 .1 .0) (c .before .before .before .before .point-keys3 .last .1 .1 .1 .1 .1 .0) (c .before .before .before .before .point-keys3 .last .1 .1 .1 .1 .1 .1 .0)
+    corners-all (g .triangles .now) (g .n) (g .scale) (g .keys .now) (g .low-keys .now) (c .before .before .before .before .before .before .before .before .before .before .before .before .before .before .before .before .before .before .point-keys .last .1 .1 .1 .1 .1 .0) (c .before .before .before .before .before .before .before .before .before .before .before .before .before .before .before .before .before .before .point-keys .last .1 .1 .1 .1 .1 .1 .0) (c .before .before .before .before .before .before .before .before .before .before .before .point-keys2 .last .1 .1 .1 .1 .1 .0) (c .before .before .before .before .before .before .before .before .before .before .before .point-keys2 .last .1 .1 .1 .1 .1 .1 .0) (c .before .before .before .before .point-keys3 .last .1 .1 .1 .1 .1 .0) (c .before .before .before .before .point-keys3 .last .1 .1 .1 .1 .1 .1 .0)
     (c .before .before .before .before .point-keys3 .kept .1 .1 .1 .1 .1 .1 .0 ∙ c .before .before .before .before .before .before .before .before .before .before .before .point-keys2 .kept .1 .1 .1 .1 .1 .1 .0 ∙ c .before .before .before .before .before .before .before .before .before .before .before .before .before .before .before .before .before .before .point-keys .kept .1 .1 .1 .1 .1 .1 .0 ∙ s .pre .1 .1) (c .before .before .before .before .before .before .before .before .before .before .before .before .before .before .before .before .before .before .point-keys .ensures) (c .before .before .before .before .before .before .before .before .before .before .before .point-keys2 .ensures) (c .before .before .before .before .point-keys3 .ensures)
 
 pub corner-keys-spec : {M : Type 1} → statement M

@@ -27,7 +27,7 @@ returns c =
     let f = c .before .before .before .before .before .before .before .before .first-indexes in
     let key = keyAt (k .last .1 .1 .1 .0) (k .last .1 .1 .1 .1 .0) in
     let hi = k .kept .1 .1 .1 .0 ∙ s .pre .1 .1 .0 in
-    numbered (g .area .now) (g .n) (g .scale) key _ (k .ensures .1 .0) (k .ensures .1 .1 .0) (k .ensures .1 .1 .1) (λ j l. f .ensures j (rw (hi) l))
+    numbered (g .triangles .now) (g .n) (g .scale) key _ (k .ensures .1 .0) (k .ensures .1 .1 .0) (k .ensures .1 .1 .1) (λ j l. f .ensures j (rw (hi) l))
 
 pub corner-numbers-spec : {M : Type 1} → statement M
 corner-numbers-spec =

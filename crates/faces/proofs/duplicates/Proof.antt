@@ -34,8 +34,8 @@ returns c =
     let k = c .before .before .before .before .before .before .before .before .before .before .before .before .before .before .before .before .before .before .before .before .before .before .before .before .before .before .corner-keys in
     let f = c .before .before .before .before .before .before .before .before .before .before .before .before .before .before .first-faces in
     let key = keyAt (k .last .1 .1 .1 .0) (k .last .1 .1 .1 .1 .0) in (
-      λ i h. first-at (g .area .now) (g .n) key (k .ensures .1 .0) (k .ensures .1 .1 .0) (k .ensures .1 .1 .1) i (getD (f .last .1 .1 .1 .1 .1 .1 .1 .0) i 0) h (f .ensures .1 i h),
-      numbered (g .area .now) (g .n) vertexStepsPerMetre key _ (k .ensures .1 .0) (k .ensures .1 .1 .0) (k .ensures .1 .1 .1) (f .ensures .0),
+      λ i h. first-at (g .triangles .now) (g .n) key (k .ensures .1 .0) (k .ensures .1 .1 .0) (k .ensures .1 .1 .1) i (getD (f .last .1 .1 .1 .1 .1 .1 .1 .0) i 0) h (f .ensures .1 i h),
+      numbered (g .triangles .now) (g .n) vertexStepsPerMetre key _ (k .ensures .1 .0) (k .ensures .1 .1 .0) (k .ensures .1 .1 .1) (f .ensures .0),
     )
 
 pub duplicates-spec : {M : Type 1} → statement M

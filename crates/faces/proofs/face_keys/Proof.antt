@@ -22,7 +22,7 @@ face-keys-spec =
     (tie.spec
     Inv-loop
     μ-loop
-    (λ c. let g = c .before .before .before .args in (omega arith, keys-none (g .id .now) (g .n) (g .hi .now) (g .lo .now)))
+    (λ c. let g = c .before .before .before .args in (omega arith, keys-none (g .numbers .now) (g .n) (g .keys .now) (g .low-keys .now)))
     (λ c. search needs)
     (λ c. search needs)
     (λ c. search needs)
@@ -41,10 +41,10 @@ face-keys-spec =
     (λ c. search needs)
     (λ c. search needs)
     (λ c. let s = c .before .before .before .before .before .before .before .before .before .before in let g = s .args in let l = c .before .before .before .before .before .before .loop in
-    (omega arith, keys-more (g .id .now) (g .n) (l .i) (g .hi .now) (g .lo .now) (l .hi) (l .lo) (c .before .face-hi .result) (c .face-lo .result) (l .inv .1) (omega (arith, c .before .before .before .before .before .loop-test .taken, s .pre .1 .0)) (omega (arith, c .before .before .before .before .before .loop-test .taken, s .pre .1 .1)) (c .before .face-hi .ensures) (c .face-lo .ensures)))
+    (omega arith, keys-more (g .numbers .now) (g .n) (l .i) (g .keys .now) (g .low-keys .now) (l .keys) (l .low-keys) (c .before .face-hi .result) (c .face-lo .result) (l .inv .1) (omega (arith, c .before .before .before .before .before .loop-test .taken, s .pre .1 .0)) (omega (arith, c .before .before .before .before .before .loop-test .taken, s .pre .1 .1)) (c .before .face-hi .ensures) (c .face-lo .ensures)))
     (λ c. c .before .loop .inv .1 .len-hi)
     (λ c. c .before .loop .inv .1 .len-lo)
     (λ c. let s = c .before .before .before .before .before in let g = s .args in let l = c .before .loop in
     let e : l .i ≡ g .n = omega arith in
-    let k : Keys (g .id .now) (g .n) (g .n) (g .hi .now) (g .lo .now) (l .hi) (l .lo) = rw e at (l .inv .1) in
-    (keys-low (g .id .now) (g .n) (g .hi .now) (g .lo .now) (l .hi) (l .lo) k (s .pre .1 .1), keys-all (g .id .now) (g .n) (g .hi .now) (g .lo .now) (l .hi) (l .lo) k)))
+    let k : Keys (g .numbers .now) (g .n) (g .n) (g .keys .now) (g .low-keys .now) (l .keys) (l .low-keys) = rw e at (l .inv .1) in
+    (keys-low (g .numbers .now) (g .n) (g .keys .now) (g .low-keys .now) (l .keys) (l .low-keys) k (s .pre .1 .1), keys-all (g .numbers .now) (g .n) (g .keys .now) (g .low-keys .now) (l .keys) (l .low-keys) k)))

@@ -17,7 +17,7 @@ sort-by-key-requires c κs =
     let n = length (g .args .index .now) in
     let xs = c .before .before .before .before .before .count-up .last .0 in
     let len = counted-length n xs (c .before .before .before .before .before .count-up .ensures) in
-    (omega (arith, len, g .pre .1 .1 .1 .0, g .pre .1 .1 .1 .1 .0), (omega (arith, len, g .pre .1 .1 .1 .0, g .pre .1 .1 .1 .1 .1 .0), counted-below n (length (g .args .lo .now)) xs (c .before .before .before .before .before .count-up .ensures) (g .pre .1 .1 .1 .0 ∙ sym (g .pre .1 .0))))
+    (omega (arith, len, g .pre .1 .1 .1 .0, g .pre .1 .1 .1 .1 .0), (omega (arith, len, g .pre .1 .1 .1 .0, g .pre .1 .1 .1 .1 .1 .0), counted-below n (length (g .args .low-keys .now)) xs (c .before .before .before .before .before .count-up .ensures) (g .pre .1 .1 .1 .0 ∙ sym (g .pre .1 .0))))
 
 sort-by-key-requires-2 : tie.Need-sort-by-key-requires-2
 sort-by-key-requires-2 c κs =
@@ -28,7 +28,7 @@ sort-by-key-requires-2 c κs =
       omega (arith, len, c .before .before .before .before .before .before .before .before .before .sort-by-key .kept .1 .0, c .before .before .before .before .before .before .before .before .before .sort-by-key .kept .1 .1 .0, g .pre .1 .1 .1 .0, g .pre .1 .1 .1 .1 .0),
       (
         omega (arith, len, c .before .before .before .before .before .before .before .before .before .sort-by-key .kept .1 .0, c .before .before .before .before .before .before .before .before .before .sort-by-key .kept .1 .1 .1 .0, g .pre .1 .1 .1 .0, g .pre .1 .1 .1 .1 .1 .0),
-        sorted-below (keyOf (g .args .lo .now)) (length (g .args .hi .now)) xs (c .before .before .before .before .before .before .before .before .before .sort-by-key .last .1 .0) (c .before .before .before .before .before .before .before .before .before .sort-by-key .ensures) (counted-below n (length (g .args .hi .now)) xs (c .before .before .before .before .before .before .before .before .before .before .before .before .before .before .before .count-up .ensures) (g .pre .1 .1 .1 .0)),
+        sorted-below (keyOf (g .args .low-keys .now)) (length (g .args .keys .now)) xs (c .before .before .before .before .before .before .before .before .before .sort-by-key .last .1 .0) (c .before .before .before .before .before .before .before .before .before .sort-by-key .ensures) (counted-below n (length (g .args .keys .now)) xs (c .before .before .before .before .before .before .before .before .before .before .before .before .before .before .before .count-up .ensures) (g .pre .1 .1 .1 .0)),
       ),
     )
 
@@ -42,8 +42,8 @@ mark-run-starts-requires c κs =
         g .pre .1 .1 .0,
         (
           g .pre .1 .1 .1 .1 .1 .1,
-          sorted-below (keyOf (g .args .hi .now)) (length (g .args .hi .now)) (c .before .before .before .before .before .before .before .before .before .before .before .before .before .before .before .before .before .before .sort-by-key .last .1 .0) (c .before .before .before .before .before .before .before .before .sort-by-key2 .last .1 .0) (c .before .before .before .before .before .before .before .before .sort-by-key2 .ensures)
-              (sorted-below (keyOf (g .args .lo .now)) (length (g .args .hi .now)) xs (c .before .before .before .before .before .before .before .before .before .before .before .before .before .before .before .before .before .before .sort-by-key .last .1 .0) (c .before .before .before .before .before .before .before .before .before .before .before .before .before .before .before .before .before .before .sort-by-key .ensures) (counted-below n (length (g .args .hi .now)) xs (c .before .before .before .before .before .before .before .before .before .before .before .before .before .before .before .before .before .before .before .before .before .before .before .before .count-up .ensures) (g .pre .1 .1 .1 .0))),
+          sorted-below (keyOf (g .args .keys .now)) (length (g .args .keys .now)) (c .before .before .before .before .before .before .before .before .before .before .before .before .before .before .before .before .before .before .sort-by-key .last .1 .0) (c .before .before .before .before .before .before .before .before .sort-by-key2 .last .1 .0) (c .before .before .before .before .before .before .before .before .sort-by-key2 .ensures)
+              (sorted-below (keyOf (g .args .low-keys .now)) (length (g .args .keys .now)) xs (c .before .before .before .before .before .before .before .before .before .before .before .before .before .before .before .before .before .before .sort-by-key .last .1 .0) (c .before .before .before .before .before .before .before .before .before .before .before .before .before .before .before .before .before .before .sort-by-key .ensures) (counted-below n (length (g .args .keys .now)) xs (c .before .before .before .before .before .before .before .before .before .before .before .before .before .before .before .before .before .before .before .before .before .before .before .before .count-up .ensures) (g .pre .1 .1 .1 .0))),
         ),
       ),
     )
@@ -51,7 +51,7 @@ mark-run-starts-requires c κs =
 returns : tie.Need-returns
 returns c =
     let g = c .before .before .before .before .before .before .before .before .before .before .before .before .before .before .before .before .before .before .before .before .before .before .before .before .before .before .before .before .before .before .before .before .before .before .before in
-    indexes-are (g .args .hi .now) (g .args .lo .now) (c .before .before .before .before .before .before .before .before .before .before .before .before .before .before .before .before .before .before .before .before .before .before .before .before .before .before .before .count-up .last .0) (c .before .before .before .before .before .before .before .before .before .before .before .before .before .before .before .before .before .before .before .before .before .sort-by-key .last .1 .0) (c .before .before .before .before .before .before .before .before .before .before .before .sort-by-key2 .last .1 .0) (g .args .first .now) (c .before .before .mark-run-starts .last .1 .1 .1 .0)
+    indexes-are (g .args .keys .now) (g .args .low-keys .now) (c .before .before .before .before .before .before .before .before .before .before .before .before .before .before .before .before .before .before .before .before .before .before .before .before .before .before .before .count-up .last .0) (c .before .before .before .before .before .before .before .before .before .before .before .before .before .before .before .before .before .before .before .before .before .sort-by-key .last .1 .0) (c .before .before .before .before .before .before .before .before .before .before .before .sort-by-key2 .last .1 .0) (g .args .first .now) (c .before .before .mark-run-starts .last .1 .1 .1 .0)
     (c .before .before .before .before .before .before .before .before .before .before .before .before .before .before .before .before .before .before .before .before .before .before .before .before .before .before .before .count-up .ensures ∙ ap upTo (g .pre .1 .1 .1 .0)) (c .before .before .before .before .before .before .before .before .before .before .before .before .before .before .before .before .before .before .before .before .before .sort-by-key .ensures) (c .before .before .before .before .before .before .before .before .before .before .before .sort-by-key2 .ensures) (c .before .before .mark-run-starts .ensures) (g .pre .1 .1 .0) (g .pre .1 .1 .1 .1 .1 .1)
 
 pub first-indexes-spec : {M : Type 1} → statement M

@@ -26,11 +26,11 @@ mark-run-starts-spec =
     Inv-loop
     μ-loop
     (λ c. let g = c .before .before .before .before .before in
-    sym (runs-done (keyAt (g .args .hi .now) (g .args .lo .now)) (headOr 0 (g .args .index .now)) 0 (g .args .index .now) (g .args .first .now) (omega arith)))
+    sym (runs-done (keyAt (g .args .keys .now) (g .args .low-keys .now)) (headOr 0 (g .args .index .now)) 0 (g .args .index .now) (g .args .first .now) (omega arith)))
     (λ c. search needs)
     (λ c. let g = c .before .before .before .before .before .before in
     let full : 0 < length (g .args .index .now) = omega arith in
-    (omega arith, g .pre .1 .1 .1 0 full, refl, ap (λ (l : ℕ). runStarts (keyAt (g .args .hi .now) (g .args .lo .now)) l (g .args .index .now) (g .args .first .now)) (sym (head-at (g .args .index .now) full))))
+    (omega arith, g .pre .1 .1 .1 0 full, refl, ap (λ (l : ℕ). runStarts (keyAt (g .args .keys .now) (g .args .low-keys .now)) l (g .args .index .now) (g .args .first .now)) (sym (head-at (g .args .index .now) full))))
     (λ c. search needs)
     (λ c. search needs)
     (λ c κs. let l = c .before .before in
@@ -49,15 +49,15 @@ mark-run-starts-spec =
     (λ c. search needs)
     (λ c. let l = c .before .before .before in
     let g = l .before .before .before .before .before .before .before in
-    let k = keyAt (g .args .hi .now) (g .args .lo .now) in
+    let k = keyAt (g .args .keys .now) (g .args .low-keys .now) in
     let x = getD (g .args .index .now) (l .loop .p) 0 in
     let in-x = g .pre .1 .1 .1 (l .loop .p) (c .before .before .loop-test .taken) in (
       omega arith,
-      rw (c .run-start .ensures) (start-in k (l .loop .start) x (length (g .args .hi .now)) (l .loop .inv .1) in-x),
+      rw (c .run-start .ensures) (start-in k (l .loop .start) x (length (g .args .keys .now)) (l .loop .inv .1) in-x),
       length-set (l .loop .first) x (c .run-start .result) ∙ l .loop .inv .2,
       rw (c .run-start .ensures) (sym (runs-step k (l .loop .start) (l .loop .p) (g .args .index .now) (l .loop .first) (c .before .before .loop-test .taken)) ∙ l .loop .inv .3),
     ))
     (λ c. c .before .loop .inv .2)
     (λ c. let l = c .before in
     let g = l .before .before .before .before .before .before .before in
-    sym (runs-done (keyAt (g .args .hi .now) (g .args .lo .now)) (l .loop .start) (l .loop .p) (g .args .index .now) (l .loop .first) (omega arith)) ∙ l .loop .inv .3))
+    sym (runs-done (keyAt (g .args .keys .now) (g .args .low-keys .now)) (l .loop .start) (l .loop .p) (g .args .index .now) (l .loop .first) (omega arith)) ∙ l .loop .inv .3))

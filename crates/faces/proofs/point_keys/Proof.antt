@@ -16,13 +16,13 @@ abbrev μ-loop : tie.MeasureT-loop
 μ-loop area n at put scale hi₀ lo₀ i₀ hi lo i = n - i
 
 loop-holds : tie.Need-loop-holds Inv-loop μ-loop
-loop-holds c = let g = c .before .before .before .args in (omega arith, made-none (g .area .now) (g .n) (g .at) (g .put) (g .scale) (g .hi .now) (g .lo .now))
+loop-holds c = let g = c .before .before .before .args in (omega arith, made-none (g .triangles .now) (g .n) (g .at) (g .put) (g .scale) (g .keys .now) (g .low-keys .now))
 
-slice-write-hi : tie.Need-slice-write-hi Inv-loop μ-loop
-slice-write-hi c = omega (arith, c .before .before .before .before .before .before .before .before .loop .inv .1 .len-hi, c .before .before .before .before .before .before .before .loop-test .taken, c .before .before .before .before .before .before .before .before .before .before .before .before .pre .1 .0)
+slice-write-keys : tie.Need-slice-write-keys Inv-loop μ-loop
+slice-write-keys c = omega (arith, c .before .before .before .before .before .before .before .before .loop .inv .1 .len-hi, c .before .before .before .before .before .before .before .loop-test .taken, c .before .before .before .before .before .before .before .before .before .before .before .before .pre .1 .0)
 
-slice-write-lo : tie.Need-slice-write-lo Inv-loop μ-loop
-slice-write-lo c = omega (arith, c .before .before .before .before .before .before .before .before .before .loop .inv .1 .len-lo, c .before .before .before .before .before .before .before .before .loop-test .taken, c .before .before .before .before .before .before .before .before .before .before .before .before .before .pre .1 .1)
+slice-write-low-keys : tie.Need-slice-write-low-keys Inv-loop μ-loop
+slice-write-low-keys c = omega (arith, c .before .before .before .before .before .before .before .before .before .loop .inv .1 .len-lo, c .before .before .before .before .before .before .before .before .loop-test .taken, c .before .before .before .before .before .before .before .before .before .before .before .before .before .pre .1 .1)
 
 loop-again : tie.Need-loop-again Inv-loop μ-loop
 loop-again c =
@@ -30,9 +30,9 @@ loop-again c =
     let g = s .args in
     let l = c .before .before .before .before .before .before .before .before .before .loop in (
       omega arith,
-      made-more (g .area .now) (g .n) (g .at) (g .put) (g .scale) (l .i) (g .hi .now) (g .lo .now) (l .hi) (l .lo) (c .before .before .before .before .before .before .step .result) (c .before .before .before .before .step2 .result) (c .before .before .step3 .result) (c .before .pair .result) (c .wide .result) (l .inv .1)
+      made-more (g .triangles .now) (g .n) (g .at) (g .put) (g .scale) (l .i) (g .keys .now) (g .low-keys .now) (l .keys) (l .low-keys) (c .before .before .before .before .before .before .step .result) (c .before .before .before .before .step2 .result) (c .before .before .step3 .result) (c .before .pair .result) (c .wide .result) (l .inv .1)
           (omega (arith, c .before .before .before .before .before .before .before .before .loop-test .taken, s .pre .1 .0)) (omega (arith, c .before .before .before .before .before .before .before .before .loop-test .taken, s .pre .1 .1))
-          (part-x (g .area .now) (g .n) (g .at) (g .scale) (l .i) (c .before .before .before .before .before .before .step .result) (c .before .before .before .before .before .before .step .ensures)) (part-y (g .area .now) (g .n) (g .at) (g .scale) (l .i) (c .before .before .before .before .step2 .result) (c .before .before .before .before .step2 .ensures)) (part-z (g .area .now) (g .n) (g .at) (g .scale) (l .i) (c .before .before .step3 .result) (c .before .before .step3 .ensures))
+          (part-x (g .triangles .now) (g .n) (g .at) (g .scale) (l .i) (c .before .before .before .before .before .before .step .result) (c .before .before .before .before .before .before .step .ensures)) (part-y (g .triangles .now) (g .n) (g .at) (g .scale) (l .i) (c .before .before .before .before .step2 .result) (c .before .before .before .before .step2 .ensures)) (part-z (g .triangles .now) (g .n) (g .at) (g .scale) (l .i) (c .before .before .step3 .result) (c .before .before .step3 .ensures))
           (c .before .pair .ensures) (c .wide .ensures),
     )
 
@@ -47,8 +47,8 @@ returns c =
     let g = c .before .before .before .before .before .args in
     let l = c .before .loop in
     let e : l .i ≡ g .n = omega arith in
-    let k : Made (g .area .now) (g .n) (g .at) (g .put) (g .scale) (g .n) (g .hi .now) (g .lo .now) (l .hi) (l .lo) = rw e at (l .inv .1) in
-    (made-all (g .area .now) (g .n) (g .at) (g .put) (g .scale) (g .hi .now) (g .lo .now) (l .hi) (l .lo) k, (k .fits, (k .same-hi, k .same-lo)))
+    let k : Made (g .triangles .now) (g .n) (g .at) (g .put) (g .scale) (g .n) (g .keys .now) (g .low-keys .now) (l .keys) (l .low-keys) = rw e at (l .inv .1) in
+    (made-all (g .triangles .now) (g .n) (g .at) (g .put) (g .scale) (g .keys .now) (g .low-keys .now) (l .keys) (l .low-keys) k, (k .fits, (k .same-hi, k .same-lo)))
 
 pub point-keys-spec : {M : Type 1} → statement M
 point-keys-spec =
@@ -75,11 +75,11 @@ point-keys-spec =
     (λ c κs. search needs)
     (λ c. search needs)
     (λ c. search needs)
-    slice-write-hi
+    slice-write-keys
     (λ c κs. search needs)
     (λ c. search needs)
     (λ c. search needs)
-    slice-write-lo
+    slice-write-low-keys
     (λ c. search needs)
     (λ c. search needs)
     loop-again

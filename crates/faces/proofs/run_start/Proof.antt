@@ -18,8 +18,8 @@ run-start-spec =
     (λ c. search needs)
     (λ c. search needs)
     (λ c. let g = c .before .before .before .before .before .before in
-    start-same (g .args .hi .now) (g .args .lo .now) (g .args .start) (g .args .x) (c .before .before .before .if1 .taken) (c .if2 .taken))
+    start-same (g .args .keys .now) (g .args .low-keys .now) (g .args .start) (g .args .x) (c .before .before .before .if1 .taken) (c .if2 .taken))
     (λ c. let g = c .before .before .before .before .before .before in
-    start-lo (g .args .hi .now) (g .args .lo .now) (g .args .start) (g .args .x) (g .pre .1 .0) (omega (arith, g .pre .0, g .pre .1 .1 .1)) (omega (arith, g .pre .0, g .pre .1 .1 .0)) (c .if2 .left))
+    start-lo (g .args .keys .now) (g .args .low-keys .now) (g .args .start) (g .args .x) (g .pre .1 .0) (omega (arith, g .pre .0, g .pre .1 .1 .1)) (omega (arith, g .pre .0, g .pre .1 .1 .0)) (c .if2 .left))
     (λ c. let g = c .before .before .before in
-    start-hi (g .args .hi .now) (g .args .lo .now) (g .args .start) (g .args .x) (g .pre .1 .0) (omega (arith, g .pre .0, g .pre .1 .1 .1)) (omega (arith, g .pre .0, g .pre .1 .1 .0)) (c .if1 .left)))
+    start-hi (g .args .keys .now) (g .args .low-keys .now) (g .args .start) (g .args .x) (g .pre .1 .0) (omega (arith, g .pre .0, g .pre .1 .1 .1)) (omega (arith, g .pre .0, g .pre .1 .1 .0)) (c .if1 .left)))

@@ -68,10 +68,10 @@ returns c =
     let groups = c .before .before .before .before .before .before .before .before .before .before .before .before .before .before .before .before .before .before .before .before .before .before .before .before .before .before .before .before .before .before .before .before .before .before .name-groups .last .1 .1 .1 .1 .0 in
     let runs = runs-are planes sorted mstarts members (a .m) (a .n) (a .ng) (r .ensures .0) (r .ensures .1) (c .before .before .before .before .before .before .before .before .before .before .before .unpack .ensures) (p .1 .0 .0) (omega (arith, p .1 .1 .1 .1 .1 .0 .1, k .1 .0)) in
     let run : (g : ℕ) → g < a .ng → groupIn members mstarts g ≡ trisIn planes (a .m) g = λ g l. run-is planes sorted mstarts members (a .m) (a .ng) g (r .ensures .1) (c .before .before .before .before .before .before .before .before .before .before .before .unpack .ensures) l in (
-      planes-are (a .area .now) (a .handles .now) (a .n) (a .m) (a .rows .now) (a .of .now) (a .np) (a .queue .now) (a .starts .now) (a .ng) groups planes members mstarts floats words (p .1 .1 .0 .0) (p .1 .1 .0 .1) (c .before .before .before .before .before .before .before .before .before .before .before .before .before .before .before .before .before .before .before .before .before .before .before .before .before .before .before .before .before .before .before .before .before .before .name-groups .ensures .0) (c .before .before .before .before .before .before .before .before .before .before .before .before .before .before .before .before .before .before .before .before .before .before .before .before .before .before .before .before .before .name-planes .ensures) runs run (c .before .before .before .before .put-planes .ensures),
+      planes-are (a .triangles .now) (a .handles .now) (a .n) (a .m) (a .rows .now) (a .of .now) (a .np) (a .queue .now) (a .offsets .now) (a .ng) groups planes members mstarts floats words (p .1 .1 .0 .0) (p .1 .1 .0 .1) (c .before .before .before .before .before .before .before .before .before .before .before .before .before .before .before .before .before .before .before .before .before .before .before .before .before .before .before .before .before .before .before .before .before .before .name-groups .ensures .0) (c .before .before .before .before .before .before .before .before .before .before .before .before .before .before .before .before .before .before .before .before .before .before .before .before .before .before .before .before .before .name-planes .ensures) runs run (c .before .before .before .before .put-planes .ensures),
       (
-        planes-held (a .area .now) (a .handles .now) (a .n) (a .m) (a .rows .now) (a .of .now) (a .np) (a .queue .now) (a .starts .now) (a .ng) groups planes members mstarts floats words (p .1 .1 .0 .0) (p .1 .1 .0 .1) (c .before .before .before .before .before .before .before .before .before .before .before .before .before .before .before .before .before .before .before .before .before .before .before .before .before .before .before .before .before .before .before .before .before .before .name-groups .ensures .0) (c .before .before .before .before .before .before .before .before .before .before .before .before .before .before .before .before .before .before .before .before .before .before .before .before .before .before .before .before .before .name-planes .ensures) runs run (c .before .before .before .before .put-planes .ensures) (omega (arith, p .1 .1 .1 .1 .1 .1 .0, c .before .before .before .before .put-planes .kept .1 .1 .1 .1 .1 .1 .1 .1 .1 .1 .0)) (omega (arith, p .1 .1 .1 .1 .1 .1 .1, c .before .before .before .before .put-planes .kept .1 .1 .1 .1 .1 .1 .1 .1 .1 .1 .1 .0)),
-        (tris-is (a .area .now) (a .handles .now) (a .n) (a .m) (a .rows .now) (a .of .now) (a .np) (a .queue .now) (a .starts .now) (a .ng) groups planes members mstarts floats words (p .1 .1 .0 .0) (p .1 .1 .0 .1) (c .before .before .before .before .before .before .before .before .before .before .before .before .before .before .before .before .before .before .before .before .before .before .before .before .before .before .before .before .before .before .before .before .before .before .name-groups .ensures .0) (c .before .before .before .before .before .before .before .before .before .before .before .before .before .before .before .before .before .before .before .before .before .before .before .before .before .before .before .before .before .name-planes .ensures) runs run (c .before .before .before .before .put-planes .ensures), planes-numbered (a .of .now) groups planes (a .m) (a .ng) (c .before .before .before .before .before .before .before .before .before .before .before .before .before .before .before .before .before .before .before .before .before .before .before .before .before .before .before .before .before .name-planes .ensures) (c .before .before .before .before .before .before .before .before .before .before .before .before .before .before .before .before .before .before .before .before .before .before .before .before .before .before .before .before .before .before .before .before .before .before .name-groups .ensures .1)),
+        planes-held (a .triangles .now) (a .handles .now) (a .n) (a .m) (a .rows .now) (a .of .now) (a .np) (a .queue .now) (a .offsets .now) (a .ng) groups planes members mstarts floats words (p .1 .1 .0 .0) (p .1 .1 .0 .1) (c .before .before .before .before .before .before .before .before .before .before .before .before .before .before .before .before .before .before .before .before .before .before .before .before .before .before .before .before .before .before .before .before .before .before .name-groups .ensures .0) (c .before .before .before .before .before .before .before .before .before .before .before .before .before .before .before .before .before .before .before .before .before .before .before .before .before .before .before .before .before .name-planes .ensures) runs run (c .before .before .before .before .put-planes .ensures) (omega (arith, p .1 .1 .1 .1 .1 .1 .0, c .before .before .before .before .put-planes .kept .1 .1 .1 .1 .1 .1 .1 .1 .1 .1 .0)) (omega (arith, p .1 .1 .1 .1 .1 .1 .1, c .before .before .before .before .put-planes .kept .1 .1 .1 .1 .1 .1 .1 .1 .1 .1 .1 .0)),
+        (tris-is (a .triangles .now) (a .handles .now) (a .n) (a .m) (a .rows .now) (a .of .now) (a .np) (a .queue .now) (a .offsets .now) (a .ng) groups planes members mstarts floats words (p .1 .1 .0 .0) (p .1 .1 .0 .1) (c .before .before .before .before .before .before .before .before .before .before .before .before .before .before .before .before .before .before .before .before .before .before .before .before .before .before .before .before .before .before .before .before .before .before .name-groups .ensures .0) (c .before .before .before .before .before .before .before .before .before .before .before .before .before .before .before .before .before .before .before .before .before .before .before .before .before .before .before .before .before .name-planes .ensures) runs run (c .before .before .before .before .put-planes .ensures), planes-numbered (a .of .now) groups planes (a .m) (a .ng) (c .before .before .before .before .before .before .before .before .before .before .before .before .before .before .before .before .before .before .before .before .before .before .before .before .before .before .before .before .before .name-planes .ensures) (c .before .before .before .before .before .before .before .before .before .before .before .before .before .before .before .before .before .before .before .before .before .before .before .before .before .before .before .before .before .before .before .before .before .before .name-groups .ensures .1)),
       ),
     )
 

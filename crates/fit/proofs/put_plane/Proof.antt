@@ -31,7 +31,7 @@ returns c =
     let a = c .before .before .before .before .before .before .before .before .before .before .before .before .before .before .args in
     let f = rw (c .before .before .before .before .before .before .before .before .before .before .before .floats-of .ensures) at (c .before .before .before .before .before .before .before .copy-f32 .ensures) in
     let w = rw (c .before .before .before .before .before .before .before .before .before .before .words-of .ensures) at (c .before .before .copy-u32 .ensures) in
-    (row-stored (a .floats .now) (c .before .before .before .before .before .before .before .copy-f32 .last .1 .0) (a .words .now) (c .before .before .copy-u32 .last .1 .0) (a .g) (a .r) (f .0) (w .0), row-other (a .floats .now) (c .before .before .before .before .before .before .before .copy-f32 .last .1 .0) (a .words .now) (c .before .before .copy-u32 .last .1 .0) (a .g) (f .1) (w .1))
+    (row-stored (a .plane-floats .now) (c .before .before .before .before .before .before .before .copy-f32 .last .1 .0) (a .plane-words .now) (c .before .before .copy-u32 .last .1 .0) (a .g) (a .r) (f .0) (w .0), row-other (a .plane-floats .now) (c .before .before .before .before .before .before .before .copy-f32 .last .1 .0) (a .plane-words .now) (c .before .before .copy-u32 .last .1 .0) (a .g) (f .1) (w .1))
 
 pub put-plane-spec : {M : Type 1} → statement M
 put-plane-spec =

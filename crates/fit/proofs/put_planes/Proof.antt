@@ -91,7 +91,7 @@ plane-row-requires c κs =
     let t = c .before .before .before .before .before .before .loop-test .taken in
     let rise = p .1 .0 .rise _ t in
     let ends = p .1 .0 .ends (c .before .before .before .before .before .before .before .loop .g + 1) (omega (arith, t)) in
-    let long = part-length (c .before .before .before .before .before .before .before .before .before .before .before .before .before .before .before .before .before .args .queue .now) (getD (c .before .before .before .before .before .before .before .before .before .before .before .before .before .before .before .before .before .args .starts .now) (c .before .before .before .before .before .before .before .loop .g) 0) (getD (c .before .before .before .before .before .before .before .before .before .before .before .before .before .before .before .before .before .args .starts .now) (c .before .before .before .before .before .before .before .loop .g + 1) 0) ends in
+    let long = part-length (c .before .before .before .before .before .before .before .before .before .before .before .before .before .before .before .before .before .args .queue .now) (getD (c .before .before .before .before .before .before .before .before .before .before .before .before .before .before .before .before .before .args .offsets .now) (c .before .before .before .before .before .before .before .loop .g) 0) (getD (c .before .before .before .before .before .before .before .before .before .before .before .before .before .before .before .before .before .args .offsets .now) (c .before .before .before .before .before .before .before .loop .g + 1) 0) ends in
     (p .0 .0, (p .0 .1, (p .0 .2, (p .1 .0 .below _ t, (omega arith, p .1 .1 .0 .below _ t)))))
 
 put-plane-requires : tie.Need-put-plane-requires Inv-loop μ-loop
@@ -106,8 +106,8 @@ put-plane-requires c κs =
     let ends = r .fenced .ends (c .before .before .before .before .before .before .before .before .before .before .loop .g + 1) (omega (arith, t)) in
     let low = c .before .before .before .before .before .before .shared-slice-known10 .given g in
     let high = c .before .before .before .before .before .shared-slice-known11 .given (g + 1) in
-    let long = part-length (c .before .before .before .before .before .before .before .before .before .before .before .before .before .before .before .before .before .before .before .before .args .members .now) (getD (c .before .before .before .before .before .before .before .before .before .before .before .before .before .before .before .before .before .before .before .before .args .mstarts .now) (c .before .before .before .before .before .before .before .before .before .before .loop .g) 0) (getD (c .before .before .before .before .before .before .before .before .before .before .before .before .before .before .before .before .before .before .before .before .args .mstarts .now) (c .before .before .before .before .before .before .before .before .before .before .loop .g + 1) 0) ends in
-    (omega (arith, p .1 .1 .1 .0, t, i .len-floats), (omega (arith, p .1 .1 .1 .1, t, i .len-words), row-small (triangleAtOf (a .area .now) (a .handles .now) (a .n)) (a .rows .now) (groupIn (a .queue .now) (a .starts .now) g) (groupIn (a .members .now) (a .mstarts .now) g) (getD (a .mstarts .now) g 0) (c .before .before .plane-row .result) (c .before .before .plane-row .ensures) (omega arith) (omega arith)))
+    let long = part-length (c .before .before .before .before .before .before .before .before .before .before .before .before .before .before .before .before .before .before .before .before .args .plane-triangles .now) (getD (c .before .before .before .before .before .before .before .before .before .before .before .before .before .before .before .before .before .before .before .before .args .mstarts .now) (c .before .before .before .before .before .before .before .before .before .before .loop .g) 0) (getD (c .before .before .before .before .before .before .before .before .before .before .before .before .before .before .before .before .before .before .before .before .args .mstarts .now) (c .before .before .before .before .before .before .before .before .before .before .loop .g + 1) 0) ends in
+    (omega (arith, p .1 .1 .1 .0, t, i .len-floats), (omega (arith, p .1 .1 .1 .1, t, i .len-words), row-small (triangleAtOf (a .triangles .now) (a .handles .now) (a .n)) (a .rows .now) (groupIn (a .queue .now) (a .offsets .now) g) (groupIn (a .plane-triangles .now) (a .mstarts .now) g) (getD (a .mstarts .now) g 0) (c .before .before .plane-row .result) (c .before .before .plane-row .ensures) (omega arith) (omega arith)))
 
 add-g : tie.Need-add-g Inv-loop μ-loop
 add-g c = omega (arith, c .before .before .before .before .before .before .before .before .before .before .before .before .before .before .before .before .before .before .before .before .before .before .before .before .before .good, c .before .before .before .before .before .before .before .before .before .before .before .before .before .before .before .before .before .before .before .before .before .before .before .before .before .pre .1 .0 .long, c .before .before .before .before .before .before .before .before .before .before .before .before .before .before .loop-test .taken)

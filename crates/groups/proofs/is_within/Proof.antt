@@ -35,7 +35,7 @@ loop-again : tie.Need-loop-again Inv-loop μ-loop
 loop-again c =
     let lp = c .before .before .before .before .before .loop in
     let a = c .before .before .before .before .before .before .before .before .before .args in
-    let f : ℕ → Bool = λ t. allBy (isNear (a .normal) (a .offset) (a .most)) (cornersOf (triangleAtOf (a .area .now) (a .handles .now) (a .n) t)) in (
+    let f : ℕ → Bool = λ t. allBy (isNear (a .normal) (a .offset) (a .most)) (cornersOf (triangleAtOf (a .triangles .now) (a .handles .now) (a .n) t)) in (
       omega arith,
       all-next f (lows (a .tris .now)) (lp .i) (rw (lows-length (a .tris .now)) (c .before .before .before .before .loop-test .taken))
           (ap f (low-at (a .tris .now) (lp .i)) ∙ rw (← c .before .before .triangle-at .ensures, ← c .before .is-triangle-near .ensures) (c .if1 .taken)) ∙ lp .inv .1,
@@ -45,7 +45,7 @@ returns : tie.Need-returns Inv-loop μ-loop
 returns c =
     let lp = c .before .before .before .before .before .loop in
     let a = c .before .before .before .before .before .before .before .before .before .args in
-    let f : ℕ → Bool = λ t. allBy (isNear (a .normal) (a .offset) (a .most)) (cornersOf (triangleAtOf (a .area .now) (a .handles .now) (a .n) t)) in
+    let f : ℕ → Bool = λ t. allBy (isNear (a .normal) (a .offset) (a .most)) (cornersOf (triangleAtOf (a .triangles .now) (a .handles .now) (a .n) t)) in
     all-stop f (lows (a .tris .now)) (lp .i) (rw (lows-length (a .tris .now)) (c .before .before .before .before .loop-test .taken))
     (ap f (low-at (a .tris .now) (lp .i)) ∙ rw (← c .before .before .triangle-at .ensures, ← c .before .is-triangle-near .ensures) (c .if1 .left)) ∙ lp .inv .1
 
@@ -53,7 +53,7 @@ returns-2 : tie.Need-returns-2 Inv-loop μ-loop
 returns-2 c =
     let lp = c .before .loop in
     let a = c .before .before .before .before .before .args in
-    let f : ℕ → Bool = λ t. allBy (isNear (a .normal) (a .offset) (a .most)) (cornersOf (triangleAtOf (a .area .now) (a .handles .now) (a .n) t)) in
+    let f : ℕ → Bool = λ t. allBy (isNear (a .normal) (a .offset) (a .most)) (cornersOf (triangleAtOf (a .triangles .now) (a .handles .now) (a .n) t)) in
     all-end f (lows (a .tris .now)) (lp .i) (rw (lows-length (a .tris .now)) (c .loop-test .left)) ∙ lp .inv .1
 
 pub is-within-spec : {M : Type 1} → statement M

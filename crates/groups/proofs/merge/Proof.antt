@@ -50,7 +50,7 @@ grow-groups-requires c κs =
           (
             st .pre .1 .1 .1 .0 .2,
             (
-              table-is (a .np) (a .np) (a .np) (ad .last .1 .1 .1 .1 .1 .1 .1 .1 .1 .1 .0) (ad .last .1 .1 .1 .1 .1 .1 .1 .1 .1 .1 .1 .0) (isJoined (a .id .now) (a .n) (a .vertices) (a .of .now) (a .m) (a .np)) (ad .ensures .0) (omega (arith, ad .kept .1 .1 .1 .1 .1 .1 .1 .1 .1 .1 .1 .0, st .pre .1 .1 .1 .1 .1 .1 .1 .0 .1)) (ad .ensures .1) (omega arith),
+              table-is (a .np) (a .np) (a .np) (ad .last .1 .1 .1 .1 .1 .1 .1 .1 .1 .1 .0) (ad .last .1 .1 .1 .1 .1 .1 .1 .1 .1 .1 .1 .0) (isJoined (a .numbers .now) (a .n) (a .vertices) (a .of .now) (a .m) (a .np)) (ad .ensures .0) (omega (arith, ad .kept .1 .1 .1 .1 .1 .1 .1 .1 .1 .1 .1 .0, st .pre .1 .1 .1 .1 .1 .1 .1 .0 .1)) (ad .ensures .1) (omega arith),
               (st .pre .1 .1 .1 .1 .1 .0, (rw e (queue-none (a .np) (length (a .assigned .now)) (ad .last .1 .1 .1 .1 .1 .1 .1 .1 .0 ++ drop (3 * a .m) (a .queue .now)) (w .0) (omega (arith, room, w .1))), omega (arith, ad .kept .1 .1 .1 .1 .1 .1 .1 .1 .1 .0, w .2))),
             ),
           ),
@@ -86,12 +86,12 @@ returns c =
     let st = c .before .before .before .before .before .before .before .before .before .before .before .before .before .before .before .before .before .before .before .before .before .before .before .before .before .before .before .before .before .before .before .before .before .before .before .before .before .before .before .before .before .before .before .before .before .before .before .before .before .before in let ad = c .before .before .before .before .before .before .before .before .before .before .before .before .before .before .before .before .before .before .before .before .before .before .before .before .before .before .before .before .adjacency in let gg = c .before .before .before .before .before .before .grow-groups in
     let a = st .args in
     let e = c .before .before .before .before .before .before .before .before .before .before .before .before .before .before .clear-u32 .ensures in
-    let f : ℕ → ℕ → Bool = takesIn (a .area .now) (a .handles .now) (a .n) (a .rows .now) (a .tsorted .now) (a .tstarts .now) (a .least) (a .most) in (
+    let f : ℕ → ℕ → Bool = takesIn (a .triangles .now) (a .handles .now) (a .n) (a .rows .now) (a .tsorted .now) (a .tstarts .now) (a .least) (a .most) in (
       gg .ensures .0,
       (
         gg .ensures .1 .0,
         λ adj same.
-            gg .ensures .1 .1 adj (rows-adjacent (a .np) (ad .last .1 .1 .1 .1 .1 .1 .1 .1 .1 .1 .0) (ad .last .1 .1 .1 .1 .1 .1 .1 .1 .1 .1 .1 .0) (isJoined (a .id .now) (a .n) (a .vertices) (a .of .now) (a .m) (a .np)) adj (ad .ensures .1) same)
+            gg .ensures .1 .1 adj (rows-adjacent (a .np) (ad .last .1 .1 .1 .1 .1 .1 .1 .1 .1 .1 .0) (ad .last .1 .1 .1 .1 .1 .1 .1 .1 .1 .1 .1 .0) (isJoined (a .numbers .now) (a .n) (a .vertices) (a .of .now) (a .m) (a .np)) adj (ad .ensures .1) same)
             ∙ ap (groupsFrom (a .np) adj f (take (a .np) (a .order .now))) (ap (freeOf (a .np)) e ∙ free-all (a .np) (length (a .assigned .now)) (st .pre .1 .1 .1 .1 .1 .1 .1 .1 .0 .0)),
       ),
     )

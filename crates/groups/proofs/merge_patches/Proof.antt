@@ -99,10 +99,10 @@ returns c =
       (
         mg .ensures .1 .0,
         λ s eo ec em.
-            merged-is s (a .area .now) (a .handles .now) (a .n) (a .m) (a .rows .now) (a .of .now) (a .np) (tris .last .1 .1 .1 .1 .1 .0) (tris .last .1 .1 .1 .1 .1 .1 .0) (a .on) (a .least) (a .most) eo ec em (tris .ensures .1) (take (a .np) (sd .last .1 .1 .1 .1 .1 .1 .1 .0)) (sd .ensures)
+            merged-is s (a .triangles .now) (a .handles .now) (a .n) (a .m) (a .rows .now) (a .of .now) (a .np) (tris .last .1 .1 .1 .1 .1 .0) (tris .last .1 .1 .1 .1 .1 .1 .0) (a .on) (a .least) (a .most) eo ec em (tris .ensures .1) (take (a .np) (sd .last .1 .1 .1 .1 .1 .1 .1 .0)) (sd .ensures)
             (groupsIn (mg .last .1 .1 .1 .1 .1 .1 .1 .1 .1 .1 .1 .1 .1 .1 .1 .1 .1 .1 .1 .0) (mg .last .1 .1 .1 .1 .1 .1 .1 .1 .1 .1 .1 .1 .1 .1 .1 .1 .1 .1 .1 .1 .0) (mg .result)) (sym (c .before .before .before .before .before .before .before .before .before .before .before .before .before .before .before .before .before .before .before .before .before .before .before .before .before .before .is-merging .ensures) ∙ c .before .before .before .before .before .before .before .before .before .before .before .before .before .before .before .before .before .before .before .before .before .before .before .before .before .if1 .taken)
-            (mg .ensures .1 .1 (isAdjacent (runsOf (trianglesIn (a .area .now) (a .handles .now) (a .n) (a .m)) (patchesIn (a .rows .now) (a .of .now) (a .m) (a .np))))
-            (λ p q hp hq. joined-adjacent (a .area .now) (a .handles .now) (a .n) (a .m) (a .rows .now) (a .of .now) (a .np) (a .id .now) (a .vertices) (st .pre .1 .1 .1 .1 .0) (d .1) (s0 .2) (omega (arith, s0 .0, s0 .3)) p q)),
+            (mg .ensures .1 .1 (isAdjacent (runsOf (trianglesIn (a .triangles .now) (a .handles .now) (a .n) (a .m)) (patchesIn (a .rows .now) (a .of .now) (a .m) (a .np))))
+            (λ p q hp hq. joined-adjacent (a .triangles .now) (a .handles .now) (a .n) (a .m) (a .rows .now) (a .of .now) (a .np) (a .numbers .now) (a .vertices) (st .pre .1 .1 .1 .1 .0) (d .1) (s0 .2) (omega (arith, s0 .0, s0 .3)) p q)),
       ),
     )
 
@@ -144,7 +144,7 @@ returns-2 c =
       (
         c .before .before .before .before .each-alone .ensures .0,
         λ s eo ec em.
-            alone-is s (a .area .now) (a .handles .now) (a .n) (a .m) (a .rows .now) (a .of .now) (a .np) (tris .last .1 .1 .1 .1 .1 .0) (tris .last .1 .1 .1 .1 .1 .1 .0) (a .on) (a .least) (a .most) eo ec em (tris .ensures .1) (take (a .np) (sd .last .1 .1 .1 .1 .1 .1 .1 .0)) (sd .ensures)
+            alone-is s (a .triangles .now) (a .handles .now) (a .n) (a .m) (a .rows .now) (a .of .now) (a .np) (tris .last .1 .1 .1 .1 .1 .0) (tris .last .1 .1 .1 .1 .1 .1 .0) (a .on) (a .least) (a .most) eo ec em (tris .ensures .1) (take (a .np) (sd .last .1 .1 .1 .1 .1 .1 .1 .0)) (sd .ensures)
             (groupsIn (c .before .before .before .before .each-alone .last .1 .1 .0) (c .before .before .before .before .each-alone .last .1 .1 .1 .0) (a .np)) (sym (c .before .before .before .before .before .before .before .before .before .is-merging .ensures) ∙ c .before .before .before .before .before .before .before .before .if1 .left) (c .before .before .before .before .each-alone .ensures .1),
       ),
     )

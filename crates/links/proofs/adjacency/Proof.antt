@@ -12,7 +12,7 @@ vertex-words-requires : tie.Need-vertex-words-requires
 vertex-words-requires c κs =
     let st = c .before .before .before .before .before .before .before .before .before in
     let p = st .pre in
-    (p .0, (p .1 .0, (p .1 .1 .0, (p .1 .1 .1 .0, (numbers-under (st .args .id .now) (st .args .n) (st .args .m) (st .args .vertices) 1048575 (p .1 .1 .1 .1 .0) (p .1 .1 .1 .1 .1 .0), (p .1 .1 .1 .1 .1 .1 .0, omega (arith, p .1 .1 .1 .1 .1 .1 .1 .1 .1 .0)))))))
+    (p .0, (p .1 .0, (p .1 .1 .0, (p .1 .1 .1 .0, (numbers-under (st .args .numbers .now) (st .args .n) (st .args .m) (st .args .vertices) 1048575 (p .1 .1 .1 .1 .0) (p .1 .1 .1 .1 .1 .0), (p .1 .1 .1 .1 .1 .1 .0, omega (arith, p .1 .1 .1 .1 .1 .1 .1 .1 .1 .0)))))))
 
 make-rows-requires : tie.Need-make-rows-requires
 make-rows-requires c κs =
@@ -46,9 +46,9 @@ returns c =
       c .before .before .before .before .before .before .before .before .make-rows2 .ensures .bounds,
       λ p h.
           c .before .before .before .before .before .before .before .before .make-rows2 .ensures .are p h
-          ∙ joined-is (a .id .now) (a .n) (a .of .now) (a .m) (a .np) (a .vertices) (rowIn (mr .last .1 .1 .1 .1 .0) (mr .last .1 .1 .1 .1 .1 .0)) (lr .last .1 .1 .1 .0) (lr .result) p (lr .ensures .1)
-          (λ v l. mr .ensures .are v l ∙ run-is (a .id .now) (a .n) (a .of .now) (a .m) (a .np) (vw .last .1 .1 .1 .1 .1 .0) (vw .result) v (vw .ensures .1))
-          ∙ joined-cut (a .id .now) (a .n) (a .of .now) (a .m) (a .np) (a .vertices) p (st .pre .0),
+          ∙ joined-is (a .numbers .now) (a .n) (a .of .now) (a .m) (a .np) (a .vertices) (rowIn (mr .last .1 .1 .1 .1 .0) (mr .last .1 .1 .1 .1 .1 .0)) (lr .last .1 .1 .1 .0) (lr .result) p (lr .ensures .1)
+          (λ v l. mr .ensures .are v l ∙ run-is (a .numbers .now) (a .n) (a .of .now) (a .m) (a .np) (vw .last .1 .1 .1 .1 .1 .0) (vw .result) v (vw .ensures .1))
+          ∙ joined-cut (a .numbers .now) (a .n) (a .of .now) (a .m) (a .np) (a .vertices) p (st .pre .0),
     )
 
 pub adjacency-spec : {M : Type 1} → statement M

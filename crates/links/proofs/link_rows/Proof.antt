@@ -19,7 +19,7 @@ abbrev μ-loop : tie.MeasureT-loop
 loop-holds : tie.Need-loop-holds Inv-loop μ-loop
 loop-holds c =
     let st = c .before .before .before in
-    (omega arith, omega arith, refl, told-none (λ a b r. isLinked (rowIn (st .args .sorted .now) (st .args .starts .now) r) a b) (st .args .words .now))
+    (omega arith, omega arith, refl, told-none (λ a b r. isLinked (rowIn (st .args .sorted .now) (st .args .offsets .now) r) a b) (st .args .words .now))
 
 cast-a : tie.Need-cast-a Inv-loop μ-loop
 cast-a c = omega (arith, c .shared-slice-known3 .given (c .before .before .loop .v) .fits)
@@ -63,8 +63,8 @@ link-row-requires : tie.Need-link-row-requires Inv-loop μ-loop
 link-row-requires c κs =
     let st = c .before .before .before .before .before .before .before .before .before in let lp = c .before .before .before .before .before .loop in
     let f = st .pre .1 .0 in
-    let a = getD (st .args .starts .now) (lp .v) 0 in
-    let b = getD (st .args .starts .now) (lp .v + 1) 0 in
+    let a = getD (st .args .offsets .now) (lp .v) 0 in
+    let b = getD (st .args .offsets .now) (lp .v + 1) 0 in
     let e = f .ends (lp .v + 1) (omega (arith, c .before .before .before .before .loop-test .taken)) in
     let r = f .rise (lp .v) (c .before .before .before .before .loop-test .taken) in
     let l = length-part (st .args .sorted .now) a b in
@@ -74,15 +74,15 @@ loop-again : tie.Need-loop-again Inv-loop μ-loop
 loop-again c =
     let st = c .before .before .before .before .before .before .before .before .before .before .before .before in let lp = c .before .before .before .before .before .before .before .before .loop in
     let f = st .pre .1 .0 in
-    let a = getD (st .args .starts .now) (lp .v) 0 in
-    let b = getD (st .args .starts .now) (lp .v + 1) 0 in
+    let a = getD (st .args .offsets .now) (lp .v) 0 in
+    let b = getD (st .args .offsets .now) (lp .v + 1) 0 in
     let r = f .rise (lp .v) (c .before .before .before .before .before .before .before .loop-test .taken) in
     let l = length-part (st .args .sorted .now) a b in (
       omega arith,
       omega (arith, l, r, lp .inv .1, c .before .before .link-row .ensures .0),
       c .before .before .link-row .kept .1 .0 ∙ lp .inv .2,
-      told-more (λ a b r. isLinked (rowIn (st .args .sorted .now) (st .args .starts .now) r) a b) (lp .words) (lp .k) (lp .v) (lp .inv .3) (c .before .before .link-row .last .1 .0) (c .before .before .link-row .result)
-          (rows-link (st .args .sorted .now) (st .args .starts .now) (lp .v) (lp .words) (c .before .before .link-row .last .1 .0) (lp .k) (c .before .before .link-row .result) (c .before .before .link-row .ensures .1)),
+      told-more (λ a b r. isLinked (rowIn (st .args .sorted .now) (st .args .offsets .now) r) a b) (lp .words) (lp .k) (lp .v) (lp .inv .3) (c .before .before .link-row .last .1 .0) (c .before .before .link-row .result)
+          (rows-link (st .args .sorted .now) (st .args .offsets .now) (lp .v) (lp .words) (c .before .before .link-row .last .1 .0) (lp .k) (c .before .before .link-row .result) (c .before .before .link-row .ensures .1)),
     )
 
 same-length : tie.Need-same-length Inv-loop μ-loop

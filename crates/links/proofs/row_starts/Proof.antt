@@ -16,7 +16,7 @@ abbrev μ-loop : tie.MeasureT-loop
 loop-holds : tie.Need-loop-holds Inv-loop μ-loop
 loop-holds c =
     let st = c .before .before in
-    (omega arith, omega arith, refl, start-none (st .args .sorted .now) (st .args .starts .now))
+    (omega arith, omega arith, refl, start-none (st .args .sorted .now) (st .args .offsets .now))
 
 add-i : tie.Need-add-i Inv-loop μ-loop
 add-i c = let b = c .before .is-before .ensures .0 (c .if1 .taken) in omega (arith, b .0)
@@ -28,21 +28,21 @@ loop-again : tie.Need-loop-again Inv-loop μ-loop
 loop-again c =
     let lp = c .before .before .before .loop in
     let b = c .before .is-before .ensures .0 (c .if1 .taken) in
-    (omega arith, omega (arith, b .0), lp .inv .2, start-pass (c .before .before .before .before .before .before .args .sorted .now) (lp .starts) (lp .r) (lp .i) (lp .inv .3) (b .0) (b .1))
+    (omega arith, omega (arith, b .0), lp .inv .2, start-pass (c .before .before .before .before .before .before .args .sorted .now) (lp .offsets) (lp .r) (lp .i) (lp .inv .3) (b .0) (b .1))
 
-mul-starts : tie.Need-mul-starts Inv-loop μ-loop
-mul-starts c = omega (arith, c .before .before .before .loop .inv .2, c .before .before .before .before .before .before .pre .1 .0)
+mul-offsets : tie.Need-mul-offsets Inv-loop μ-loop
+mul-offsets c = omega (arith, c .before .before .before .loop .inv .2, c .before .before .before .before .before .before .pre .1 .0)
 
-slice-write-starts : tie.Need-slice-write-starts Inv-loop μ-loop
-slice-write-starts c = omega (arith, c .before .before .before .loop .inv .2, c .before .before .before .before .before .before .pre .1 .0)
+slice-write-offsets : tie.Need-slice-write-offsets Inv-loop μ-loop
+slice-write-offsets c = omega (arith, c .before .before .before .loop .inv .2, c .before .before .before .before .before .before .pre .1 .0)
 
 loop-again-2 : tie.Need-loop-again-2 Inv-loop μ-loop
 loop-again-2 c =
     let st = c .before .before .before .before .before .before in let lp = c .before .before .before .loop in (
       omega arith,
       omega arith,
-      length-set (lp .starts) (lp .r) (lp .i) ∙ lp .inv .2,
-      start-row (st .args .sorted .now) (lp .starts) (lp .r) (lp .i) (lp .inv .3) (st .pre .1 .1 .1) (omega (arith, lp .inv .2, st .pre .1 .0)) (c .before .is-before .ensures .1 (c .if1 .left)),
+      length-set (lp .offsets) (lp .r) (lp .i) ∙ lp .inv .2,
+      start-row (st .args .sorted .now) (lp .offsets) (lp .r) (lp .i) (lp .inv .3) (st .pre .1 .1 .1) (omega (arith, lp .inv .2, st .pre .1 .0)) (c .before .is-before .ensures .1 (c .if1 .left)),
     )
 
 same-length : tie.Need-same-length Inv-loop μ-loop
@@ -64,8 +64,8 @@ row-starts-spec =
     loop-less
     loop-again
     (λ c. omega arith)
-    mul-starts
-    slice-write-starts
+    mul-offsets
+    slice-write-offsets
     (λ c. omega arith)
     (λ c. omega arith)
     loop-again-2

@@ -17,12 +17,12 @@ abbrev μ-loop : tie.MeasureT-loop
 loop-holds : tie.Need-loop-holds Inv-loop μ-loop
 loop-holds c =
     let st = c .before .before .before in
-    (omega arith, omega arith, refl, told-none (hasCorner (st .args .id .now) (st .args .n) (st .args .of .now) (st .args .np)) (st .args .words .now))
+    (omega arith, omega arith, refl, told-none (hasCorner (st .args .numbers .now) (st .args .n) (st .args .of .now) (st .args .np)) (st .args .words .now))
 
 loop-again : tie.Need-loop-again Inv-loop μ-loop
 loop-again c =
     let st = c .before .before .before .before .before .before .before .before .before .before in let lp = c .before .before .before .before .before .before .loop in
-    (omega arith, omega arith, lp .inv .2, corner-skip (st .args .id .now) (st .args .n) (st .args .of .now) (st .args .np) (lp .words) (lp .k) (lp .i) (lp .inv .3) (c .if1 .taken))
+    (omega arith, omega arith, lp .inv .2, corner-skip (st .args .numbers .now) (st .args .n) (st .args .of .now) (st .args .np) (lp .words) (lp .k) (lp .i) (lp .inv .3) (c .if1 .taken))
 
 push-requires : tie.Need-push-requires Inv-loop μ-loop
 push-requires c κs =
@@ -45,7 +45,7 @@ loop-again-2 c =
       omega arith,
       omega (arith, c .before .before .before .before .before .before .before .before .before .before .push .ensures .0, c .before .before .before .before .before .before .push2 .ensures .0, c .before .before .push3 .ensures .0),
       c .before .before .push3 .kept .0 ∙ c .before .before .before .before .before .before .push2 .kept .0 ∙ c .before .before .before .before .before .before .before .before .before .before .push .kept .0 ∙ lp .inv .2,
-      corner-more (st .args .id .now) (st .args .n) (st .args .of .now) (st .args .np) (lp .words) (lp .k) (lp .i) (lp .inv .3) (c .before .before .before .before .before .before .before .before .before .before .push .last .0) (c .before .before .before .before .before .before .push2 .last .0) (c .before .before .push3 .last .0) (c .before .before .before .before .before .before .before .before .before .before .push .result) (c .before .before .before .before .before .before .push2 .result) (c .before .before .push3 .result) (c .before .before .before .before .before .before .before .before .before .before .before .before .if1 .left) (st .pre .0) (c .before .before .before .before .before .before .before .before .before .before .push .ensures .1) (c .before .before .before .before .before .before .push2 .ensures .1) (c .before .before .push3 .ensures .1),
+      corner-more (st .args .numbers .now) (st .args .n) (st .args .of .now) (st .args .np) (lp .words) (lp .k) (lp .i) (lp .inv .3) (c .before .before .before .before .before .before .before .before .before .before .push .last .0) (c .before .before .before .before .before .before .push2 .last .0) (c .before .before .push3 .last .0) (c .before .before .before .before .before .before .before .before .before .before .push .result) (c .before .before .before .before .before .before .push2 .result) (c .before .before .push3 .result) (c .before .before .before .before .before .before .before .before .before .before .before .before .if1 .left) (st .pre .0) (c .before .before .before .before .before .before .before .before .before .before .push .ensures .1) (c .before .before .before .before .before .before .push2 .ensures .1) (c .before .before .push3 .ensures .1),
     )
 
 same-length : tie.Need-same-length Inv-loop μ-loop

@@ -43,11 +43,11 @@ unfolding AllRead
 returns c =
     let a = c .before .before .before .before .before .before .before .before .before .before .args in
     let k = c .before .before .before .before .before .before .before .loop .k in
-    let i = getD (a .members .now) k 0 in
+    let i = getD (a .plane-triangles .now) k 0 in
     λ tri h.
     let e : c .before .contains .result ≡ containsPointOf (tri i) (a .p) =
-    c .before .contains .ensures ∙ rw (c .before .before .before .before .corner-at .ensures, c .before .before .before .edges-at .ensures, c .before .before .dots-at .ensures) (contains-read (a .columns .now) (a .n) i (tri i) (a .p) (h k (c .before .before .before .before .before .before .loop-test .taken))) in
-    rw (← c .before .before .before .before .before .before .before .loop .inv tri h, find-step tri (a .members .now) k (a .p) (c .before .before .before .before .before .before .loop-test .taken), ← e, c .if1 .taken)
+    c .before .contains .ensures ∙ rw (c .before .before .before .before .corner-at .ensures, c .before .before .before .edges-at .ensures, c .before .before .dots-at .ensures) (contains-read (a .triangles .now) (a .n) i (tri i) (a .p) (h k (c .before .before .before .before .before .before .loop-test .taken))) in
+    rw (← c .before .before .before .before .before .before .before .loop .inv tri h, find-step tri (a .plane-triangles .now) k (a .p) (c .before .before .before .before .before .before .loop-test .taken), ← e, c .if1 .taken)
 
 add-k : tie.Need-add-k Inv-loop μ-loop
 add-k c = omega (arith, c .before .before .before .before .before .before .before .before .before .before .good, c .before .before .before .before .before .before .loop-test .taken)
@@ -57,16 +57,16 @@ unfolding AllRead
 loop-again c =
     let a = c .before .before .before .before .before .before .before .before .before .before .args in
     let k = c .before .before .before .before .before .before .before .loop .k in
-    let i = getD (a .members .now) k 0 in
+    let i = getD (a .plane-triangles .now) k 0 in
     λ tri h.
     let e : c .before .contains .result ≡ containsPointOf (tri i) (a .p) =
-    c .before .contains .ensures ∙ rw (c .before .before .before .before .corner-at .ensures, c .before .before .before .edges-at .ensures, c .before .before .dots-at .ensures) (contains-read (a .columns .now) (a .n) i (tri i) (a .p) (h k (c .before .before .before .before .before .before .loop-test .taken))) in
-    rw (← c .before .before .before .before .before .before .before .loop .inv tri h, find-step tri (a .members .now) k (a .p) (c .before .before .before .before .before .before .loop-test .taken), ← e, c .if1 .left)
+    c .before .contains .ensures ∙ rw (c .before .before .before .before .corner-at .ensures, c .before .before .before .edges-at .ensures, c .before .before .dots-at .ensures) (contains-read (a .triangles .now) (a .n) i (tri i) (a .p) (h k (c .before .before .before .before .before .before .loop-test .taken))) in
+    rw (← c .before .before .before .before .before .before .before .loop .inv tri h, find-step tri (a .plane-triangles .now) k (a .p) (c .before .before .before .before .before .before .loop-test .taken), ← e, c .if1 .left)
 
 returns-2 : tie.Need-returns-2 Inv-loop μ-loop
 returns-2 c =
     let a = c .before .before .before .before .args in
-    λ tri h. sym (find-done tri (a .members .now) (c .before .loop .k) (a .p) (c .loop-test .left)) ∙ c .before .loop .inv tri h
+    λ tri h. sym (find-done tri (a .plane-triangles .now) (c .before .loop .k) (a .p) (c .loop-test .left)) ∙ c .before .loop .inv tri h
 
 pub find-spec : {M : Type 1} → statement M
 find-spec =

@@ -41,18 +41,18 @@ unfolding AllRead
 loop-again c =
     let a = c .before .before .before .before .before .before .before .before .args in
     let k = c .before .before .before .before .before .loop .k in
-    let i = getD (a .members .now) k 0 in
+    let i = getD (a .plane-triangles .now) k 0 in
     λ tri h.
     let e : c .snap-on .result ≡ snapOf (tri i) (a .ray) i (c .before .before .before .before .before .loop .best) =
-    c .snap-on .ensures ∙ rw (c .before .before .corner-at .ensures, c .before .edges-at .ensures) (snap-read (a .columns .now) (a .n) i (tri i) (a .ray) (c .before .before .before .before .before .loop .best) (h k (c .before .before .before .before .loop-test .taken))) in
-    ap (snapAllOf tri (a .ray) (drop (k + 1) (a .members .now))) e
-    ∙ sym (snap-step tri (a .members .now) k (a .ray) (c .before .before .before .before .before .loop .best) (c .before .before .before .before .loop-test .taken))
+    c .snap-on .ensures ∙ rw (c .before .before .corner-at .ensures, c .before .edges-at .ensures) (snap-read (a .triangles .now) (a .n) i (tri i) (a .ray) (c .before .before .before .before .before .loop .best) (h k (c .before .before .before .before .loop-test .taken))) in
+    ap (snapAllOf tri (a .ray) (drop (k + 1) (a .plane-triangles .now))) e
+    ∙ sym (snap-step tri (a .plane-triangles .now) k (a .ray) (c .before .before .before .before .before .loop .best) (c .before .before .before .before .loop-test .taken))
     ∙ c .before .before .before .before .before .loop .inv tri h
 
 returns : tie.Need-returns Inv-loop μ-loop
 returns c =
     let a = c .before .before .before .before .args in
-    λ tri h. sym (snap-done tri (a .members .now) (c .before .loop .k) (a .ray) (c .before .loop .best) (c .loop-test .left)) ∙ c .before .loop .inv tri h
+    λ tri h. sym (snap-done tri (a .plane-triangles .now) (c .before .loop .k) (a .ray) (c .before .loop .best) (c .loop-test .left)) ∙ c .before .loop .inv tri h
 
 pub snap-all-spec : {M : Type 1} → statement M
 snap-all-spec =

@@ -9,11 +9,11 @@ snap-all-requires c κs = c .before .before .before .before .pre
 
 returns : tie.Need-returns
 unfolding spotOf normalRayOf
-returns c = λ tri es h. rw (c .before .before .before .before .if1 .taken, ← c .before .before .before .normal-ray .ensures (c .before .before .before .before .before .before .before .args .members .now) es, ← c .before .before .snap-all .ensures tri h, c .enum-told .given .1)
+returns c = λ tri es h. rw (c .before .before .before .before .if1 .taken, ← c .before .before .before .normal-ray .ensures (c .before .before .before .before .before .before .before .args .plane-triangles .now) es, ← c .before .before .snap-all .ensures tri h, c .enum-told .given .1)
 
 returns-2 : tie.Need-returns-2
 unfolding spotOf normalRayOf
-returns-2 c = λ tri es h. rw (c .before .before .before .before .before .before .if1 .taken, ← c .before .before .before .before .before .normal-ray .ensures (c .before .before .before .before .before .before .before .before .before .args .members .now) es, ← c .before .before .before .before .snap-all .ensures tri h, c .before .before .i .given .1, ← c .along .ensures)
+returns-2 c = λ tri es h. rw (c .before .before .before .before .before .before .if1 .taken, ← c .before .before .before .before .before .normal-ray .ensures (c .before .before .before .before .before .before .before .before .before .args .plane-triangles .now) es, ← c .before .before .before .before .snap-all .ensures tri h, c .before .before .i .given .1, ← c .along .ensures)
 
 find-requires : tie.Need-find-requires
 find-requires c κs = c .before .before .before .pre

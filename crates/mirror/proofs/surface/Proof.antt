@@ -30,14 +30,14 @@ returns : tie.Need-returns
 unfolding surfaceOf trisOf
 returns c = λ tri es h.
     rw (
-      ← c .before .before .before .before .contains-in-box .ensures (trisOf (c .before .before .before .before .before .before .before .args .plane) (c .before .before .before .before .before .before .before .args .members .now)) es,
+      ← c .before .before .before .before .contains-in-box .ensures (trisOf (c .before .before .before .before .before .before .before .args .plane) (c .before .before .before .before .before .before .before .args .plane-triangles .now)) es,
       c .before .before .before .if1 .taken,
       ← rw (run (c .before .before .before .before .before .before .before .args .plane .first) (c .before .before .before .before .before .before .before .args .plane .count)) at (c .spot-on .ensures tri es (rw (run (c .before .before .before .before .before .before .before .args .plane .first) (c .before .before .before .before .before .before .before .args .plane .count)) h)),
     )
 
 returns-2 : tie.Need-returns-2
 unfolding surfaceOf
-returns-2 c = λ tri es h. rw (← c .before .contains-in-box .ensures (trisOf (c .before .before .before .before .args .plane) (c .before .before .before .before .args .members .now)) es, c .if1 .left)
+returns-2 c = λ tri es h. rw (← c .before .contains-in-box .ensures (trisOf (c .before .before .before .before .args .plane) (c .before .before .before .before .args .plane-triangles .now)) es, c .if1 .left)
 
 pub surface-spec : {M : Type 1} → statement M
 surface-spec =

@@ -17,7 +17,7 @@ abbrev μ-loop : tie.MeasureT-loop
 μ-loop area handles n m first cells₀ heads₀ next₀ rows₀ of₀ np₀ t₀ cells heads next rows of np t = m - t
 
 loop-holds : tie.Need-loop-holds Inv-loop μ-loop
-loop-holds c = let a = c .before .before .before .before .before .before .before .before .before .before .before .before .args in filling-none (trianglesIn (a .area .now) (a .handles .now) (a .n) (a .m)) (a .first .now) (a .m) (a .rows .now) (a .of .now) (a .cells .now) (c .before .before .clear-u32 .last .0) (a .next .now) (length (a .heads .now)) (c .before .before .before .before .before .before .before .before .before .before .before .before .pre .1 .0 .0) (c .before .before .clear-u32 .ensures)
+loop-holds c = let a = c .before .before .before .before .before .before .before .before .before .before .before .before .args in filling-none (trianglesIn (a .triangles .now) (a .handles .now) (a .n) (a .m)) (a .first .now) (a .m) (a .rows .now) (a .of .now) (a .cells .now) (c .before .before .clear-u32 .last .0) (a .next .now) (length (a .heads .now)) (c .before .before .before .before .before .before .before .before .before .before .before .before .pre .1 .0 .0) (c .before .before .clear-u32 .ensures)
 
 turn-requires : tie.Need-turn-requires Inv-loop μ-loop
 turn-requires c κs = let f = c .before .before .before .before .before .before .loop .inv in let p = c .before .before .before .before .before .before .before .before .before .before .before .before .before .before .before .before .before .before .before .pre .0 in let q = c .before .before .before .before .before .before .before .before .before .before .before .before .before .before .before .before .before .before .before .pre .1 .0 in let h = c .before .before .before .before .before .loop-test .taken in
@@ -31,11 +31,11 @@ loop-less : tie.Need-loop-less Inv-loop μ-loop
 loop-less c = let h = c .before .before .before .before .before .before .before .before .before .before .before .before .before .before .before .before .loop-test .taken in omega arith
 
 loop-again : tie.Need-loop-again Inv-loop μ-loop
-loop-again c = let a = c .before .before .before .before .before .before .before .before .before .before .before .before .before .before .before .before .before .before .before .before .before .before .before .before .before .before .before .before .before .before .args in let l = c .before .before .before .before .before .before .before .before .before .before .before .before .before .before .before .before .before .loop in let ts = trianglesIn (a .area .now) (a .handles .now) (a .n) (a .m) in
+loop-again c = let a = c .before .before .before .before .before .before .before .before .before .before .before .before .before .before .before .before .before .before .before .before .before .before .before .before .before .before .before .before .before .before .args in let l = c .before .before .before .before .before .before .before .before .before .before .before .before .before .before .before .before .before .loop in let ts = trianglesIn (a .triangles .now) (a .handles .now) (a .n) (a .m) in
     rw (add-one (l .t)) (filling-more ts (a .first .now) (a .m) (a .rows .now) (a .of .now) (a .cells .now) (a .next .now) (l .rows) (l .of) (l .cells) (l .heads) (l .next) (l .t) (l .np)
     (c .before .before .before .before .before .before .before .before .before .before .turn .last .1 .1 .1 .1 .1 .1 .0) (c .before .before .before .before .before .before .before .before .before .before .turn .last .1 .1 .1 .1 .1 .1 .1 .1 .1 .1 .0) (c .before .before .before .before .before .before .before .before .before .before .turn .last .1 .1 .1 .1 .1 .1 .1 .0) (c .before .before .before .before .before .before .before .before .before .before .turn .last .1 .1 .1 .1 .1 .1 .1 .1 .0) (c .before .before .before .before .before .before .before .before .before .before .turn .last .1 .1 .1 .1 .1 .1 .1 .1 .1 .0) (c .before .before .before .before .before .before .before .before .before .before .turn .result)
     (l .inv) (c .before .before .before .before .before .before .before .before .before .before .before .before .before .before .before .before .loop-test .taken) (c .before .before .before .before .before .before .before .before .before .before .turn .kept .1 .1 .1 .1 .1 .1 .0) (c .before .before .before .before .before .before .before .before .before .before .turn .kept .1 .1 .1 .1 .1 .1 .1 .1 .1 .1 .0) (c .before .before .before .before .before .before .before .before .before .before .turn .kept .1 .1 .1 .1 .1 .1 .1 .0) (c .before .before .before .before .before .before .before .before .before .before .turn .kept .1 .1 .1 .1 .1 .1 .1 .1 .1 .0)
-    (c .before .before .before .before .before .before .before .before .before .before .turn .ensures .0) (c .before .before .before .before .before .before .before .before .before .before .turn .ensures .1 .0 ts (triangle-in (a .area .now) (a .handles .now) (a .n) (a .m) (l .t) (c .before .before .before .before .before .before .before .before .before .before .before .before .before .before .before .before .loop-test .taken))) (c .before .before .before .before .before .before .before .before .before .before .turn .ensures .1 .1 .0) (c .before .before .before .before .before .before .before .before .before .before .turn .ensures .1 .1 .1))
+    (c .before .before .before .before .before .before .before .before .before .before .turn .ensures .0) (c .before .before .before .before .before .before .before .before .before .before .turn .ensures .1 .0 ts (triangle-in (a .triangles .now) (a .handles .now) (a .n) (a .m) (l .t) (c .before .before .before .before .before .before .before .before .before .before .before .before .before .before .before .before .loop-test .taken))) (c .before .before .before .before .before .before .before .before .before .before .turn .ensures .1 .1 .0) (c .before .before .before .before .before .before .before .before .before .before .turn .ensures .1 .1 .1))
 
 same-length : tie.Need-same-length Inv-loop μ-loop
 same-length c = c .before .loop .inv .len-cells
@@ -54,7 +54,7 @@ same-length-5 c = c .before .loop .inv .len-of
 
 returns : tie.Need-returns Inv-loop μ-loop
 returns c = let a = c .before .before .before .before .before .before .before .before .before .before .before .before .before .before .args in let l = c .before .loop in
-    filling-all (a .area .now) (a .handles .now) (a .n) (a .first .now) (a .m) (a .rows .now) (a .of .now) (a .cells .now) (a .next .now) (l .rows) (l .of) (l .cells) (l .heads) (l .next) (l .t) (l .np) (l .inv) (c .loop-test .left) (c .before .before .before .before .before .before .before .before .before .before .before .before .before .before .pre .0 .2) (c .before .before .before .before .before .before .before .before .before .before .before .before .before .before .pre .1 .1)
+    filling-all (a .triangles .now) (a .handles .now) (a .n) (a .first .now) (a .m) (a .rows .now) (a .of .now) (a .cells .now) (a .next .now) (l .rows) (l .of) (l .cells) (l .heads) (l .next) (l .t) (l .np) (l .inv) (c .loop-test .left) (c .before .before .before .before .before .before .before .before .before .before .before .before .before .before .pre .0 .2) (c .before .before .before .before .before .before .before .before .before .before .before .before .before .before .pre .1 .1)
 
 pub coplanar-patches-spec : {M : Type 1} → statement M
 coplanar-patches-spec =

@@ -22,7 +22,7 @@ judge-requires c κs = (c .before .before .before .before .before .before .befor
 returns : tie.Need-returns
 returns c =
     let a = c .before .before .before .before .before .before .before .before .before .before .before .before .before .before .before .before .before .before .args in
-    let planes = planesIn (a .floats .now) (a .words .now) (a .members .now) (a .edges .now) (a .count) in (
+    let planes = planesIn (a .plane-floats .now) (a .plane-words .now) (a .plane-triangles .now) (a .plane-edges .now) (a .count) in (
       λ tri t h.
           rw (c .judge .ensures .0 tri t (h .tree), rw (c .before .before .no-bounces .ensures .1, slice-empty (a .order) (c .before .before .no-bounces .result .points), slice-empty (a .order) (c .before .before .no-bounces .result .tris)) at (c .before .back .ensures .0 tri (h .planes)))
           (path-near (a .s) planes tri t (a .materials .now) (a .source) (a .listener) (a .seq) (λ j. getD (a .t17) j noPoint) (a .order) (omega (arith, c .before .before .before .before .before .before .before .before .before .before .before .before .before .before .before .before .before .before .pre .1 .0)) (c .before .before .before .before .before .before .before .before .before .before .before .before .before .before .before .before .before .before .pre .1 .1 .1) (rw (c .before .before .before .before .before .distance3 .ensures) at (c .before .before .before .if1 .taken))),
@@ -32,7 +32,7 @@ returns c =
 returns-2 : tie.Need-returns-2
 returns-2 c =
     let a = c .before .before .before .before .before .before .before .before .before .before .before .before .before .before .before .before .args in
-    let planes = planesIn (a .floats .now) (a .words .now) (a .members .now) (a .edges .now) (a .count) in (
+    let planes = planesIn (a .plane-floats .now) (a .plane-words .now) (a .plane-triangles .now) (a .plane-edges .now) (a .count) in (
       λ tri t h. rw (c .counted .ensures) (path-far (a .s) planes tri t (a .materials .now) (a .source) (a .listener) (a .seq) (λ j. getD (a .t17) j noPoint) (a .order) (omega (arith, c .before .before .before .before .before .before .before .before .before .before .before .before .before .before .before .before .pre .1 .0)) (c .before .before .before .before .before .before .before .before .before .before .before .before .before .before .before .before .pre .1 .1 .1) (rw (c .before .before .before .distance3 .ensures) at (c .before .if1 .left))),
       rw (c .counted .ensures) (omega arith),
     )

@@ -18,7 +18,7 @@ triangles-from-scene-requires c κs =
     let o = none-of-five (a .settings) (a .c) s (a .lens) _ (sym (d .check .ensures) ∙ c .before .before .before .checked2 .given .1) in
     let told = none-accepted (a .settings) (a .c) s (a .lens) _ o in
     let asked = start .pre in
-    (fits s _ (o .lengths) (o .count), (told .few, (omega (arith, told .room .columns-room, asked .0), omega (arith, told .room .handles-room, asked .1))))
+    (fits s _ (o .lengths) (o .count), (told .few, (omega (arith, told .room .triangles-room, asked .0), omega (arith, told .room .handles-room, asked .1))))
 
 pub load-scene-spec : {M : Type 1} → statement M
 load-scene-spec =

@@ -72,7 +72,7 @@ loop-again c =
       ran =
           rw (done .made, et, ep, ex, v-is, k-is)
           (sym
-          (all-step (a .n) (world (o .loop .columns) (o .loop .handles) (o .loop .st)) (a .meshes .now) (a .transforms .now) (a .positions .now) (a .indices .now) (o .loop .at) (o .loop .t) (o .loop .p) (o .loop .x) (omega arith))
+          (all-step (a .n) (world (o .loop .triangles) (o .loop .handles) (o .loop .st)) (a .meshes .now) (a .transforms .now) (a .positions .now) (a .indices .now) (o .loop .at) (o .loop .t) (o .loop .p) (o .loop .x) (omega arith))
           ∙ inv .ran);
     }
 

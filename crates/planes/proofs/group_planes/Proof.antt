@@ -28,18 +28,18 @@ merge-patches-requires c κs = let t = c .before .before .before .before .before
     (
       q .1,
       (
-        (v .0, vertex-numbers vertexKey (a .area .now) (a .n) (a .m) (a .id .now) (t .some) (v .1), omega (arith, t .few)),
+        (v .0, vertex-numbers vertexKey (a .triangles .now) (a .n) (a .m) (a .numbers .now) (t .some) (v .1), omega (arith, t .few)),
         (
-          numbered-fewer vertexKey (a .area .now) (a .n) (a .m) (a .id .now) (t .some) (v .1),
+          numbered-fewer vertexKey (a .triangles .now) (a .n) (a .m) (a .numbers .now) (t .some) (v .1),
           (
-            (omega (arith, g .hi-room, t .some), omega (arith, g .words-room, t .some), omega (arith, g .scratch-room, t .some)),
+            (omega (arith, g .keys-room, t .some), omega (arith, g .words-room, t .some), omega (arith, g .scratch-room, t .some)),
             (
               (omega (arith, g .index-room, t .some), omega (arith, g .next-room, t .some)),
               (
-                (omega (arith, g .linked-room, t .some), omega (arith, g .members-room, t .some)),
+                (omega (arith, g .adjacency-room, t .some), omega (arith, g .plane-triangles-room, t .some)),
                 (
-                  (omega (arith, g .first-room, t .some), omega (arith, g .kept-room, t .some)),
-                  (omega (arith, g .queue-room, t .some), omega (arith, g .starts-room, t .some), g .starts-room),
+                  (omega (arith, g .first-room, t .some), omega (arith, g .plane-words-room, t .some)),
+                  (omega (arith, g .queue-room, t .some), omega (arith, g .offsets-room, t .some), g .offsets-room),
                 ),
               ),
             ),
@@ -60,14 +60,14 @@ group-planes-requires c κs = let t = c .before .before .before .before .before 
       (
         (t .some, omega (arith, t .few, t .some), q .2),
         (
-          (grouped (c .before .before .before .before .before .before .before .before .before .before .before .before .before .before .before .before .before .before .before .before .before .before .before .before .before .before .before .before .before .before .before .before .merge-patches .last .1 .1 .1 .1 .1 .1 .1 .1 .1 .1 .1 .1 .1 .1 .1 .1 .1 .1 .1 .1 .1 .0) (c .before .before .before .before .before .before .before .before .before .before .before .before .before .before .before .before .before .before .before .before .before .before .before .before .before .before .before .before .before .before .before .before .merge-patches .last .1 .1 .1 .1 .1 .1 .1 .1 .1 .1 .1 .1 .1 .1 .1 .1 .1 .1 .1 .1 .1 .1 .0) (a .np) ng (mergeSettings (a .on) (a .least) (a .most)) (trianglesIn (a .area .now) (a .handles .now) (a .n) (a .m)) (patchesIn (a .rows .now) (a .of .now) (a .m) (a .np)) (patches-length (a .rows .now) (a .of .now) (a .m) (a .np)) is (omega (arith, few, q .0, t .some, c .before .before .before .before .before .before .before .before .before .before .before .before .before .before .before .before .before .before .before .before .before .before .before .before .before .before .before .before .before .before .before .before .merge-patches .kept .1 .1 .1 .1 .1 .1 .1 .1 .1 .1 .1 .1 .1 .1 .1 .1 .1 .1 .1 .1 .1 .1 .0, g .starts-room)) (omega (arith, ends, q .0, t .some, c .before .before .before .before .before .before .before .before .before .before .before .before .before .before .before .before .before .before .before .before .before .before .before .before .before .before .before .before .before .before .before .before .merge-patches .kept .1 .1 .1 .1 .1 .1 .1 .1 .1 .1 .1 .1 .1 .1 .1 .1 .1 .1 .1 .1 .1 .0, g .queue-room)), omega (arith, few, q .0, t .some, t .few)),
+          (grouped (c .before .before .before .before .before .before .before .before .before .before .before .before .before .before .before .before .before .before .before .before .before .before .before .before .before .before .before .before .before .before .before .before .merge-patches .last .1 .1 .1 .1 .1 .1 .1 .1 .1 .1 .1 .1 .1 .1 .1 .1 .1 .1 .1 .1 .1 .0) (c .before .before .before .before .before .before .before .before .before .before .before .before .before .before .before .before .before .before .before .before .before .before .before .before .before .before .before .before .before .before .before .before .merge-patches .last .1 .1 .1 .1 .1 .1 .1 .1 .1 .1 .1 .1 .1 .1 .1 .1 .1 .1 .1 .1 .1 .1 .0) (a .np) ng (mergeSettings (a .on) (a .least) (a .most)) (trianglesIn (a .triangles .now) (a .handles .now) (a .n) (a .m)) (patchesIn (a .plane-floats .now) (a .of .now) (a .m) (a .np)) (patches-length (a .plane-floats .now) (a .of .now) (a .m) (a .np)) is (omega (arith, few, q .0, t .some, c .before .before .before .before .before .before .before .before .before .before .before .before .before .before .before .before .before .before .before .before .before .before .before .before .before .before .before .before .before .before .before .before .merge-patches .kept .1 .1 .1 .1 .1 .1 .1 .1 .1 .1 .1 .1 .1 .1 .1 .1 .1 .1 .1 .1 .1 .1 .0, g .offsets-room)) (omega (arith, ends, q .0, t .some, c .before .before .before .before .before .before .before .before .before .before .before .before .before .before .before .before .before .before .before .before .before .before .before .before .before .before .before .before .before .before .before .before .merge-patches .kept .1 .1 .1 .1 .1 .1 .1 .1 .1 .1 .1 .1 .1 .1 .1 .1 .1 .1 .1 .1 .1 .0, g .queue-room)), omega (arith, few, q .0, t .some, t .few)),
           (
             (omega (arith, c .before .before .before .before .before .before .before .before .before .before .before .before .before .before .before .before .before .before .before .before .before .before .before .before .before .before .before .before .before .before .before .before .merge-patches .kept .1 .1 .1 .1 .1 .1 .1 .1 .1 .1 .1 .1 .1 .1 .1 .0, g .index-room, q .0, t .some), omega (arith, c .before .before .before .before .before .before .before .before .before .before .before .before .before .before .before .before .before .before .before .before .before .before .before .before .before .before .before .before .before .before .before .before .merge-patches .kept .1 .1 .1 .1 .1 .1 .1 .1 .1 .1 .1 .1 .1 .1 .1 .1 .1 .1 .1 .0, g .first-room, t .some)),
             (
               (omega (arith, c .before .before .before .before .before .before .before .before .before .before .before .before .before .before .before .before .before .before .before .before .before .before .before .before .before .before .before .before .before .before .before .before .merge-patches .kept .1 .1 .1 .1 .1 .1 .1 .1 .1 .1 .1 .1 .1 .0, g .words-room, t .some), omega (arith, c .before .before .before .before .before .before .before .before .before .before .before .before .before .before .before .before .before .before .before .before .before .before .before .before .before .before .before .before .before .before .before .before .merge-patches .kept .1 .1 .1 .1 .1 .1 .1 .1 .1 .1 .1 .1 .1 .1 .0, g .scratch-room, t .some)),
               (
-                (omega (arith, c .before .before .before .before .before .before .before .before .before .before .before .before .before .before .before .before .before .before .before .before .before .before .before .before .before .before .before .before .before .before .before .before .merge-patches .kept .1 .1 .1 .1 .1 .1 .1 .1 .1 .1 .1 .1 .1 .1 .1 .1 .1 .1 .0, g .members-room, t .some), omega (arith, c .before .before .before .before .before .before .before .before .before .before .before .before .before .before .before .before .before .before .before .before .before .before .before .before .before .before .before .before .before .before .before .before .merge-patches .kept .1 .1 .1 .1 .1 .1 .1 .1 .1 .1 .1 .1 .1 .1 .1 .1 .0, g .next-room, few, q .0, t .some)),
-                (omega (arith, g .gfloats-room, few, q .0, t .some), omega (arith, c .before .before .before .before .before .before .before .before .before .before .before .before .before .before .before .before .before .before .before .before .before .before .before .before .before .before .before .before .before .before .before .before .merge-patches .kept .1 .1 .1 .1 .1 .1 .1 .1 .1 .1 .1 .1 .1 .1 .1 .1 .1 .0, g .linked-room, few, q .0, t .some)),
+                (omega (arith, c .before .before .before .before .before .before .before .before .before .before .before .before .before .before .before .before .before .before .before .before .before .before .before .before .before .before .before .before .before .before .before .before .merge-patches .kept .1 .1 .1 .1 .1 .1 .1 .1 .1 .1 .1 .1 .1 .1 .1 .1 .1 .1 .0, g .plane-triangles-room, t .some), omega (arith, c .before .before .before .before .before .before .before .before .before .before .before .before .before .before .before .before .before .before .before .before .before .before .before .before .before .before .before .before .before .before .before .before .merge-patches .kept .1 .1 .1 .1 .1 .1 .1 .1 .1 .1 .1 .1 .1 .1 .1 .1 .0, g .next-room, few, q .0, t .some)),
+                (omega (arith, g .floats-room, few, q .0, t .some), omega (arith, c .before .before .before .before .before .before .before .before .before .before .before .before .before .before .before .before .before .before .before .before .before .before .before .before .before .before .before .before .before .before .before .before .merge-patches .kept .1 .1 .1 .1 .1 .1 .1 .1 .1 .1 .1 .1 .1 .1 .1 .1 .1 .0, g .adjacency-room, few, q .0, t .some)),
               ),
             ),
           ),
@@ -115,7 +115,7 @@ returns : tie.Need-returns
 unfolding groupPlanesOf
 returns c = let t = c .before .before .before .before .before .before .before .before .before .before .before .before .before .before .before .before .before .before .before .before .before .before .before .before .before .before .before .before .before .before .before .before .before .before .before .before .before .before .before .before .before .before .before .before .before .before .before .before .before .before .before .before .before .before .before .before .before .before .before .before .before .before .before .before .before .before .before .before .before .before .before .before .before .before .before .before .before .before .pre .0 in let q = c .before .before .before .before .before .before .before .before .before .before .before .before .before .before .before .before .before .before .before .before .before .before .before .before .before .before .before .before .before .before .before .before .before .before .before .before .before .before .before .before .before .before .before .before .before .before .before .before .before .before .before .before .before .before .before .before .before .before .before .before .before .before .before .before .before .before .before .before .before .before .before .before .before .before .before .before .before .before .pre .1 .0 in let g = c .before .before .before .before .before .before .before .before .before .before .before .before .before .before .before .before .before .before .before .before .before .before .before .before .before .before .before .before .before .before .before .before .before .before .before .before .before .before .before .before .before .before .before .before .before .before .before .before .before .before .before .before .before .before .before .before .before .before .before .before .before .before .before .before .before .before .before .before .before .before .before .before .before .before .before .before .before .before .pre .1 .1 .1 in let a = c .before .before .before .before .before .before .before .before .before .before .before .before .before .before .before .before .before .before .before .before .before .before .before .before .before .before .before .before .before .before .before .before .before .before .before .before .before .before .before .before .before .before .before .before .before .before .before .before .before .before .before .before .before .before .before .before .before .before .before .before .before .before .before .before .before .before .before .before .before .before .before .before .before .before .before .before .before .before .args in let r = c .before .before .before .before .before .before .before .before .before .before .before .before .before .before .before .before .before .before .before .before .before .before .before .before .before .before .before .before .before .before .before .before .before .before .before .before .before .before .before .before .before .before .before .before .before .before .before .before .before .merge-patches .ensures in let f = c .before .before .before .before .before .before .before .before .before .before .before .before .before .before .before .before .group-planes .ensures in
     let few = r .0 in (
-      λ s on least most. f .0 ∙ ap (map (planeOf (trianglesIn (a .area .now) (a .handles .now) (a .n) (a .m)) (patchesIn (a .rows .now) (a .of .now) (a .m) (a .np)))) (r .1 .1 s on least most),
+      λ s on least most. f .0 ∙ ap (map (planeOf (trianglesIn (a .triangles .now) (a .handles .now) (a .n) (a .m)) (patchesIn (a .plane-floats .now) (a .of .now) (a .m) (a .np)))) (r .1 .1 s on least most),
       record {
         few = omega (arith, few, q .0);
         held = f .1 .0;

@@ -35,7 +35,7 @@ same-length-2 c = c .before .before .before .before .before .before .before .bef
 returns : tie.Need-returns
 returns c = let a = c .before .before .before .before .before .before .before .before .before .before .before .before .before .before .before .before .before .before .before .before .before .before .before .before .before .before .before .before .before .before .before .before .before .before .before .before .args in let st = a .settings in let g = c .before .before .before .before .before .before .before .before .load-scene in let f = c .before .before .before .front-of in
     let s = scene (a .meshes .now) (a .transforms .now) (a .positions .now) (a .indices .now) (a .materials .now) (a .rows-count) in
-    let w = work (a .columns .now) (a .handles .now) (a .tree .now) (a .nodes .now) (a .perm .now) (a .hi .now) (a .lo .now) (a .words .now) (a .scratch .now) (a .index .now) (a .id .now) (a .linked .now) (a .queue .now) (a .starts .now) (a .gfloats .now) (a .members .now) (a .rows .now) (a .kept .now) (a .edges .now) in
+    let w = work (a .triangles .now) (a .handles .now) (a .tree .now) (a .nodes .now) (a .leaf-order .now) (a .keys .now) (a .low-keys .now) (a .words .now) (a .scratch .now) (a .index .now) (a .numbers .now) (a .adjacency .now) (a .queue .now) (a .offsets .now) (a .floats .now) (a .plane-triangles .now) (a .plane-floats .now) (a .plane-words .now) (a .plane-edges .now) in
     let lens = lengthsOf w (a .out .now) in
     let k = firstRefusal st (a .c) s lens in
     let l = g .ensures in
@@ -44,7 +44,7 @@ returns c = let a = c .before .before .before .before .before .before .before .b
     let some = early-some k e in
     let less = early-less k e in
     traced st (a .c) s (a .source) (a .listener) (a .separated) (c .refused .result) (a .out .now) (a .out .now) w
-    (work (g .last .1 .1 .1 .1 .1 .1 .1 .1 .1 .0) (g .last .1 .1 .1 .1 .1 .1 .1 .1 .1 .1 .0) (a .tree .now) (a .nodes .now) (a .perm .now) (a .hi .now) (a .lo .now) (a .words .now) (a .scratch .now) (a .index .now) (a .id .now) (a .linked .now) (a .queue .now) (a .starts .now) (a .gfloats .now) (a .members .now) (a .rows .now) (a .kept .now) (a .edges .now))
+    (work (g .last .1 .1 .1 .1 .1 .1 .1 .1 .1 .0) (g .last .1 .1 .1 .1 .1 .1 .1 .1 .1 .1 .0) (a .tree .now) (a .nodes .now) (a .leaf-order .now) (a .keys .now) (a .low-keys .now) (a .words .now) (a .scratch .now) (a .index .now) (a .numbers .now) (a .adjacency .now) (a .queue .now) (a .offsets .now) (a .floats .now) (a .plane-triangles .now) (a .plane-floats .now) (a .plane-words .now) (a .plane-edges .now))
     (refused-answers k (queryIn st (a .c) s (a .source) (a .listener) (a .separated)) (c .refused .result) (a .out .now) (a .out .now) some
     (c .refused .ensures ∙ ap (λ j. answeredOf (refused j)) is) refl)
     (scene-found k w (g .last .1 .1 .1 .1 .1 .1 .1 .1 .1 .0) (g .last .1 .1 .1 .1 .1 .1 .1 .1 .1 .1 .0) (l .filled ∙ left-found k _ _ _ some less) (l .named ∙ left-found k _ _ _ some less) e)
@@ -52,40 +52,40 @@ returns c = let a = c .before .before .before .before .before .before .before .b
 answer-loaded-requires : tie.Need-answer-loaded-requires
 answer-loaded-requires c κs = let model = c .before .before .before .before .before .before .before .before .before .before .before .before .before .before .before .before .before .before .before .before .before .before .before .before .before .before .before .before .before .before .before .before .before .before .before .before .before .before .before .before .before .before .before .before .before .before .before .before .before .before .before .before .before .before .before .good .1 .1 .1 .1 .1 .1 .1 .1 .1 .1 .1 .1 .1 .1 .1 .1 .1 .1 .1 .1 .0 .1 .1 .1 .1 .1 .1 .1 .1 .1 .1 .1 .1 .1 .0 .1 .1 in let a = c .before .before .before .before .before .before .before .before .before .before .before .before .before .before .before .before .before .before .before .before .before .before .before .before .before .before .before .before .before .before .before .before .before .before .before .before .before .before .before .before .before .before .before .before .before .before .before .before .before .before .before .before .before .before .before .args in let st = a .settings in let g = c .before .before .before .before .before .before .before .before .before .before .before .before .before .before .before .before .before .before .before .before .before .before .before .before .before .before .before .load-scene in let f = c .before .before .before .before .before .before .before .before .before .before .before .before .before .before .before .before .before .before .before .before .before .before .front-of in
     let s = scene (a .meshes .now) (a .transforms .now) (a .positions .now) (a .indices .now) (a .materials .now) (a .rows-count) in
-    let w = work (a .columns .now) (a .handles .now) (a .tree .now) (a .nodes .now) (a .perm .now) (a .hi .now) (a .lo .now) (a .words .now) (a .scratch .now) (a .index .now) (a .id .now) (a .linked .now) (a .queue .now) (a .starts .now) (a .gfloats .now) (a .members .now) (a .rows .now) (a .kept .now) (a .edges .now) in
+    let w = work (a .triangles .now) (a .handles .now) (a .tree .now) (a .nodes .now) (a .leaf-order .now) (a .keys .now) (a .low-keys .now) (a .words .now) (a .scratch .now) (a .index .now) (a .numbers .now) (a .adjacency .now) (a .queue .now) (a .offsets .now) (a .floats .now) (a .plane-triangles .now) (a .plane-floats .now) (a .plane-words .now) (a .plane-edges .now) in
     let lens = lengthsOf w (a .out .now) in
     let k = firstRefusal st (a .c) s lens in
     let l = g .ensures in
     let is = front-refusal k s (g .result) (f .result) (l .answer) (f .ensures) in (
       λ none.
           let fr = fronted k s (g .result) (f .result) (l .answer) (f .ensures) (sym is ∙ none) in
-          let there = loaded st (a .c) s lens (a .columns .now) (a .handles .now) (g .result) (g .last .1 .1 .1 .1 .1 .1 .1 .1 .1 .0) (g .last .1 .1 .1 .1 .1 .1 .1 .1 .1 .1 .0) (f .result .kept) (placings s) (f .result .triples) (fr .loaded) l in
-          let acc = loaded-accepted st (a .c) s lens (a .columns .now) (a .handles .now) (g .result) (g .last .1 .1 .1 .1 .1 .1 .1 .1 .1 .0) (g .last .1 .1 .1 .1 .1 .1 .1 .1 .1 .1 .0) (f .result .kept) (placings s) (f .result .triples) l (fr .loaded) in
+          let there = loaded st (a .c) s lens (a .triangles .now) (a .handles .now) (g .result) (g .last .1 .1 .1 .1 .1 .1 .1 .1 .1 .0) (g .last .1 .1 .1 .1 .1 .1 .1 .1 .1 .1 .0) (f .result .kept) (placings s) (f .result .triples) (fr .loaded) l in
+          let acc = loaded-accepted st (a .c) s lens (a .triangles .now) (a .handles .now) (g .result) (g .last .1 .1 .1 .1 .1 .1 .1 .1 .1 .0) (g .last .1 .1 .1 .1 .1 .1 .1 .1 .1 .1 .0) (f .result .kept) (placings s) (f .result .triples) l (fr .loaded) in
           let room = acc .room in
           let lim = limits s (g .last .1 .1 .1 .1 .1 .1 .1 .1 .1 .0) (g .last .1 .1 .1 .1 .1 .1 .1 .1 .1 .1 .0) (f .result .triples) (f .result .kept) there in
           let inside = within st (a .c) (acc .settings) in
           record {
             scene = record { scene = s; loaded = there; same = refl };
-            lent = record { few = omega (arith, lim .most); some = lim .fewer; columns = omega (arith, g .kept .1 .1 .1 .1 .1 .1 .1 .1 .1 .0, room .columns-room); named = omega (arith, g .kept .1 .1 .1 .1 .1 .1 .1 .1 .1 .1 .0, room .handles-room) };
-            for-tree = record { tree-room = room .tree-room; nodes-room = room .nodes-room; perm-room = room .perm-room };
+            lent = record { few = omega (arith, lim .most); some = lim .fewer; columns = omega (arith, g .kept .1 .1 .1 .1 .1 .1 .1 .1 .1 .0, room .triangles-room); named = omega (arith, g .kept .1 .1 .1 .1 .1 .1 .1 .1 .1 .1 .0, room .handles-room) };
+            for-tree = record { tree-room = room .tree-room; nodes-room = room .nodes-room; leaf-order-room = room .leaf-order-room };
             for-planes = record {
-              hi-room = omega (arith, room .hi-room);
-              lo-room = room .lo-room;
+              keys-room = omega (arith, room .keys-room);
+              low-keys-room = room .low-keys-room;
               words-room = omega (arith, room .words-room);
               scratch-room = omega (arith, room .scratch-room);
               index-room = room .index-room;
-              id-room = omega (arith, room .id-room);
-              linked-room = omega (arith, room .linked-room);
+              numbers-room = omega (arith, room .numbers-room);
+              adjacency-room = omega (arith, room .adjacency-room);
               queue-room = omega (arith, room .queue-room);
-              starts-room = omega (arith, room .starts-room);
-              members-room = omega (arith, room .members-room);
-              kept-room = room .kept-room;
-              rows-room = room .rows-room;
-              gfloats-room = omega (arith, room .gfloats-room);
-              edges-room = omega (arith, room .edges-room);
+              offsets-room = omega (arith, room .offsets-room);
+              plane-triangles-room = omega (arith, room .plane-triangles-room);
+              plane-words-room = room .plane-words-room;
+              plane-floats-room = room .plane-floats-room;
+              floats-room = omega (arith, room .floats-room);
+              plane-edges-room = omega (arith, room .plane-edges-room);
             };
             few = inside .planes;
-            for-found = record { few = omega (arith, inside .room); floats = omega (arith, room .gfloats-room); words = omega (arith, room .id-room) };
+            for-found = record { few = omega (arith, inside .room); floats = omega (arith, room .floats-room); words = omega (arith, room .numbers-room) };
             sane = record {
               rates = inside .rates;
               model = inside .model;
@@ -93,7 +93,7 @@ answer-loaded-requires c κs = let model = c .before .before .before .before .be
             };
             for-list = record {
               few = omega arith;
-              hi-room = omega (arith, room .hi-room);
+              keys-room = omega (arith, room .keys-room);
               queue-room = omega (arith, room .queue-room);
               words-room = omega (arith, room .words-room);
               scratch-room = omega (arith, room .scratch-room);
@@ -166,7 +166,7 @@ same-length-22 c = c .before .before .before .before .before .before .before .be
 returns-2 : tie.Need-returns-2
 returns-2 c = let u = c .before .before .before .before .before .before .before .before .before .before .before .before .before .before .before .before .before .before .before .before .before .before .before .before .before .before .before .before .before .before .before .before .before .before .before .before .before .before .before .before .answer-loaded in let a = c .before .before .before .before .before .before .before .before .before .before .before .before .before .before .before .before .before .before .before .before .before .before .before .before .before .before .before .before .before .before .before .before .before .before .before .before .before .before .before .before .before .before .before .before .before .before .before .before .before .before .before .before .before .before .before .before .before .before .before .before .before .before .before .before .before .before .before .before .before .before .before .before .before .before .before .before .before .before .before .before .before .before .before .before .before .before .before .before .before .before .before .before .before .before .before .before .args in let st = a .settings in let g = c .before .before .before .before .before .before .before .before .before .before .before .before .before .before .before .before .before .before .before .before .before .before .before .before .before .before .before .before .before .before .before .before .before .before .before .before .before .before .before .before .before .before .before .before .before .before .before .before .before .before .before .before .before .before .before .before .before .before .before .before .before .before .before .before .before .before .before .before .load-scene in let f = c .before .before .before .before .before .before .before .before .before .before .before .before .before .before .before .before .before .before .before .before .before .before .before .before .before .before .before .before .before .before .before .before .before .before .before .before .before .before .before .before .before .before .before .before .before .before .before .before .before .before .before .before .before .before .before .before .before .before .before .before .before .before .before .front-of in
     let s = scene (a .meshes .now) (a .transforms .now) (a .positions .now) (a .indices .now) (a .materials .now) (a .rows-count) in
-    let w = work (a .columns .now) (a .handles .now) (a .tree .now) (a .nodes .now) (a .perm .now) (a .hi .now) (a .lo .now) (a .words .now) (a .scratch .now) (a .index .now) (a .id .now) (a .linked .now) (a .queue .now) (a .starts .now) (a .gfloats .now) (a .members .now) (a .rows .now) (a .kept .now) (a .edges .now) in
+    let w = work (a .triangles .now) (a .handles .now) (a .tree .now) (a .nodes .now) (a .leaf-order .now) (a .keys .now) (a .low-keys .now) (a .words .now) (a .scratch .now) (a .index .now) (a .numbers .now) (a .adjacency .now) (a .queue .now) (a .offsets .now) (a .floats .now) (a .plane-triangles .now) (a .plane-floats .now) (a .plane-words .now) (a .plane-edges .now) in
     let lens = lengthsOf w (a .out .now) in
     let k = firstRefusal st (a .c) s lens in
     let l = g .ensures in
@@ -178,27 +178,27 @@ returns-2 c = let u = c .before .before .before .before .before .before .before 
     (λ none. let fr = fronted k s (g .result) (f .result) (l .answer) (f .ensures) (sym is ∙ none) in fr .kept)
     (u .ensures .0 .over s (λ none.
     let fr = fronted k s (g .result) (f .result) (l .answer) (f .ensures) (sym is ∙ none) in
-    let there = loaded st (a .c) s lens (a .columns .now) (a .handles .now) (g .result) (g .last .1 .1 .1 .1 .1 .1 .1 .1 .1 .0) (g .last .1 .1 .1 .1 .1 .1 .1 .1 .1 .1 .0) (f .result .kept) (placings s) (f .result .triples) (fr .loaded) l in there) refl))
+    let there = loaded st (a .c) s lens (a .triangles .now) (a .handles .now) (g .result) (g .last .1 .1 .1 .1 .1 .1 .1 .1 .1 .0) (g .last .1 .1 .1 .1 .1 .1 .1 .1 .1 .1 .0) (f .result .kept) (placings s) (f .result .triples) (fr .loaded) l in there) refl))
     (work-cleared k w left (all-zero w left (u .ensures .1 .0) (u .ensures .1 .1) record {
-      columns-same = _∙_ {b = length (g .last .1 .1 .1 .1 .1 .1 .1 .1 .1 .0)} (u .kept .0) (g .kept .1 .1 .1 .1 .1 .1 .1 .1 .1 .0);
+      triangles-same = _∙_ {b = length (g .last .1 .1 .1 .1 .1 .1 .1 .1 .1 .0)} (u .kept .0) (g .kept .1 .1 .1 .1 .1 .1 .1 .1 .1 .0);
       handles-same = _∙_ {b = length (g .last .1 .1 .1 .1 .1 .1 .1 .1 .1 .1 .0)} (u .kept .1 .0) (g .kept .1 .1 .1 .1 .1 .1 .1 .1 .1 .1 .0);
       tree-same = u .kept .1 .1 .0;
       nodes-same = u .kept .1 .1 .1 .0;
-      perm-same = u .kept .1 .1 .1 .1 .0;
-      hi-same = u .kept .1 .1 .1 .1 .1 .0;
-      lo-same = u .kept .1 .1 .1 .1 .1 .1 .0;
+      leaf-order-same = u .kept .1 .1 .1 .1 .0;
+      keys-same = u .kept .1 .1 .1 .1 .1 .0;
+      low-keys-same = u .kept .1 .1 .1 .1 .1 .1 .0;
       words-same = u .kept .1 .1 .1 .1 .1 .1 .1 .0;
       scratch-same = u .kept .1 .1 .1 .1 .1 .1 .1 .1 .0;
       index-same = u .kept .1 .1 .1 .1 .1 .1 .1 .1 .1 .0;
-      id-same = u .kept .1 .1 .1 .1 .1 .1 .1 .1 .1 .1 .0;
-      linked-same = u .kept .1 .1 .1 .1 .1 .1 .1 .1 .1 .1 .1 .0;
+      numbers-same = u .kept .1 .1 .1 .1 .1 .1 .1 .1 .1 .1 .0;
+      adjacency-same = u .kept .1 .1 .1 .1 .1 .1 .1 .1 .1 .1 .1 .0;
       queue-same = u .kept .1 .1 .1 .1 .1 .1 .1 .1 .1 .1 .1 .1 .0;
-      starts-same = u .kept .1 .1 .1 .1 .1 .1 .1 .1 .1 .1 .1 .1 .1 .0;
-      gfloats-same = u .kept .1 .1 .1 .1 .1 .1 .1 .1 .1 .1 .1 .1 .1 .1 .0;
-      members-same = u .kept .1 .1 .1 .1 .1 .1 .1 .1 .1 .1 .1 .1 .1 .1 .1 .0;
-      rows-same = u .kept .1 .1 .1 .1 .1 .1 .1 .1 .1 .1 .1 .1 .1 .1 .1 .1 .0;
-      kept-same = u .kept .1 .1 .1 .1 .1 .1 .1 .1 .1 .1 .1 .1 .1 .1 .1 .1 .1 .0;
-      edges-same = u .kept .1 .1 .1 .1 .1 .1 .1 .1 .1 .1 .1 .1 .1 .1 .1 .1 .1 .1 .0;
+      offsets-same = u .kept .1 .1 .1 .1 .1 .1 .1 .1 .1 .1 .1 .1 .1 .0;
+      floats-same = u .kept .1 .1 .1 .1 .1 .1 .1 .1 .1 .1 .1 .1 .1 .1 .0;
+      plane-triangles-same = u .kept .1 .1 .1 .1 .1 .1 .1 .1 .1 .1 .1 .1 .1 .1 .1 .0;
+      plane-floats-same = u .kept .1 .1 .1 .1 .1 .1 .1 .1 .1 .1 .1 .1 .1 .1 .1 .1 .0;
+      plane-words-same = u .kept .1 .1 .1 .1 .1 .1 .1 .1 .1 .1 .1 .1 .1 .1 .1 .1 .1 .0;
+      plane-edges-same = u .kept .1 .1 .1 .1 .1 .1 .1 .1 .1 .1 .1 .1 .1 .1 .1 .1 .1 .1 .0;
     }) e)
 
 pub trace-early-reflections-spec : {M : Type 1} → statement M

@@ -25,7 +25,7 @@ put-border-requires : tie.Need-put-border-requires
 unfolding trisOf
 put-border-requires c κs = let p = c .before .before .before .before .before .before .before .before .pre in let a = c .before .before .before .before .before .before .before .before .args in
     let e : a .plane .first + a .plane .count - a .plane .first ≡ a .plane .count = omega arith in
-    let l = length-part (a .members .now) (a .plane .first) (a .plane .first + a .plane .count) in
+    let l = length-part (a .plane-triangles .now) (a .plane .first) (a .plane .first + a .plane .count) in
     ((p .0 .0, p .0 .1), (rw (e) (p .1 .0 .1), (p .0 .2, omega (arith, l, p .1 .1))))
 
 sub-p : tie.Need-sub-p
@@ -38,7 +38,7 @@ returns : tie.Need-returns
 unfolding trisOf
 returns c = let a = c .before .before .before .before .before .before .before .before .before .before .before .args in let f = c .before .before .put-border .ensures in
     let e : a .plane .first + a .plane .count - a .plane .first ≡ a .plane .count = omega arith in
-    let l = length-part (a .members .now) (a .plane .first) (a .plane .first + a .plane .count) in
+    let l = length-part (a .plane-triangles .now) (a .plane .first) (a .plane .first + a .plane .count) in
     let ended = f .1 .count in
     let back : a .at + (c .before .before .put-border .result - a .at) ≡ c .before .before .put-border .result = omega arith in
     ((refl, omega (arith, l, f .0)), rw (back, ← e) (f .1))

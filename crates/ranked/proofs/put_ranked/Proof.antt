@@ -60,8 +60,8 @@ unfolding Below rowOf
 put-plane-requires c κs = let p = c .before .before .before .before .before .before .before .before .before .before .before .before .before .before .before .before .before .before .before .before .before .pre .0 in let q = c .before .before .before .before .before .before .before .before .before .before .before .before .before .before .before .before .before .before .before .before .before .pre .1 in let a = c .before .before .before .before .before .before .before .before .before .before .before .before .before .before .before .before .before .before .before .before .before .args in let l = c .before .before .before .before .before .before .before .before .before .before .loop in
     let b = p .below (l .r) (c .before .before .before .before .before .before .before .before .before .loop-test .taken) in
     let words = c .before .before .before .before .before .before .before .before .before .before .before .before .before .before .before .before .before .before .shared-slice-known3 .given in
-    let starts : getD (a .gwords .now) (5 * (getD (a .index .now) (l .r) 0)) 0 < 4294967296 = omega (arith, words (5 * (getD (a .index .now) (l .r) 0))) in
-    let counts : getD (a .gwords .now) (5 * (getD (a .index .now) (l .r) 0) + 1) 0 < 4294967296 = omega (arith, words (5 * (getD (a .index .now) (l .r) 0) + 1)) in
+    let starts : getD (a .group-words .now) (5 * (getD (a .index .now) (l .r) 0)) 0 < 4294967296 = omega (arith, words (5 * (getD (a .index .now) (l .r) 0))) in
+    let counts : getD (a .group-words .now) (5 * (getD (a .index .now) (l .r) 0) + 1) 0 < 4294967296 = omega (arith, words (5 * (getD (a .index .now) (l .r) 0) + 1)) in
     let room = border-room _ _ _ _ _ _ _ (c .before .before .before .before .before .before .before .before .before .loop-test .taken) (l .inv .bound) (p .total) (ap (λ (q : PlaneRow). q .count) (c .before .before .before .before .before .before .before .plane-at .ensures)) in
     (omega (arith, q .floats-room, l .inv .floats-long, c .before .before .before .before .before .before .before .before .before .loop-test .taken), (omega (arith, q .words-room, l .inv .words-long, c .before .before .before .before .before .before .before .before .before .loop-test .taken), small-is (c .before .before .before .before .before .before .before .plane-at .result) _ _ _ (c .before .before .before .before .before .bordered .ensures .0 .0) (rw (c .before .before .before .before .before .before .before .plane-at .ensures) starts) (rw (c .before .before .before .before .before .before .before .plane-at .ensures) counts) room (p .short) (c .before .before .before .before .before .bordered .ensures .0 .1)))
 
@@ -90,7 +90,7 @@ returns c =
     let q = c .before .before .before .before .before .before .before .before .before .before .before .before .pre .1 in
     let l = c .before .loop in
     let a = c .before .before .before .before .before .before .before .before .before .before .before .before .args in
-    let few = sum-le (a .gfloats .now) (a .gwords .now) (a .index .now) (l .r) in (
+    let few = sum-le (a .group-floats .now) (a .group-words .now) (a .index .now) (l .r) in (
       λ r h. placed-is _ _ _ _ _ _ _ _ _ _ _ _ r (l .inv .each r (omega (arith, h, c .loop-test .left))),
       all-held _ _ _ _ _ _ _ _ _ _ _ _ _ _ (p .held) (p .below) (λ r h. l .inv .each r (omega (arith, h, c .loop-test .left))) (omega (arith, l .inv .bound, few, p .total)) (omega (arith, q .edges-room, l .inv .edges-long)) (omega (arith, q .floats-room, l .inv .floats-long)) (omega (arith, q .words-room, l .inv .words-long)),
     )

@@ -10,13 +10,13 @@ slice-relend-prefix-build-flat-bvh : tie.Need-slice-relend-prefix-build-flat-bvh
 slice-relend-prefix-build-flat-bvh c = c .before .before .before .before .before .before .before .before .before .before .before .before .before .pre .perm-room
 
 slice-aggregate-build-flat-bvh : tie.Need-slice-aggregate-build-flat-bvh
-slice-aggregate-build-flat-bvh c = sym (length-take-le (c .before .before .before .before .before .before .before .before .before .before .before .before .before .before .args .m) (c .before .before .before .before .before .before .before .before .before .before .before .before .before .before .args .perm .now) (c .before .before .before .before .before .before .before .before .before .before .before .before .before .before .pre .perm-room))
+slice-aggregate-build-flat-bvh c = sym (length-take-le (c .before .before .before .before .before .before .before .before .before .before .before .before .before .before .args .m) (c .before .before .before .before .before .before .before .before .before .before .before .before .before .before .args .leaf-order .now) (c .before .before .before .before .before .before .before .before .before .before .before .before .before .before .pre .perm-room))
 
 build-flat-bvh-requires : tie.Need-build-flat-bvh-requires
 build-flat-bvh-requires c κs =
     let a = c .before .before .before .before .before .before .before .before .before .before .before .before .before .before .before .before .before .before .before .before .args in
     let R = c .before .before .before .before .before .before .before .before .before .before .before .before .before .before .before .before .before .before .before .before .pre in
-    (lent (a .columns .now) (a .handles .now) (a .n) (a .m) (a .extents .now) (a .keys .now) (a .perm .now) (a .words .now) (a .scratch .now) (a .areas .now) (a .boxes .now) (a .nodes .now) (a .tree .now) R _ (omega (arith, R .fewer)) (omega (arith, R .fewer)), room (a .columns .now) (a .handles .now) (a .n) (a .m) (a .extents .now) (a .keys .now) (a .perm .now) (a .words .now) (a .scratch .now) (a .areas .now) (a .boxes .now) (a .nodes .now) (a .tree .now) R)
+    (lent (a .triangles .now) (a .handles .now) (a .n) (a .m) (a .extents .now) (a .keys .now) (a .leaf-order .now) (a .words .now) (a .scratch .now) (a .areas .now) (a .boxes .now) (a .nodes .now) (a .tree .now) R _ (omega (arith, R .fewer)) (omega (arith, R .fewer)), room (a .triangles .now) (a .handles .now) (a .n) (a .m) (a .extents .now) (a .keys .now) (a .leaf-order .now) (a .words .now) (a .scratch .now) (a .areas .now) (a .boxes .now) (a .nodes .now) (a .tree .now) R)
 
 same-length : tie.Need-same-length
 same-length c = c .before .before .before .before .before .before .before .before .before .before .before .before .before .before .before .before .before .before .build-flat-bvh .kept .1 .1 .1 .0
@@ -25,7 +25,7 @@ same-length-2 : tie.Need-same-length-2
 same-length-2 c = c .before .before .before .before .before .before .before .before .before .before .before .before .before .before .before .before .before .before .build-flat-bvh .kept .1 .1 .1 .1 .0
 
 same-length-3 : tie.Need-same-length-3
-same-length-3 c = length-front (c .before .before .before .before .before .before .before .before .before .before .before .before .before .before .before .before .before .before .before .before .before .before .before .before .before .before .before .before .before .before .before .before .before .before .before .before .before .before .before .args .perm .now) (c .before .before .before .before .before .before .before .before .before .before .before .before .before .before .before .before .before .before .build-flat-bvh .last .1 .1 .1 .1 .1 .0) (c .before .before .before .before .before .before .before .before .before .before .before .before .before .before .before .before .before .before .before .before .before .before .before .before .before .before .before .before .before .before .before .before .before .before .before .before .before .before .before .args .m) (c .before .before .before .before .before .before .before .before .before .before .before .before .before .before .before .before .before .before .build-flat-bvh .kept .1 .1 .1 .1 .1 .0)
+same-length-3 c = length-front (c .before .before .before .before .before .before .before .before .before .before .before .before .before .before .before .before .before .before .before .before .before .before .before .before .before .before .before .before .before .before .before .before .before .before .before .before .before .before .before .args .leaf-order .now) (c .before .before .before .before .before .before .before .before .before .before .before .before .before .before .before .before .before .before .build-flat-bvh .last .1 .1 .1 .1 .1 .0) (c .before .before .before .before .before .before .before .before .before .before .before .before .before .before .before .before .before .before .before .before .before .before .before .before .before .before .before .before .before .before .before .before .before .before .before .before .before .before .before .args .m) (c .before .before .before .before .before .before .before .before .before .before .before .before .before .before .before .before .before .before .build-flat-bvh .kept .1 .1 .1 .1 .1 .0)
 
 same-length-4 : tie.Need-same-length-4
 same-length-4 c = c .before .before .before .before .before .before .before .before .before .before .before .before .before .before .before .before .before .before .build-flat-bvh .kept .1 .1 .1 .1 .1 .1 .0
@@ -50,7 +50,7 @@ returns c =
     let a = c .before .before .before .before .before .before .before .before .before .before .before .before .before .before .before .before .before .before .before .before .before .before .before .before .before .before .before .before .before .before .before .before .before .before .before .before .before .before .before .args in
     let R = c .before .before .before .before .before .before .before .before .before .before .before .before .before .before .before .before .before .before .before .before .before .before .before .before .before .before .before .before .before .before .before .before .before .before .before .before .before .before .before .pre in
     let b = c .before .before .before .before .before .before .before .before .before .before .before .before .before .before .before .before .before .before .build-flat-bvh in
-    returned (a .columns .now) (a .handles .now) (a .n) (a .m) (a .extents .now) (a .keys .now) (a .perm .now) (a .words .now) (a .scratch .now) (a .areas .now) (a .boxes .now) (a .nodes .now) (a .tree .now) R (b .last .1 .1 .1 .1 .1 .1 .1 .1 .1 .0) (b .last .1 .1 .1 .1 .1 .1 .1 .1 .1 .1 .0) (b .last .1 .1 .1 .1 .1 .0) (b .last .1 .1 .1 .1 .1 .1 .1 .1 .1 .1 .1 .0) (b .result) (b .kept .1 .1 .1 .1 .1 .0) (b .ensures)
+    returned (a .triangles .now) (a .handles .now) (a .n) (a .m) (a .extents .now) (a .keys .now) (a .leaf-order .now) (a .words .now) (a .scratch .now) (a .areas .now) (a .boxes .now) (a .nodes .now) (a .tree .now) R (b .last .1 .1 .1 .1 .1 .1 .1 .1 .1 .0) (b .last .1 .1 .1 .1 .1 .1 .1 .1 .1 .1 .0) (b .last .1 .1 .1 .1 .1 .0) (b .last .1 .1 .1 .1 .1 .1 .1 .1 .1 .1 .1 .0) (b .result) (b .kept .1 .1 .1 .1 .1 .0) (b .ensures)
 
 pub scene-bvh-spec : {M : Type 1} → statement M
 scene-bvh-spec =

@@ -20,13 +20,13 @@ scene-bvh-requires c κs = let h = c .before .before .before .before .before .be
       some = h .some;
       fewer = t .some;
       few = omega (arith, t .few, t .some);
-      extents-room = omega (arith, p .rows-room, t .some);
-      keys-room = omega (arith, p .hi-room, t .some);
-      perm-room = omega (arith, q .perm-room, t .some);
+      extents-room = omega (arith, p .plane-floats-room, t .some);
+      keys-room = omega (arith, p .keys-room, t .some);
+      perm-room = omega (arith, q .leaf-order-room, t .some);
       words-room = omega (arith, p .words-room, t .some);
       scratch-room = omega (arith, p .scratch-room, t .some);
-      areas-room = omega (arith, p .edges-room, t .some);
-      boxes-room = omega (arith, p .gfloats-room, t .some);
+      areas-room = omega (arith, p .plane-edges-room, t .some);
+      boxes-room = omega (arith, p .floats-room, t .some);
       nodes-room = omega (arith, q .nodes-room, t .some);
       tree-room = omega (arith, q .tree-room, t .some);
     }
@@ -47,10 +47,10 @@ part-build-planes-end : tie.Need-part-build-planes-end
 part-build-planes-end c = let h = c .before .before .before .before .before .before .before .before .before .before .before .before .before .before .before .before .before .before .before .before .before .before .before .before .before .before .before .before .before .before .before .before .before .before .before .before .before .before .before .before .before .before .before .before .before .before .before .before .pre in let t = h .lent in let few = t .few in let some = t .some in let room = h .for-tree .tree-room in let long = c .before .before .before .before .before .before .before .before .before .before .before .before .before .before .before .before .before .before .before .scene-bvh .kept .1 .1 .1 .1 .1 .1 .1 .1 .1 .1 .1 .1 .0 in omega arith
 
 slice-reshare-prefix-build-planes : tie.Need-slice-reshare-prefix-build-planes
-slice-reshare-prefix-build-planes c = let h = c .before .before .before .before .before .before .before .before .before .before .before .before .before .before .before .before .before .before .before .before .before .before .before .before .before .before .before .before .before .before .before .before .before .before .before .before .before .before .before .before .before .before .before .before .before .before .before .before .before .before .pre in omega (arith, c .before .before .before .before .before .before .before .before .before .before .before .before .before .before .before .before .before .before .before .before .before .scene-bvh .kept .1 .1 .1 .1 .1 .1 .0, h .for-tree .perm-room, h .lent .some)
+slice-reshare-prefix-build-planes c = let h = c .before .before .before .before .before .before .before .before .before .before .before .before .before .before .before .before .before .before .before .before .before .before .before .before .before .before .before .before .before .before .before .before .before .before .before .before .before .before .before .before .before .before .before .before .before .before .before .before .before .before .pre in omega (arith, c .before .before .before .before .before .before .before .before .before .before .before .before .before .before .before .before .before .before .before .before .before .scene-bvh .kept .1 .1 .1 .1 .1 .1 .0, h .for-tree .leaf-order-room, h .lent .some)
 
 slice-aggregate-build-planes : tie.Need-slice-aggregate-build-planes
-slice-aggregate-build-planes c = let h = c .before .before .before .before .before .before .before .before .before .before .before .before .before .before .before .before .before .before .before .before .before .before .before .before .before .before .before .before .before .before .before .before .before .before .before .before .before .before .before .before .before .before .before .before .before .before .before .before .before .before .before .pre in sym (length-take-le (c .before .before .before .before .before .before .before .before .before .before .before .before .before .before .before .before .before .before .before .before .before .before .before .before .before .before .before .before .before .before .before .before .before .before .before .before .before .before .before .before .before .before .before .before .before .before .before .before .before .before .before .args .m) (c .before .before .before .before .before .before .before .before .before .before .before .before .before .before .before .before .before .before .before .before .before .before .scene-bvh .last .1 .1 .1 .1 .1 .1 .0) (omega (arith, c .before .before .before .before .before .before .before .before .before .before .before .before .before .before .before .before .before .before .before .before .before .before .scene-bvh .kept .1 .1 .1 .1 .1 .1 .0, h .for-tree .perm-room, h .lent .some)))
+slice-aggregate-build-planes c = let h = c .before .before .before .before .before .before .before .before .before .before .before .before .before .before .before .before .before .before .before .before .before .before .before .before .before .before .before .before .before .before .before .before .before .before .before .before .before .before .before .before .before .before .before .before .before .before .before .before .before .before .before .pre in sym (length-take-le (c .before .before .before .before .before .before .before .before .before .before .before .before .before .before .before .before .before .before .before .before .before .before .before .before .before .before .before .before .before .before .before .before .before .before .before .before .before .before .before .before .before .before .before .before .before .before .before .before .before .before .before .args .m) (c .before .before .before .before .before .before .before .before .before .before .before .before .before .before .before .before .before .before .before .before .before .before .scene-bvh .last .1 .1 .1 .1 .1 .1 .0) (omega (arith, c .before .before .before .before .before .before .before .before .before .before .before .before .before .before .before .before .before .before .before .before .before .before .scene-bvh .kept .1 .1 .1 .1 .1 .1 .0, h .for-tree .leaf-order-room, h .lent .some)))
 
 mul-build-planes : tie.Need-mul-build-planes
 mul-build-planes c = let t = c .before .before .before .before .before .before .before .before .before .before .before .before .before .before .before .before .before .before .before .before .before .before .before .before .before .before .before .before .before .before .before .before .before .before .before .before .before .before .before .before .before .before .before .before .before .before .before .before .before .before .before .pre .lent in let few = t .few in let some = t .some in omega arith
@@ -66,25 +66,25 @@ part-build-planes-end-2 c = let h = c .before .before .before .before .before .b
 
 build-planes-requires : tie.Need-build-planes-requires
 build-planes-requires c κs = let h = c .before .before .before .before .before .before .before .before .before .before .before .before .before .before .before .before .before .before .before .before .before .before .before .before .before .before .before .before .before .before .before .before .before .before .before .before .before .before .before .before .before .before .before .before .before .before .before .before .before .before .before .before .before .before .before .before .before .before .before .before .before .before .before .before .before .before .pre in let t = h .lent in let p = h .for-planes in let a = c .before .before .before .before .before .before .before .before .before .before .before .before .before .before .before .before .before .before .before .before .before .before .before .before .before .before .before .before .before .before .before .before .before .before .before .before .before .before .before .before .before .before .before .before .before .before .before .before .before .before .before .before .before .before .before .before .before .before .before .before .before .before .before .before .before .before .args in let b = c .before .before .before .before .before .before .before .before .before .before .before .before .before .before .before .before .before .before .before .before .before .before .before .before .before .before .before .before .before .before .before .before .before .before .before .before .before .scene-bvh in
-    let w = scene-tree-from-zero (h .scene) (a .columns .now) (a .handles .now) (a .n) (a .m) (b .last .1 .1 .1 .1 .1 .1 .1 .1 .1 .1 .1 .0) (take (a .m) (b .last .1 .1 .1 .1 .1 .1 .0)) (b .last .1 .1 .1 .1 .1 .1 .1 .1 .1 .1 .1 .1 .0) (b .result) (b .ensures (h .scene) (h .found) (h .loaded) (h .cleared)) in (
+    let w = scene-tree-from-zero (h .scene) (a .triangles .now) (a .handles .now) (a .n) (a .m) (b .last .1 .1 .1 .1 .1 .1 .1 .1 .1 .1 .1 .0) (take (a .m) (b .last .1 .1 .1 .1 .1 .1 .0)) (b .last .1 .1 .1 .1 .1 .1 .1 .1 .1 .1 .1 .1 .0) (b .result) (b .ensures (h .scene) (h .found) (h .loaded) (h .cleared)) in (
       t,
       (
         (w .tree .held, w .tree .some),
         record {
-          hi-room = omega (arith, b .kept .1 .1 .1 .1 .1 .0, p .hi-room);
-          lo-room = p .lo-room;
+          keys-room = omega (arith, b .kept .1 .1 .1 .1 .1 .0, p .keys-room);
+          low-keys-room = p .low-keys-room;
           words-room = omega (arith, b .kept .1 .1 .1 .1 .1 .1 .1 .0, p .words-room);
           scratch-room = omega (arith, b .kept .1 .1 .1 .1 .1 .1 .1 .1 .0, p .scratch-room);
           index-room = p .index-room;
-          id-room = p .id-room;
-          linked-room = p .linked-room;
+          numbers-room = p .numbers-room;
+          adjacency-room = p .adjacency-room;
           queue-room = p .queue-room;
-          starts-room = p .starts-room;
-          members-room = p .members-room;
-          kept-room = p .kept-room;
-          rows-room = omega (arith, b .kept .1 .1 .1 .1 .0, p .rows-room);
-          gfloats-room = omega (arith, b .kept .1 .1 .1 .1 .1 .1 .1 .1 .1 .1 .0, p .gfloats-room);
-          edges-room = omega (arith, b .kept .1 .1 .1 .1 .1 .1 .1 .1 .1 .0, p .edges-room);
+          offsets-room = p .offsets-room;
+          plane-triangles-room = p .plane-triangles-room;
+          plane-words-room = p .plane-words-room;
+          plane-floats-room = omega (arith, b .kept .1 .1 .1 .1 .0, p .plane-floats-room);
+          floats-room = omega (arith, b .kept .1 .1 .1 .1 .1 .1 .1 .1 .1 .1 .0, p .floats-room);
+          plane-edges-room = omega (arith, b .kept .1 .1 .1 .1 .1 .1 .1 .1 .1 .0, p .plane-edges-room);
         },
       ),
     )
@@ -99,7 +99,7 @@ same-length-3 : tie.Need-same-length-3
 same-length-3 c = c .before .before .before .before .before .before .before .before .before .before .before .before .before .before .before .before .before .before .before .before .before .before .before .before .before .before .before .before .before .before .before .before .before .before .before .before .before .before .before .before .before .before .before .before .before .before .before .before .before .before .before .before .before .before .before .before .before .before .before .before .before .before .before .before .before .before .scene-bvh .kept .1 .1 .1 .1 .1 .1 .0
 
 same-length-4 : tie.Need-same-length-4
-same-length-4 c = let e = c .before .before .before .before .before .before .before .before .before .before .before .before .before .before .before .before .before .before .before .before .before .before .before .before .before .before .before .before .build-planes in let b = c .before .before .before .before .before .before .before .before .before .before .before .before .before .before .before .before .before .before .before .before .before .before .before .before .before .before .before .before .before .before .before .before .before .before .before .before .before .before .before .before .before .before .before .before .before .before .before .before .before .before .before .before .before .before .before .before .before .before .before .before .before .before .before .before .before .before .scene-bvh in _∙_ {b = length (b .last .1 .1 .1 .1 .1 .0)} {c = length (c .before .before .before .before .before .before .before .before .before .before .before .before .before .before .before .before .before .before .before .before .before .before .before .before .before .before .before .before .before .before .before .before .before .before .before .before .before .before .before .before .before .before .before .before .before .before .before .before .before .before .before .before .before .before .before .before .before .before .before .before .before .before .before .before .before .before .before .before .before .before .before .before .before .before .before .before .before .before .before .before .before .before .before .before .before .before .before .before .before .before .before .before .before .before .before .args .hi .now)} (e .kept .1 .1 .1 .1 .1 .1 .1 .1 .1 .1 .0) (b .kept .1 .1 .1 .1 .1 .0)
+same-length-4 c = let e = c .before .before .before .before .before .before .before .before .before .before .before .before .before .before .before .before .before .before .before .before .before .before .before .before .before .before .before .before .build-planes in let b = c .before .before .before .before .before .before .before .before .before .before .before .before .before .before .before .before .before .before .before .before .before .before .before .before .before .before .before .before .before .before .before .before .before .before .before .before .before .before .before .before .before .before .before .before .before .before .before .before .before .before .before .before .before .before .before .before .before .before .before .before .before .before .before .before .before .before .scene-bvh in _∙_ {b = length (b .last .1 .1 .1 .1 .1 .0)} {c = length (c .before .before .before .before .before .before .before .before .before .before .before .before .before .before .before .before .before .before .before .before .before .before .before .before .before .before .before .before .before .before .before .before .before .before .before .before .before .before .before .before .before .before .before .before .before .before .before .before .before .before .before .before .before .before .before .before .before .before .before .before .before .before .before .before .before .before .before .before .before .before .before .before .before .before .before .before .before .before .before .before .before .before .before .before .before .before .before .before .before .before .before .before .before .before .before .args .keys .now)} (e .kept .1 .1 .1 .1 .1 .1 .1 .1 .1 .1 .0) (b .kept .1 .1 .1 .1 .1 .0)
 
 same-length-5 : tie.Need-same-length-5
 same-length-5 c = c .before .before .before .before .before .before .before .before .before .before .before .before .before .before .before .before .before .before .before .before .before .before .before .before .before .before .before .before .build-planes .kept .1 .1 .1 .1 .1 .1 .1 .1 .1 .1 .1 .0
@@ -126,19 +126,19 @@ same-length-12 : tie.Need-same-length-12
 same-length-12 c = c .before .before .before .before .before .before .before .before .before .before .before .before .before .before .before .before .before .before .before .before .before .before .before .before .before .before .before .before .build-planes .kept .1 .1 .1 .1 .1 .1 .1 .1 .1 .1 .1 .1 .1 .1 .1 .1 .1 .1 .0
 
 same-length-13 : tie.Need-same-length-13
-same-length-13 c = let e = c .before .before .before .before .before .before .before .before .before .before .before .before .before .before .before .before .before .before .before .before .before .before .before .before .before .before .before .before .build-planes in let b = c .before .before .before .before .before .before .before .before .before .before .before .before .before .before .before .before .before .before .before .before .before .before .before .before .before .before .before .before .before .before .before .before .before .before .before .before .before .before .before .before .before .before .before .before .before .before .before .before .before .before .before .before .before .before .before .before .before .before .before .before .before .before .before .before .before .before .scene-bvh in _∙_ {b = length (b .last .1 .1 .1 .1 .1 .1 .1 .1 .1 .1 .0)} {c = length (c .before .before .before .before .before .before .before .before .before .before .before .before .before .before .before .before .before .before .before .before .before .before .before .before .before .before .before .before .before .before .before .before .before .before .before .before .before .before .before .before .before .before .before .before .before .before .before .before .before .before .before .before .before .before .before .before .before .before .before .before .before .before .before .before .before .before .before .before .before .before .before .before .before .before .before .before .before .before .before .before .before .before .before .before .before .before .before .before .before .before .before .before .before .before .before .args .gfloats .now)} (e .kept .1 .1 .1 .1 .1 .1 .1 .1 .1 .1 .1 .1 .1 .1 .1 .1 .1 .1 .1 .0) (b .kept .1 .1 .1 .1 .1 .1 .1 .1 .1 .1 .0)
+same-length-13 c = let e = c .before .before .before .before .before .before .before .before .before .before .before .before .before .before .before .before .before .before .before .before .before .before .before .before .before .before .before .before .build-planes in let b = c .before .before .before .before .before .before .before .before .before .before .before .before .before .before .before .before .before .before .before .before .before .before .before .before .before .before .before .before .before .before .before .before .before .before .before .before .before .before .before .before .before .before .before .before .before .before .before .before .before .before .before .before .before .before .before .before .before .before .before .before .before .before .before .before .before .before .scene-bvh in _∙_ {b = length (b .last .1 .1 .1 .1 .1 .1 .1 .1 .1 .1 .0)} {c = length (c .before .before .before .before .before .before .before .before .before .before .before .before .before .before .before .before .before .before .before .before .before .before .before .before .before .before .before .before .before .before .before .before .before .before .before .before .before .before .before .before .before .before .before .before .before .before .before .before .before .before .before .before .before .before .before .before .before .before .before .before .before .before .before .before .before .before .before .before .before .before .before .before .before .before .before .before .before .before .before .before .before .before .before .before .before .before .before .before .before .before .before .before .before .before .before .args .floats .now)} (e .kept .1 .1 .1 .1 .1 .1 .1 .1 .1 .1 .1 .1 .1 .1 .1 .1 .1 .1 .1 .0) (b .kept .1 .1 .1 .1 .1 .1 .1 .1 .1 .1 .0)
 
 same-length-14 : tie.Need-same-length-14
 same-length-14 c = c .before .before .before .before .before .before .before .before .before .before .before .before .before .before .before .before .before .before .before .before .before .before .before .before .before .before .before .before .build-planes .kept .1 .1 .1 .1 .1 .1 .1 .1 .1 .1 .1 .1 .1 .1 .1 .1 .1 .1 .1 .1 .0
 
 same-length-15 : tie.Need-same-length-15
-same-length-15 c = let e = c .before .before .before .before .before .before .before .before .before .before .before .before .before .before .before .before .before .before .before .before .before .before .before .before .before .before .before .before .build-planes in let b = c .before .before .before .before .before .before .before .before .before .before .before .before .before .before .before .before .before .before .before .before .before .before .before .before .before .before .before .before .before .before .before .before .before .before .before .before .before .before .before .before .before .before .before .before .before .before .before .before .before .before .before .before .before .before .before .before .before .before .before .before .before .before .before .before .before .before .scene-bvh in _∙_ {b = length (b .last .1 .1 .1 .1 .0)} {c = length (c .before .before .before .before .before .before .before .before .before .before .before .before .before .before .before .before .before .before .before .before .before .before .before .before .before .before .before .before .before .before .before .before .before .before .before .before .before .before .before .before .before .before .before .before .before .before .before .before .before .before .before .before .before .before .before .before .before .before .before .before .before .before .before .before .before .before .before .before .before .before .before .before .before .before .before .before .before .before .before .before .before .before .before .before .before .before .before .before .before .before .before .before .before .before .before .args .rows .now)} (e .kept .1 .1 .1 .1 .1 .1 .1 .1 .1 .1 .1 .1 .1 .1 .1 .1 .1 .1 .1 .1 .1 .0) (b .kept .1 .1 .1 .1 .0)
+same-length-15 c = let e = c .before .before .before .before .before .before .before .before .before .before .before .before .before .before .before .before .before .before .before .before .before .before .before .before .before .before .before .before .build-planes in let b = c .before .before .before .before .before .before .before .before .before .before .before .before .before .before .before .before .before .before .before .before .before .before .before .before .before .before .before .before .before .before .before .before .before .before .before .before .before .before .before .before .before .before .before .before .before .before .before .before .before .before .before .before .before .before .before .before .before .before .before .before .before .before .before .before .before .before .scene-bvh in _∙_ {b = length (b .last .1 .1 .1 .1 .0)} {c = length (c .before .before .before .before .before .before .before .before .before .before .before .before .before .before .before .before .before .before .before .before .before .before .before .before .before .before .before .before .before .before .before .before .before .before .before .before .before .before .before .before .before .before .before .before .before .before .before .before .before .before .before .before .before .before .before .before .before .before .before .before .before .before .before .before .before .before .before .before .before .before .before .before .before .before .before .before .before .before .before .before .before .before .before .before .before .before .before .before .before .before .before .before .before .before .before .args .plane-floats .now)} (e .kept .1 .1 .1 .1 .1 .1 .1 .1 .1 .1 .1 .1 .1 .1 .1 .1 .1 .1 .1 .1 .1 .0) (b .kept .1 .1 .1 .1 .0)
 
 same-length-16 : tie.Need-same-length-16
 same-length-16 c = c .before .before .before .before .before .before .before .before .before .before .before .before .before .before .before .before .before .before .before .before .before .before .before .before .before .before .before .before .build-planes .kept .1 .1 .1 .1 .1 .1 .1 .1 .1 .1 .1 .1 .1 .1 .1 .1 .1 .1 .1 .1 .1 .1 .0
 
 same-length-17 : tie.Need-same-length-17
-same-length-17 c = let e = c .before .before .before .before .before .before .before .before .before .before .before .before .before .before .before .before .before .before .before .before .before .before .before .before .before .before .before .before .build-planes in let b = c .before .before .before .before .before .before .before .before .before .before .before .before .before .before .before .before .before .before .before .before .before .before .before .before .before .before .before .before .before .before .before .before .before .before .before .before .before .before .before .before .before .before .before .before .before .before .before .before .before .before .before .before .before .before .before .before .before .before .before .before .before .before .before .before .before .before .scene-bvh in _∙_ {b = length (b .last .1 .1 .1 .1 .1 .1 .1 .1 .1 .0)} {c = length (c .before .before .before .before .before .before .before .before .before .before .before .before .before .before .before .before .before .before .before .before .before .before .before .before .before .before .before .before .before .before .before .before .before .before .before .before .before .before .before .before .before .before .before .before .before .before .before .before .before .before .before .before .before .before .before .before .before .before .before .before .before .before .before .before .before .before .before .before .before .before .before .before .before .before .before .before .before .before .before .before .before .before .before .before .before .before .before .before .before .before .before .before .before .before .before .args .edges .now)} (e .kept .1 .1 .1 .1 .1 .1 .1 .1 .1 .1 .1 .1 .1 .1 .1 .1 .1 .1 .1 .1 .1 .1 .1 .0) (b .kept .1 .1 .1 .1 .1 .1 .1 .1 .1 .0)
+same-length-17 c = let e = c .before .before .before .before .before .before .before .before .before .before .before .before .before .before .before .before .before .before .before .before .before .before .before .before .before .before .before .before .build-planes in let b = c .before .before .before .before .before .before .before .before .before .before .before .before .before .before .before .before .before .before .before .before .before .before .before .before .before .before .before .before .before .before .before .before .before .before .before .before .before .before .before .before .before .before .before .before .before .before .before .before .before .before .before .before .before .before .before .before .before .before .before .before .before .before .before .before .before .before .scene-bvh in _∙_ {b = length (b .last .1 .1 .1 .1 .1 .1 .1 .1 .1 .0)} {c = length (c .before .before .before .before .before .before .before .before .before .before .before .before .before .before .before .before .before .before .before .before .before .before .before .before .before .before .before .before .before .before .before .before .before .before .before .before .before .before .before .before .before .before .before .before .before .before .before .before .before .before .before .before .before .before .before .before .before .before .before .before .before .before .before .before .before .before .before .before .before .before .before .before .before .before .before .before .before .before .before .before .before .before .before .before .before .before .before .before .before .before .before .before .before .before .before .args .plane-edges .now)} (e .kept .1 .1 .1 .1 .1 .1 .1 .1 .1 .1 .1 .1 .1 .1 .1 .1 .1 .1 .1 .1 .1 .1 .1 .0) (b .kept .1 .1 .1 .1 .1 .1 .1 .1 .1 .0)
 
 returns : tie.Need-returns
 returns c = let a = c .before .before .before .before .before .before .before .before .before .before .before .before .before .before .before .before .before .before .before .before .before .before .before .before .before .before .before .before .before .before .before .before .before .before .before .before .before .before .before .before .before .before .before .before .before .before .before .before .before .before .before .before .before .before .before .before .before .before .before .before .before .before .before .before .before .before .before .before .before .before .before .before .before .before .before .before .before .before .before .before .before .before .before .before .before .before .before .before .before .before .before .before .before .before .before .args in let b = c .before .before .before .before .before .before .before .before .before .before .before .before .before .before .before .before .before .before .before .before .before .before .before .before .before .before .before .before .before .before .before .before .before .before .before .before .before .before .before .before .before .before .before .before .before .before .before .before .before .before .before .before .before .before .before .before .before .before .before .before .before .before .before .before .before .before .scene-bvh in let e = c .before .before .before .before .before .before .before .before .before .before .before .before .before .before .before .before .before .before .before .before .before .before .before .before .before .before .before .before .build-planes in
@@ -146,8 +146,8 @@ returns c = let a = c .before .before .before .before .before .before .before .b
       tree-stands = b .ensures;
       planes-stand = record {
         are = λ s found l cleared.
-            let w = scene-tree-from-zero s (a .columns .now) (a .handles .now) (a .n) (a .m) (b .last .1 .1 .1 .1 .1 .1 .1 .1 .1 .1 .1 .0) (take (a .m) (b .last .1 .1 .1 .1 .1 .1 .0)) (b .last .1 .1 .1 .1 .1 .1 .1 .1 .1 .1 .1 .1 .0) (b .result) (b .ensures s found l cleared) in
-            planes-are (triangles s) (a .columns .now) (a .handles .now) (a .n) (a .m) (s .materials) (w .triangles-read) (a .settings) (take (12 * a .m - 0) (drop 0 (b .last .1 .1 .1 .1 .1 .1 .1 .1 .1 .1 .1 .1 .0))) (b .last .1 .1 .1 .1 .1 .1 .1 .1 .1 .1 .1 .0) (take (a .m) (b .last .1 .1 .1 .1 .1 .1 .0)) (rowsIn (a .m) (b .last .1 .1 .1 .1 .1 .1 .1 .1 .1 .1 .1 .1 .0)) (b .result) (e .last .1 .1 .1 .1 .1 .1 .1 .1 .1 .1 .1 .1 .1 .1 .1 .1 .1 .1 .1 .1 .1 .0) (e .last .1 .1 .1 .1 .1 .1 .1 .1 .1 .1 .1 .1 .1 .1 .1 .1 .1 .1 .1 .1 .1 .1 .0) (e .last .1 .1 .1 .1 .1 .1 .1 .1 .1 .1 .1 .1 .1 .1 .1 .1 .1 .1 .1 .1 .0) (e .last .1 .1 .1 .1 .1 .1 .1 .1 .1 .1 .1 .1 .1 .1 .1 .1 .1 .1 .1 .1 .1 .1 .1 .0) (e .result) (w .tree) (e .ensures .0);
+            let w = scene-tree-from-zero s (a .triangles .now) (a .handles .now) (a .n) (a .m) (b .last .1 .1 .1 .1 .1 .1 .1 .1 .1 .1 .1 .0) (take (a .m) (b .last .1 .1 .1 .1 .1 .1 .0)) (b .last .1 .1 .1 .1 .1 .1 .1 .1 .1 .1 .1 .1 .0) (b .result) (b .ensures s found l cleared) in
+            planes-are (triangles s) (a .triangles .now) (a .handles .now) (a .n) (a .m) (s .materials) (w .triangles-read) (a .settings) (take (12 * a .m - 0) (drop 0 (b .last .1 .1 .1 .1 .1 .1 .1 .1 .1 .1 .1 .1 .0))) (b .last .1 .1 .1 .1 .1 .1 .1 .1 .1 .1 .1 .0) (take (a .m) (b .last .1 .1 .1 .1 .1 .1 .0)) (rowsIn (a .m) (b .last .1 .1 .1 .1 .1 .1 .1 .1 .1 .1 .1 .1 .0)) (b .result) (e .last .1 .1 .1 .1 .1 .1 .1 .1 .1 .1 .1 .1 .1 .1 .1 .1 .1 .1 .1 .1 .1 .0) (e .last .1 .1 .1 .1 .1 .1 .1 .1 .1 .1 .1 .1 .1 .1 .1 .1 .1 .1 .1 .1 .1 .1 .0) (e .last .1 .1 .1 .1 .1 .1 .1 .1 .1 .1 .1 .1 .1 .1 .1 .1 .1 .1 .1 .1 .0) (e .last .1 .1 .1 .1 .1 .1 .1 .1 .1 .1 .1 .1 .1 .1 .1 .1 .1 .1 .1 .1 .1 .1 .1 .0) (e .result) (w .tree) (e .ensures .0);
         most = e .ensures .1 .0;
         held = e .ensures .1 .1;
       };

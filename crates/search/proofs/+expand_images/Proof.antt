@@ -47,20 +47,20 @@ abbrev μ-loop : lts.MeasureT-loop
 joined :
     (t : ℕ) (c : lts.Joined4 (may.Asked, may.Learnt, push.Asked, push.Learnt, too-far.Asked, too-far.Learnt, passed.Asked, passed.Learnt, visit.Asked, visit.Learnt, last.Asked, last.Learnt, expand-below t, expand.Post) (expand-at t) expand.Post Inv-loop μ-loop) →
     let a = c .before .before .before .before .before .before .before .before .before .before .before .before .before .before .before .before .before .before .before .before .before .before .before .before .before .before .before .before .before .before .before .before .before .before .args in
-    Visited (scene (a .padded .now) (a .nodes .now) (a .perm .now) (a .rows .now) (a .handles .now) (a .materials .now) (a .columns .now) (a .floats .now) (a .words .now) (a .members .now) (a .edges .now)) (a .q) (a .depth + 1) (c .before .before .before .before .before .before .before .push .last .1 .1 .1 .1 .1 .0) (c .before .before .before .before .before .before .before .before .before .before .before .before .before .before .before .before .before .before .loop .s) (c .before .before .before .before .before .before .before .before .before .before .before .before .before .before .before .before .before .before .loop .fs) (c .before .before .before .before .before .before .before .before .before .before .before .before .before .before .before .before .before .before .loop .ws) (c .if4 .s) (c .if4 .fs) (c .if4 .ws)
-    × (length (c .if4 .fs) ≡ length (c .before .before .before .before .before .before .before .before .before .before .before .before .before .before .before .before .before .before .loop .fs))
-    × (length (c .if4 .ws) ≡ length (c .before .before .before .before .before .before .before .before .before .before .before .before .before .before .before .before .before .before .loop .ws))
+    Visited (scene (a .padded .now) (a .nodes .now) (a .leaf-order .now) (a .leaves .now) (a .handles .now) (a .materials .now) (a .triangles .now) (a .plane-floats .now) (a .plane-words .now) (a .plane-triangles .now) (a .plane-edges .now)) (a .q) (a .depth + 1) (c .before .before .before .before .before .before .before .push .last .1 .1 .1 .1 .1 .0) (c .before .before .before .before .before .before .before .before .before .before .before .before .before .before .before .before .before .before .loop .s) (c .before .before .before .before .before .before .before .before .before .before .before .before .before .before .before .before .before .before .loop .candidate-floats) (c .before .before .before .before .before .before .before .before .before .before .before .before .before .before .before .before .before .before .loop .candidate-words) (c .if4 .s) (c .if4 .candidate-floats) (c .if4 .candidate-words)
+    × (length (c .if4 .candidate-floats) ≡ length (c .before .before .before .before .before .before .before .before .before .before .before .before .before .before .before .before .before .before .loop .candidate-floats))
+    × (length (c .if4 .candidate-words) ≡ length (c .before .before .before .before .before .before .before .before .before .before .before .before .before .before .before .before .before .before .loop .candidate-words))
 joined t c =
     let a = c .before .before .before .before .before .before .before .before .before .before .before .before .before .before .before .before .before .before .before .before .before .before .before .before .before .before .before .before .before .before .before .before .before .before .args in
     let pre = c .before .before .before .before .before .before .before .before .before .before .before .before .before .before .before .before .before .before .before .before .before .before .before .before .before .before .before .before .before .before .before .before .before .before .pre .1 in
     let l = c .before .before .before .before .before .before .before .before .before .before .before .before .before .before .before .before .before .before .loop in
-    let S : Scene = (scene (a .padded .now) (a .nodes .now) (a .perm .now) (a .rows .now) (a .handles .now) (a .materials .now) (a .columns .now) (a .floats .now) (a .words .now) (a .members .now) (a .edges .now)) in
-    let r : Ready S (a .q) (a .depth) (state (l .seq) (l .images) (l .s)) (l .fs) (l .ws) =
-    law.ready-same S (a .q) (a .depth) (a .depth) (state (a .seq .now) (a .images .now) (a .t)) (state (l .seq) (l .images) (l .s)) (a .fs .now) (l .fs) (a .ws .now) (l .ws) pre (pre .deep) (l .inv .3) (l .inv .4) (l .inv .5 .sound) in
-    let v : Visitable S (a .q) (a .depth + 1) (state (c .before .before .before .before .before .before .before .push .last .1 .1 .1 .1 .1 .0) (c .before .before .before .before .before .before .before .push .last .1 .1 .1 .1 .1 .1 .0) (l .s)) (l .fs) (l .ws) = law.visitable-push S (a .q) (a .depth) (l .p) (l .seq) (c .before .before .before .before .before .before .before .push .last .1 .1 .1 .1 .1 .0) (l .images) (c .before .before .before .before .before .before .before .push .last .1 .1 .1 .1 .1 .1 .0) (l .s) (c .before .before .before .before .before .before .before .push .ensures .0) (c .before .before .before .before .before .before .before .push .ensures .1 (a .members .now) (a .edges .now)) (l .fs) (l .ws) r (c .before .before .before .before .before .before .before .before .before .before .before .before .before .before .before .before .if1 .taken) (c .before .before .before .before .before .before .before .before .before .before .before .before .before .if2 .left) in
+    let S : Scene = (scene (a .padded .now) (a .nodes .now) (a .leaf-order .now) (a .leaves .now) (a .handles .now) (a .materials .now) (a .triangles .now) (a .plane-floats .now) (a .plane-words .now) (a .plane-triangles .now) (a .plane-edges .now)) in
+    let r : Ready S (a .q) (a .depth) (state (l .seq) (l .images) (l .s)) (l .candidate-floats) (l .candidate-words) =
+    law.ready-same S (a .q) (a .depth) (a .depth) (state (a .seq .now) (a .images .now) (a .t)) (state (l .seq) (l .images) (l .s)) (a .candidate-floats .now) (l .candidate-floats) (a .candidate-words .now) (l .candidate-words) pre (pre .deep) (l .inv .3) (l .inv .4) (l .inv .5 .sound) in
+    let v : Visitable S (a .q) (a .depth + 1) (state (c .before .before .before .before .before .before .before .push .last .1 .1 .1 .1 .1 .0) (c .before .before .before .before .before .before .before .push .last .1 .1 .1 .1 .1 .1 .0) (l .s)) (l .candidate-floats) (l .candidate-words) = law.visitable-push S (a .q) (a .depth) (l .p) (l .seq) (c .before .before .before .before .before .before .before .push .last .1 .1 .1 .1 .1 .0) (l .images) (c .before .before .before .before .before .before .before .push .last .1 .1 .1 .1 .1 .1 .0) (l .s) (c .before .before .before .before .before .before .before .push .ensures .0) (c .before .before .before .before .before .before .before .push .ensures .1 (a .plane-triangles .now) (a .plane-edges .now)) (l .candidate-floats) (l .candidate-words) r (c .before .before .before .before .before .before .before .before .before .before .before .before .before .before .before .before .if1 .taken) (c .before .before .before .before .before .before .before .before .before .before .before .before .before .if2 .left) in
     ⊎-elim
     (λ w. rw (w .2, w .3, w .4, w .1 .ensures)
-    (law.visited-far S (a .q) (a .depth + 1) (c .before .before .before .before .before .before .before .push .last .1 .1 .1 .1 .1 .0) (c .before .before .before .before .before .before .before .push .last .1 .1 .1 .1 .1 .1 .0) (l .s) (l .fs) (l .ws) (v .within) (v .sound) (v .far) (sym (c .before .too-far .ensures) ∙ w .0 .taken), refl, refl))
+    (law.visited-far S (a .q) (a .depth + 1) (c .before .before .before .before .before .before .before .push .last .1 .1 .1 .1 .1 .0) (c .before .before .before .before .before .before .before .push .last .1 .1 .1 .1 .1 .1 .0) (l .s) (l .candidate-floats) (l .candidate-words) (v .within) (v .sound) (v .far) (sym (c .before .too-far .ensures) ∙ w .0 .taken), refl, refl))
     (λ w. rw (w .10, w .11, w .12) (w .5 .ensures, w .5 .kept .1 .1 .1 .1 .1 .1 .1 .1 .1 .1 .1 .1 .1 .1 .1 .1 .0, w .5 .kept .1 .1 .1 .1 .1 .1 .1 .1 .1 .1 .1 .1 .1 .1 .1 .1 .1 .0))
     (c .if4 .came)
 
@@ -68,7 +68,7 @@ loop-holds : (t : ℕ) → lts.Need-loop-holds (may.Asked, may.Learnt, push.Aske
 unfolding upto
 loop-holds t c =
     let a = c .before .before .before .before .before .before .before .before .before .before .before .before .before .before .before .args in
-    (omega arith, refl, refl, refl, refl, law.walked-none (scene (a .padded .now) (a .nodes .now) (a .perm .now) (a .rows .now) (a .handles .now) (a .materials .now) (a .columns .now) (a .floats .now) (a .words .now) (a .members .now) (a .edges .now)) (a .q) (a .depth) (state (a .seq .now) (a .images .now) (a .t)) (a .fs .now) (a .ws .now) (c .before .before .before .before .before .before .before .before .before .before .before .before .before .before .before .pre .1 .sound))
+    (omega arith, refl, refl, refl, refl, law.walked-none (scene (a .padded .now) (a .nodes .now) (a .leaf-order .now) (a .leaves .now) (a .handles .now) (a .materials .now) (a .triangles .now) (a .plane-floats .now) (a .plane-words .now) (a .plane-triangles .now) (a .plane-edges .now)) (a .q) (a .depth) (state (a .seq .now) (a .images .now) (a .t)) (a .candidate-floats .now) (a .candidate-words .now) (c .before .before .before .before .before .before .before .before .before .before .before .before .before .before .before .pre .1 .sound))
 
 add-p : (t : ℕ) → lts.Need-add-p (may.Asked, may.Learnt, push.Asked, push.Learnt, too-far.Asked, too-far.Learnt, passed.Asked, passed.Learnt, visit.Asked, visit.Learnt, last.Asked, last.Learnt, expand-below t, expand.Post) (expand-at t) expand.Post Inv-loop μ-loop
 add-p t c =
@@ -83,14 +83,14 @@ loop-again t c =
     let a = c .before .before .before .before .before .before .before .before .before .before .before .before .before .before .before .before .before .before .before .before .before .args in
     let pre = c .before .before .before .before .before .before .before .before .before .before .before .before .before .before .before .before .before .before .before .before .before .pre .1 in
     let l = c .before .before .before .before .before .loop in
-    let S : Scene = (scene (a .padded .now) (a .nodes .now) (a .perm .now) (a .rows .now) (a .handles .now) (a .materials .now) (a .columns .now) (a .floats .now) (a .words .now) (a .members .now) (a .edges .now)) in (
+    let S : Scene = (scene (a .padded .now) (a .nodes .now) (a .leaf-order .now) (a .leaves .now) (a .handles .now) (a .materials .now) (a .triangles .now) (a .plane-floats .now) (a .plane-words .now) (a .plane-triangles .now) (a .plane-edges .now)) in (
       omega (arith, c .before .before .before .if1 .taken),
       l .inv .1,
       l .inv .2,
       l .inv .3,
       l .inv .4,
       law.walked-more S (a .q) (a .depth) (a .q .order - (a .depth + 1)) (l .p) (l .inv .5)
-          (law.walked-full S (a .q) (a .depth) _ (state (l .seq) (l .images) (l .s)) (l .fs) (l .ws) (c .if2 .taken) (l .inv .5 .sound)),
+          (law.walked-full S (a .q) (a .depth) _ (state (l .seq) (l .images) (l .s)) (l .candidate-floats) (l .candidate-words) (c .if2 .taken) (l .inv .5 .sound)),
     )
 
 may-requires : (t : ℕ) → lts.Need-may-requires (may.Asked, may.Learnt, push.Asked, push.Learnt, too-far.Asked, too-far.Learnt, passed.Asked, passed.Learnt, visit.Asked, visit.Learnt, last.Asked, last.Learnt, expand-below t, expand.Post) (expand-at t) expand.Post Inv-loop μ-loop
@@ -98,7 +98,7 @@ may-requires t c κs =
     let a = c .before .before .before .before .before .before .before .before .before .before .before .before .before .before .before .before .before .before .before .before .before .before .args in
     let pre = c .before .before .before .before .before .before .before .before .before .before .before .before .before .before .before .before .before .before .before .before .before .before .pre .1 in
     let l = c .before .before .before .before .before .before .loop in
-    let S : Scene = (scene (a .padded .now) (a .nodes .now) (a .perm .now) (a .rows .now) (a .handles .now) (a .materials .now) (a .columns .now) (a .floats .now) (a .words .now) (a .members .now) (a .edges .now)) in
+    let S : Scene = (scene (a .padded .now) (a .nodes .now) (a .leaf-order .now) (a .leaves .now) (a .handles .now) (a .materials .now) (a .triangles .now) (a .plane-floats .now) (a .plane-words .now) (a .plane-triangles .now) (a .plane-edges .now)) in
     let h = pre .lent .planes .held in
     ((omega (arith, pre .deep, pre .within, l .inv .5 .sound .seq-room), c .before .before .before .before .if1 .taken), (h .floats-room, h .words-room))
 
@@ -107,7 +107,7 @@ push-requires t c κs =
     let a = c .before .before .before .before .before .before .before .before .before .before .before .before .before .before .before .before .before .before .before .before .before .before .before .before .before .before .args in
     let pre = c .before .before .before .before .before .before .before .before .before .before .before .before .before .before .before .before .before .before .before .before .before .before .before .before .before .before .pre .1 in
     let l = c .before .before .before .before .before .before .before .before .before .before .loop in
-    let S : Scene = (scene (a .padded .now) (a .nodes .now) (a .perm .now) (a .rows .now) (a .handles .now) (a .materials .now) (a .columns .now) (a .floats .now) (a .words .now) (a .members .now) (a .edges .now)) in
+    let S : Scene = (scene (a .padded .now) (a .nodes .now) (a .leaf-order .now) (a .leaves .now) (a .handles .now) (a .materials .now) (a .triangles .now) (a .plane-floats .now) (a .plane-words .now) (a .plane-triangles .now) (a .plane-edges .now)) in
     let h = pre .lent .planes .held in
     ((omega (arith, pre .deep, pre .within, l .inv .5 .sound .seq-room), omega (arith, pre .deep, pre .within, l .inv .5 .sound .images-room), c .before .before .before .before .before .before .before .before .if1 .taken, pre .small), (h .floats-room, h .words-room))
 
@@ -133,10 +133,10 @@ visit-requires t c κs =
     let a = c .before .before .before .before .before .before .before .before .before .before .before .before .before .before .before .before .before .before .before .before .before .before .before .before .before .before .before .before .before .before .before .before .before .before .before .before .before .before .args in
     let pre = c .before .before .before .before .before .before .before .before .before .before .before .before .before .before .before .before .before .before .before .before .before .before .before .before .before .before .before .before .before .before .before .before .before .before .before .before .before .before .pre .1 in
     let l = c .before .before .before .before .before .before .before .before .before .before .before .before .before .before .before .before .before .before .before .before .before .before .loop in
-    let S : Scene = (scene (a .padded .now) (a .nodes .now) (a .perm .now) (a .rows .now) (a .handles .now) (a .materials .now) (a .columns .now) (a .floats .now) (a .words .now) (a .members .now) (a .edges .now)) in
-    let r : Ready S (a .q) (a .depth) (state (l .seq) (l .images) (l .s)) (l .fs) (l .ws) =
-    law.ready-same S (a .q) (a .depth) (a .depth) (state (a .seq .now) (a .images .now) (a .t)) (state (l .seq) (l .images) (l .s)) (a .fs .now) (l .fs) (a .ws .now) (l .ws) pre (pre .deep) (l .inv .3) (l .inv .4) (l .inv .5 .sound) in
-    law.visitable-push S (a .q) (a .depth) (l .p) (l .seq) (c .before .before .before .before .before .before .before .before .before .before .before .push .last .1 .1 .1 .1 .1 .0) (l .images) (c .before .before .before .before .before .before .before .before .before .before .before .push .last .1 .1 .1 .1 .1 .1 .0) (l .s) (c .before .before .before .before .before .before .before .before .before .before .before .push .ensures .0) (c .before .before .before .before .before .before .before .before .before .before .before .push .ensures .1 (a .members .now) (a .edges .now)) (l .fs) (l .ws) r (c .before .before .before .before .before .before .before .before .before .before .before .before .before .before .before .before .before .before .before .before .if1 .taken) (c .before .before .before .before .before .before .before .before .before .before .before .before .before .before .before .before .before .if2 .left)
+    let S : Scene = (scene (a .padded .now) (a .nodes .now) (a .leaf-order .now) (a .leaves .now) (a .handles .now) (a .materials .now) (a .triangles .now) (a .plane-floats .now) (a .plane-words .now) (a .plane-triangles .now) (a .plane-edges .now)) in
+    let r : Ready S (a .q) (a .depth) (state (l .seq) (l .images) (l .s)) (l .candidate-floats) (l .candidate-words) =
+    law.ready-same S (a .q) (a .depth) (a .depth) (state (a .seq .now) (a .images .now) (a .t)) (state (l .seq) (l .images) (l .s)) (a .candidate-floats .now) (l .candidate-floats) (a .candidate-words .now) (l .candidate-words) pre (pre .deep) (l .inv .3) (l .inv .4) (l .inv .5 .sound) in
+    law.visitable-push S (a .q) (a .depth) (l .p) (l .seq) (c .before .before .before .before .before .before .before .before .before .before .before .push .last .1 .1 .1 .1 .1 .0) (l .images) (c .before .before .before .before .before .before .before .before .before .before .before .push .last .1 .1 .1 .1 .1 .1 .0) (l .s) (c .before .before .before .before .before .before .before .before .before .before .before .push .ensures .0) (c .before .before .before .before .before .before .before .before .before .before .before .push .ensures .1 (a .plane-triangles .now) (a .plane-edges .now)) (l .candidate-floats) (l .candidate-words) r (c .before .before .before .before .before .before .before .before .before .before .before .before .before .before .before .before .before .before .before .before .if1 .taken) (c .before .before .before .before .before .before .before .before .before .before .before .before .before .before .before .before .before .if2 .left)
 
 add-if5 : (t : ℕ) → lts.Need-add-if5 (may.Asked, may.Learnt, push.Asked, push.Learnt, too-far.Asked, too-far.Learnt, passed.Asked, passed.Learnt, visit.Asked, visit.Learnt, last.Asked, last.Learnt, expand-below t, expand.Post) (expand-at t) expand.Post Inv-loop μ-loop
 add-if5 t c =
@@ -151,20 +151,20 @@ loop-again-2 t c =
     let a = c .before .before .before .before .before .before .before .before .before .before .before .before .before .before .before .before .before .before .before .before .before .before .before .before .before .before .before .before .before .before .before .before .before .before .before .before .args in
     let pre = c .before .before .before .before .before .before .before .before .before .before .before .before .before .before .before .before .before .before .before .before .before .before .before .before .before .before .before .before .before .before .before .before .before .before .before .before .pre .1 in
     let l = c .before .before .before .before .before .before .before .before .before .before .before .before .before .before .before .before .before .before .before .before .loop in
-    let S : Scene = (scene (a .padded .now) (a .nodes .now) (a .perm .now) (a .rows .now) (a .handles .now) (a .materials .now) (a .columns .now) (a .floats .now) (a .words .now) (a .members .now) (a .edges .now)) in
-    let r : Ready S (a .q) (a .depth) (state (l .seq) (l .images) (l .s)) (l .fs) (l .ws) =
-    law.ready-same S (a .q) (a .depth) (a .depth) (state (a .seq .now) (a .images .now) (a .t)) (state (l .seq) (l .images) (l .s)) (a .fs .now) (l .fs) (a .ws .now) (l .ws) pre (pre .deep) (l .inv .3) (l .inv .4) (l .inv .5 .sound) in
-    let v : Visitable S (a .q) (a .depth + 1) (state (c .before .before .before .before .before .before .before .before .before .push .last .1 .1 .1 .1 .1 .0) (c .before .before .before .before .before .before .before .before .before .push .last .1 .1 .1 .1 .1 .1 .0) (l .s)) (l .fs) (l .ws) = law.visitable-push S (a .q) (a .depth) (l .p) (l .seq) (c .before .before .before .before .before .before .before .before .before .push .last .1 .1 .1 .1 .1 .0) (l .images) (c .before .before .before .before .before .before .before .before .before .push .last .1 .1 .1 .1 .1 .1 .0) (l .s) (c .before .before .before .before .before .before .before .before .before .push .ensures .0) (c .before .before .before .before .before .before .before .before .before .push .ensures .1 (a .members .now) (a .edges .now)) (l .fs) (l .ws) r (c .before .before .before .before .before .before .before .before .before .before .before .before .before .before .before .before .before .before .if1 .taken) (c .before .before .before .before .before .before .before .before .before .before .before .before .before .before .before .if2 .left) in
+    let S : Scene = (scene (a .padded .now) (a .nodes .now) (a .leaf-order .now) (a .leaves .now) (a .handles .now) (a .materials .now) (a .triangles .now) (a .plane-floats .now) (a .plane-words .now) (a .plane-triangles .now) (a .plane-edges .now)) in
+    let r : Ready S (a .q) (a .depth) (state (l .seq) (l .images) (l .s)) (l .candidate-floats) (l .candidate-words) =
+    law.ready-same S (a .q) (a .depth) (a .depth) (state (a .seq .now) (a .images .now) (a .t)) (state (l .seq) (l .images) (l .s)) (a .candidate-floats .now) (l .candidate-floats) (a .candidate-words .now) (l .candidate-words) pre (pre .deep) (l .inv .3) (l .inv .4) (l .inv .5 .sound) in
+    let v : Visitable S (a .q) (a .depth + 1) (state (c .before .before .before .before .before .before .before .before .before .push .last .1 .1 .1 .1 .1 .0) (c .before .before .before .before .before .before .before .before .before .push .last .1 .1 .1 .1 .1 .1 .0) (l .s)) (l .candidate-floats) (l .candidate-words) = law.visitable-push S (a .q) (a .depth) (l .p) (l .seq) (c .before .before .before .before .before .before .before .before .before .push .last .1 .1 .1 .1 .1 .0) (l .images) (c .before .before .before .before .before .before .before .before .before .push .last .1 .1 .1 .1 .1 .1 .0) (l .s) (c .before .before .before .before .before .before .before .before .before .push .ensures .0) (c .before .before .before .before .before .before .before .before .before .push .ensures .1 (a .plane-triangles .now) (a .plane-edges .now)) (l .candidate-floats) (l .candidate-words) r (c .before .before .before .before .before .before .before .before .before .before .before .before .before .before .before .before .before .before .if1 .taken) (c .before .before .before .before .before .before .before .before .before .before .before .before .before .before .before .if2 .left) in
     let j = joined t (c .before .before) in
     let sound : Sound S (a .q) (a .depth + 1) (state (c .before .before .before .before .before .before .before .before .before .push .last .1 .1 .1 .1 .1 .0) (c .before .before .before .before .before .before .before .before .before .push .last .1 .1 .1 .1 .1 .1 .0) (c .before .before .if4 .s)) =
-    law.sound-visit S (a .q) (a .depth + 1) (c .before .before .before .before .before .before .before .before .before .push .last .1 .1 .1 .1 .1 .0) (c .before .before .before .before .before .before .before .before .before .push .last .1 .1 .1 .1 .1 .1 .0) (l .s) (c .before .before .if4 .s) (l .fs) (c .before .before .if4 .fs) (l .ws) (c .before .before .if4 .ws) (j .0) (v .sound) in (
+    law.sound-visit S (a .q) (a .depth + 1) (c .before .before .before .before .before .before .before .before .before .push .last .1 .1 .1 .1 .1 .0) (c .before .before .before .before .before .before .before .before .before .push .last .1 .1 .1 .1 .1 .1 .0) (l .s) (c .before .before .if4 .s) (l .candidate-floats) (c .before .before .if4 .candidate-floats) (l .candidate-words) (c .before .before .if4 .candidate-words) (j .0) (v .sound) in (
       omega (arith, c .before .before .before .before .before .before .before .before .before .before .before .before .before .before .before .before .before .before .if1 .taken),
       c .before .before .before .before .before .before .before .before .before .push .kept .1 .1 .1 .1 .1 .0 ∙ l .inv .1,
       c .before .before .before .before .before .before .before .before .before .push .kept .1 .1 .1 .1 .1 .1 .0 ∙ l .inv .2,
       j .1 ∙ l .inv .3,
       j .2 ∙ l .inv .4,
       law.walked-more S (a .q) (a .depth) (a .q .order - (a .depth + 1)) (l .p) (l .inv .5)
-          (law.walked-last S (a .q) (a .depth) (a .q .order - (a .depth + 1)) (l .p) (l .seq) (c .before .before .before .before .before .before .before .before .before .push .last .1 .1 .1 .1 .1 .0) (l .images) (c .before .before .before .before .before .before .before .before .before .push .last .1 .1 .1 .1 .1 .1 .0) (l .s) (c .before .before .if4 .s) (l .fs) (c .before .before .if4 .fs) (l .ws) (c .before .before .if4 .ws) (c .before .before .before .before .before .before .before .before .before .before .before .before .before .before .before .if2 .left) (omega (arith, pre .deep, pre .within)) (r .sound .seq-room) (sym (c .before .before .before .before .before .before .before .before .before .before .before .before .before .may .ensures (a .members .now) (a .edges .now)) ∙ c .before .before .before .before .before .before .before .before .before .before .before .before .if3 .taken) (c .before .before .before .before .before .before .before .before .before .push .ensures .0) (j .0) sound (omega (arith, c .if5 .taken))),
+          (law.walked-last S (a .q) (a .depth) (a .q .order - (a .depth + 1)) (l .p) (l .seq) (c .before .before .before .before .before .before .before .before .before .push .last .1 .1 .1 .1 .1 .0) (l .images) (c .before .before .before .before .before .before .before .before .before .push .last .1 .1 .1 .1 .1 .1 .0) (l .s) (c .before .before .if4 .s) (l .candidate-floats) (c .before .before .if4 .candidate-floats) (l .candidate-words) (c .before .before .if4 .candidate-words) (c .before .before .before .before .before .before .before .before .before .before .before .before .before .before .before .if2 .left) (omega (arith, pre .deep, pre .within)) (r .sound .seq-room) (sym (c .before .before .before .before .before .before .before .before .before .before .before .before .before .may .ensures (a .plane-triangles .now) (a .plane-edges .now)) ∙ c .before .before .before .before .before .before .before .before .before .before .before .before .if3 .taken) (c .before .before .before .before .before .before .before .before .before .push .ensures .0) (j .0) sound (omega (arith, c .if5 .taken))),
     )
 
 add-if6 : (t : ℕ) → lts.Need-add-if6 (may.Asked, may.Learnt, push.Asked, push.Learnt, too-far.Asked, too-far.Learnt, passed.Asked, passed.Learnt, visit.Asked, visit.Learnt, last.Asked, last.Learnt, expand-below t, expand.Post) (expand-at t) expand.Post Inv-loop μ-loop
@@ -180,14 +180,14 @@ last-planes-requires t c κs =
     let a = c .before .before .before .before .before .before .before .before .before .before .before .before .before .before .before .before .before .before .before .before .before .before .before .before .before .before .before .before .before .before .before .before .before .before .before .before .before .before .before .before .before .before .args in
     let pre = c .before .before .before .before .before .before .before .before .before .before .before .before .before .before .before .before .before .before .before .before .before .before .before .before .before .before .before .before .before .before .before .before .before .before .before .before .before .before .before .before .before .before .pre .1 in
     let l = c .before .before .before .before .before .before .before .before .before .before .before .before .before .before .before .before .before .before .before .before .before .before .before .before .before .before .loop in
-    let S : Scene = (scene (a .padded .now) (a .nodes .now) (a .perm .now) (a .rows .now) (a .handles .now) (a .materials .now) (a .columns .now) (a .floats .now) (a .words .now) (a .members .now) (a .edges .now)) in
-    let r : Ready S (a .q) (a .depth) (state (l .seq) (l .images) (l .s)) (l .fs) (l .ws) =
-    law.ready-same S (a .q) (a .depth) (a .depth) (state (a .seq .now) (a .images .now) (a .t)) (state (l .seq) (l .images) (l .s)) (a .fs .now) (l .fs) (a .ws .now) (l .ws) pre (pre .deep) (l .inv .3) (l .inv .4) (l .inv .5 .sound) in
-    let v : Visitable S (a .q) (a .depth + 1) (state (c .before .before .before .before .before .before .before .before .before .before .before .before .before .before .before .push .last .1 .1 .1 .1 .1 .0) (c .before .before .before .before .before .before .before .before .before .before .before .before .before .before .before .push .last .1 .1 .1 .1 .1 .1 .0) (l .s)) (l .fs) (l .ws) = law.visitable-push S (a .q) (a .depth) (l .p) (l .seq) (c .before .before .before .before .before .before .before .before .before .before .before .before .before .before .before .push .last .1 .1 .1 .1 .1 .0) (l .images) (c .before .before .before .before .before .before .before .before .before .before .before .before .before .before .before .push .last .1 .1 .1 .1 .1 .1 .0) (l .s) (c .before .before .before .before .before .before .before .before .before .before .before .before .before .before .before .push .ensures .0) (c .before .before .before .before .before .before .before .before .before .before .before .before .before .before .before .push .ensures .1 (a .members .now) (a .edges .now)) (l .fs) (l .ws) r (c .before .before .before .before .before .before .before .before .before .before .before .before .before .before .before .before .before .before .before .before .before .before .before .before .if1 .taken) (c .before .before .before .before .before .before .before .before .before .before .before .before .before .before .before .before .before .before .before .before .before .if2 .left) in
+    let S : Scene = (scene (a .padded .now) (a .nodes .now) (a .leaf-order .now) (a .leaves .now) (a .handles .now) (a .materials .now) (a .triangles .now) (a .plane-floats .now) (a .plane-words .now) (a .plane-triangles .now) (a .plane-edges .now)) in
+    let r : Ready S (a .q) (a .depth) (state (l .seq) (l .images) (l .s)) (l .candidate-floats) (l .candidate-words) =
+    law.ready-same S (a .q) (a .depth) (a .depth) (state (a .seq .now) (a .images .now) (a .t)) (state (l .seq) (l .images) (l .s)) (a .candidate-floats .now) (l .candidate-floats) (a .candidate-words .now) (l .candidate-words) pre (pre .deep) (l .inv .3) (l .inv .4) (l .inv .5 .sound) in
+    let v : Visitable S (a .q) (a .depth + 1) (state (c .before .before .before .before .before .before .before .before .before .before .before .before .before .before .before .push .last .1 .1 .1 .1 .1 .0) (c .before .before .before .before .before .before .before .before .before .before .before .before .before .before .before .push .last .1 .1 .1 .1 .1 .1 .0) (l .s)) (l .candidate-floats) (l .candidate-words) = law.visitable-push S (a .q) (a .depth) (l .p) (l .seq) (c .before .before .before .before .before .before .before .before .before .before .before .before .before .before .before .push .last .1 .1 .1 .1 .1 .0) (l .images) (c .before .before .before .before .before .before .before .before .before .before .before .before .before .before .before .push .last .1 .1 .1 .1 .1 .1 .0) (l .s) (c .before .before .before .before .before .before .before .before .before .before .before .before .before .before .before .push .ensures .0) (c .before .before .before .before .before .before .before .before .before .before .before .before .before .before .before .push .ensures .1 (a .plane-triangles .now) (a .plane-edges .now)) (l .candidate-floats) (l .candidate-words) r (c .before .before .before .before .before .before .before .before .before .before .before .before .before .before .before .before .before .before .before .before .before .before .before .before .if1 .taken) (c .before .before .before .before .before .before .before .before .before .before .before .before .before .before .before .before .before .before .before .before .before .if2 .left) in
     let j = joined t (c .before .before .before .before .before .before .before .before) in
     let sound : Sound S (a .q) (a .depth + 1) (state (c .before .before .before .before .before .before .before .before .before .before .before .before .before .before .before .push .last .1 .1 .1 .1 .1 .0) (c .before .before .before .before .before .before .before .before .before .before .before .before .before .before .before .push .last .1 .1 .1 .1 .1 .1 .0) (c .before .before .before .before .before .before .before .before .if4 .s)) =
-    law.sound-visit S (a .q) (a .depth + 1) (c .before .before .before .before .before .before .before .before .before .before .before .before .before .before .before .push .last .1 .1 .1 .1 .1 .0) (c .before .before .before .before .before .before .before .before .before .before .before .before .before .before .before .push .last .1 .1 .1 .1 .1 .1 .0) (l .s) (c .before .before .before .before .before .before .before .before .if4 .s) (l .fs) (c .before .before .before .before .before .before .before .before .if4 .fs) (l .ws) (c .before .before .before .before .before .before .before .before .if4 .ws) (j .0) (v .sound) in
-    (omega (arith, c .before .before .before .before .if6 .taken), law.ready-same S (a .q) (a .depth) (a .depth + 1) (state (l .seq) (l .images) (l .s)) (state (c .before .before .before .before .before .before .before .before .before .before .before .before .before .before .before .push .last .1 .1 .1 .1 .1 .0) (c .before .before .before .before .before .before .before .before .before .before .before .before .before .before .before .push .last .1 .1 .1 .1 .1 .1 .0) (c .before .before .before .before .before .before .before .before .if4 .s)) (l .fs) (c .before .before .before .before .before .before .before .before .if4 .fs) (l .ws) (c .before .before .before .before .before .before .before .before .if4 .ws) r (omega (arith, c .before .before .before .before .if6 .taken)) (j .1) (j .2) sound)
+    law.sound-visit S (a .q) (a .depth + 1) (c .before .before .before .before .before .before .before .before .before .before .before .before .before .before .before .push .last .1 .1 .1 .1 .1 .0) (c .before .before .before .before .before .before .before .before .before .before .before .before .before .before .before .push .last .1 .1 .1 .1 .1 .1 .0) (l .s) (c .before .before .before .before .before .before .before .before .if4 .s) (l .candidate-floats) (c .before .before .before .before .before .before .before .before .if4 .candidate-floats) (l .candidate-words) (c .before .before .before .before .before .before .before .before .if4 .candidate-words) (j .0) (v .sound) in
+    (omega (arith, c .before .before .before .before .if6 .taken), law.ready-same S (a .q) (a .depth) (a .depth + 1) (state (l .seq) (l .images) (l .s)) (state (c .before .before .before .before .before .before .before .before .before .before .before .before .before .before .before .push .last .1 .1 .1 .1 .1 .0) (c .before .before .before .before .before .before .before .before .before .before .before .before .before .before .before .push .last .1 .1 .1 .1 .1 .1 .0) (c .before .before .before .before .before .before .before .before .if4 .s)) (l .candidate-floats) (c .before .before .before .before .before .before .before .before .if4 .candidate-floats) (l .candidate-words) (c .before .before .before .before .before .before .before .before .if4 .candidate-words) r (omega (arith, c .before .before .before .before .if6 .taken)) (j .1) (j .2) sound)
 
 loop-less-3 : (t : ℕ) → lts.Need-loop-less-3 (may.Asked, may.Learnt, push.Asked, push.Learnt, too-far.Asked, too-far.Learnt, passed.Asked, passed.Learnt, visit.Asked, visit.Learnt, last.Asked, last.Learnt, expand-below t, expand.Post) (expand-at t) expand.Post Inv-loop μ-loop
 loop-less-3 t c =
@@ -198,9 +198,9 @@ loop-again-3 t c =
     let a = c .before .before .before .before .before .before .before .before .before .before .before .before .before .before .before .before .before .before .before .before .before .before .before .before .before .before .before .before .before .before .before .before .before .before .before .before .before .before .before .before .before .before .before .before .before .before .before .before .before .before .before .args in
     let pre = c .before .before .before .before .before .before .before .before .before .before .before .before .before .before .before .before .before .before .before .before .before .before .before .before .before .before .before .before .before .before .before .before .before .before .before .before .before .before .before .before .before .before .before .before .before .before .before .before .before .before .before .pre .1 in
     let l = c .before .before .before .before .before .before .before .before .before .before .before .before .before .before .before .before .before .before .before .before .before .before .before .before .before .before .before .before .before .before .before .before .before .before .before .loop in
-    let S : Scene = (scene (a .padded .now) (a .nodes .now) (a .perm .now) (a .rows .now) (a .handles .now) (a .materials .now) (a .columns .now) (a .floats .now) (a .words .now) (a .members .now) (a .edges .now)) in
-    let r : Ready S (a .q) (a .depth) (state (l .seq) (l .images) (l .s)) (l .fs) (l .ws) =
-    law.ready-same S (a .q) (a .depth) (a .depth) (state (a .seq .now) (a .images .now) (a .t)) (state (l .seq) (l .images) (l .s)) (a .fs .now) (l .fs) (a .ws .now) (l .ws) pre (pre .deep) (l .inv .3) (l .inv .4) (l .inv .5 .sound) in
+    let S : Scene = (scene (a .padded .now) (a .nodes .now) (a .leaf-order .now) (a .leaves .now) (a .handles .now) (a .materials .now) (a .triangles .now) (a .plane-floats .now) (a .plane-words .now) (a .plane-triangles .now) (a .plane-edges .now)) in
+    let r : Ready S (a .q) (a .depth) (state (l .seq) (l .images) (l .s)) (l .candidate-floats) (l .candidate-words) =
+    law.ready-same S (a .q) (a .depth) (a .depth) (state (a .seq .now) (a .images .now) (a .t)) (state (l .seq) (l .images) (l .s)) (a .candidate-floats .now) (l .candidate-floats) (a .candidate-words .now) (l .candidate-words) pre (pre .deep) (l .inv .3) (l .inv .4) (l .inv .5 .sound) in
     let j = joined t (c .before .before .before .before .before .before .before .before .before .before .before .before .before .before .before .before .before) in (
       omega (arith, c .before .before .before .before .before .before .before .before .before .before .before .before .before .before .before .before .before .before .before .before .before .before .before .before .before .before .before .before .before .before .before .before .before .if1 .taken),
       c .before .before .before .before .before .before .before .before .last-planes .kept .1 .1 .1 .1 .1 .1 .1 .1 .1 .1 .1 .1 .1 .1 .0 ∙ c .before .before .before .before .before .before .before .before .before .before .before .before .before .before .before .before .before .before .before .before .before .before .before .before .push .kept .1 .1 .1 .1 .1 .0 ∙ l .inv .1,
@@ -208,7 +208,7 @@ loop-again-3 t c =
       c .before .before .before .before .before .before .before .before .last-planes .kept .1 .1 .1 .1 .1 .1 .1 .1 .1 .1 .1 .1 .1 .1 .1 .1 .0 ∙ j .1 ∙ l .inv .3,
       c .before .before .before .before .before .before .before .before .last-planes .kept .1 .1 .1 .1 .1 .1 .1 .1 .1 .1 .1 .1 .1 .1 .1 .1 .1 .0 ∙ j .2 ∙ l .inv .4,
       law.walked-more S (a .q) (a .depth) (a .q .order - (a .depth + 1)) (l .p) (l .inv .5)
-          (law.walked-visit S (a .q) (a .depth) (a .q .order - (a .depth + 1)) (l .p) (l .seq) (c .before .before .before .before .before .before .before .before .before .before .before .before .before .before .before .before .before .before .before .before .before .before .before .before .push .last .1 .1 .1 .1 .1 .0) (l .images) (c .before .before .before .before .before .before .before .before .before .before .before .before .before .before .before .before .before .before .before .before .before .before .before .before .push .last .1 .1 .1 .1 .1 .1 .0) (l .s) (c .before .before .before .before .before .before .before .before .before .before .before .before .before .before .before .before .before .if4 .s) (state (c .before .before .before .before .before .before .before .before .last-planes .last .1 .1 .1 .1 .1 .1 .1 .1 .1 .1 .1 .1 .1 .1 .0) (c .before .before .before .before .before .before .before .before .last-planes .last .1 .1 .1 .1 .1 .1 .1 .1 .1 .1 .1 .1 .1 .1 .1 .0) (c .before .before .before .before .before .before .before .before .last-planes .result)) (l .fs) (c .before .before .before .before .before .before .before .before .before .before .before .before .before .before .before .before .before .if4 .fs) (c .before .before .before .before .before .before .before .before .last-planes .last .1 .1 .1 .1 .1 .1 .1 .1 .1 .1 .1 .1 .1 .1 .1 .1 .0) (l .ws) (c .before .before .before .before .before .before .before .before .before .before .before .before .before .before .before .before .before .if4 .ws) (c .before .before .before .before .before .before .before .before .last-planes .last .1 .1 .1 .1 .1 .1 .1 .1 .1 .1 .1 .1 .1 .1 .1 .1 .1 .0) (c .before .before .before .before .before .before .before .before .before .before .before .before .before .before .before .before .before .before .before .before .before .before .before .before .before .before .before .before .before .before .if2 .left) (omega (arith, pre .deep, pre .within)) (r .sound .seq-room) (sym (c .before .before .before .before .before .before .before .before .before .before .before .before .before .before .before .before .before .before .before .before .before .before .before .before .before .before .before .before .may .ensures (a .members .now) (a .edges .now)) ∙ c .before .before .before .before .before .before .before .before .before .before .before .before .before .before .before .before .before .before .before .before .before .before .before .before .before .before .before .if3 .taken) (c .before .before .before .before .before .before .before .before .before .before .before .before .before .before .before .before .before .before .before .before .before .before .before .before .push .ensures .0) (j .0) (c .before .before .before .before .before .before .before .before .last-planes .ensures)),
+          (law.walked-visit S (a .q) (a .depth) (a .q .order - (a .depth + 1)) (l .p) (l .seq) (c .before .before .before .before .before .before .before .before .before .before .before .before .before .before .before .before .before .before .before .before .before .before .before .before .push .last .1 .1 .1 .1 .1 .0) (l .images) (c .before .before .before .before .before .before .before .before .before .before .before .before .before .before .before .before .before .before .before .before .before .before .before .before .push .last .1 .1 .1 .1 .1 .1 .0) (l .s) (c .before .before .before .before .before .before .before .before .before .before .before .before .before .before .before .before .before .if4 .s) (state (c .before .before .before .before .before .before .before .before .last-planes .last .1 .1 .1 .1 .1 .1 .1 .1 .1 .1 .1 .1 .1 .1 .0) (c .before .before .before .before .before .before .before .before .last-planes .last .1 .1 .1 .1 .1 .1 .1 .1 .1 .1 .1 .1 .1 .1 .1 .0) (c .before .before .before .before .before .before .before .before .last-planes .result)) (l .candidate-floats) (c .before .before .before .before .before .before .before .before .before .before .before .before .before .before .before .before .before .if4 .candidate-floats) (c .before .before .before .before .before .before .before .before .last-planes .last .1 .1 .1 .1 .1 .1 .1 .1 .1 .1 .1 .1 .1 .1 .1 .1 .0) (l .candidate-words) (c .before .before .before .before .before .before .before .before .before .before .before .before .before .before .before .before .before .if4 .candidate-words) (c .before .before .before .before .before .before .before .before .last-planes .last .1 .1 .1 .1 .1 .1 .1 .1 .1 .1 .1 .1 .1 .1 .1 .1 .1 .0) (c .before .before .before .before .before .before .before .before .before .before .before .before .before .before .before .before .before .before .before .before .before .before .before .before .before .before .before .before .before .before .if2 .left) (omega (arith, pre .deep, pre .within)) (r .sound .seq-room) (sym (c .before .before .before .before .before .before .before .before .before .before .before .before .before .before .before .before .before .before .before .before .before .before .before .before .before .before .before .before .may .ensures (a .plane-triangles .now) (a .plane-edges .now)) ∙ c .before .before .before .before .before .before .before .before .before .before .before .before .before .before .before .before .before .before .before .before .before .before .before .before .before .before .before .if3 .taken) (c .before .before .before .before .before .before .before .before .before .before .before .before .before .before .before .before .before .before .before .before .before .before .before .before .push .ensures .0) (j .0) (c .before .before .before .before .before .before .before .before .last-planes .ensures)),
     )
 
 add-expand-images : (t : ℕ) → lts.Need-add-expand-images (may.Asked, may.Learnt, push.Asked, push.Learnt, too-far.Asked, too-far.Learnt, passed.Asked, passed.Learnt, visit.Asked, visit.Learnt, last.Asked, last.Learnt, expand-below t, expand.Post) (expand-at t) expand.Post Inv-loop μ-loop
@@ -220,14 +220,14 @@ expand-images-requires t c κs =
     let a = c .before .before .before .before .before .before .before .before .before .before .before .before .before .before .before .before .before .before .before .before .before .before .before .before .before .before .before .before .before .before .before .before .before .before .before .before .before .before .before .before .before .before .args in
     let pre = c .before .before .before .before .before .before .before .before .before .before .before .before .before .before .before .before .before .before .before .before .before .before .before .before .before .before .before .before .before .before .before .before .before .before .before .before .before .before .before .before .before .before .pre .1 in
     let l = c .before .before .before .before .before .before .before .before .before .before .before .before .before .before .before .before .before .before .before .before .before .before .before .before .before .before .loop in
-    let S : Scene = (scene (a .padded .now) (a .nodes .now) (a .perm .now) (a .rows .now) (a .handles .now) (a .materials .now) (a .columns .now) (a .floats .now) (a .words .now) (a .members .now) (a .edges .now)) in
-    let r : Ready S (a .q) (a .depth) (state (l .seq) (l .images) (l .s)) (l .fs) (l .ws) =
-    law.ready-same S (a .q) (a .depth) (a .depth) (state (a .seq .now) (a .images .now) (a .t)) (state (l .seq) (l .images) (l .s)) (a .fs .now) (l .fs) (a .ws .now) (l .ws) pre (pre .deep) (l .inv .3) (l .inv .4) (l .inv .5 .sound) in
-    let v : Visitable S (a .q) (a .depth + 1) (state (c .before .before .before .before .before .before .before .before .before .before .before .before .before .before .before .push .last .1 .1 .1 .1 .1 .0) (c .before .before .before .before .before .before .before .before .before .before .before .before .before .before .before .push .last .1 .1 .1 .1 .1 .1 .0) (l .s)) (l .fs) (l .ws) = law.visitable-push S (a .q) (a .depth) (l .p) (l .seq) (c .before .before .before .before .before .before .before .before .before .before .before .before .before .before .before .push .last .1 .1 .1 .1 .1 .0) (l .images) (c .before .before .before .before .before .before .before .before .before .before .before .before .before .before .before .push .last .1 .1 .1 .1 .1 .1 .0) (l .s) (c .before .before .before .before .before .before .before .before .before .before .before .before .before .before .before .push .ensures .0) (c .before .before .before .before .before .before .before .before .before .before .before .before .before .before .before .push .ensures .1 (a .members .now) (a .edges .now)) (l .fs) (l .ws) r (c .before .before .before .before .before .before .before .before .before .before .before .before .before .before .before .before .before .before .before .before .before .before .before .before .if1 .taken) (c .before .before .before .before .before .before .before .before .before .before .before .before .before .before .before .before .before .before .before .before .before .if2 .left) in
+    let S : Scene = (scene (a .padded .now) (a .nodes .now) (a .leaf-order .now) (a .leaves .now) (a .handles .now) (a .materials .now) (a .triangles .now) (a .plane-floats .now) (a .plane-words .now) (a .plane-triangles .now) (a .plane-edges .now)) in
+    let r : Ready S (a .q) (a .depth) (state (l .seq) (l .images) (l .s)) (l .candidate-floats) (l .candidate-words) =
+    law.ready-same S (a .q) (a .depth) (a .depth) (state (a .seq .now) (a .images .now) (a .t)) (state (l .seq) (l .images) (l .s)) (a .candidate-floats .now) (l .candidate-floats) (a .candidate-words .now) (l .candidate-words) pre (pre .deep) (l .inv .3) (l .inv .4) (l .inv .5 .sound) in
+    let v : Visitable S (a .q) (a .depth + 1) (state (c .before .before .before .before .before .before .before .before .before .before .before .before .before .before .before .push .last .1 .1 .1 .1 .1 .0) (c .before .before .before .before .before .before .before .before .before .before .before .before .before .before .before .push .last .1 .1 .1 .1 .1 .1 .0) (l .s)) (l .candidate-floats) (l .candidate-words) = law.visitable-push S (a .q) (a .depth) (l .p) (l .seq) (c .before .before .before .before .before .before .before .before .before .before .before .before .before .before .before .push .last .1 .1 .1 .1 .1 .0) (l .images) (c .before .before .before .before .before .before .before .before .before .before .before .before .before .before .before .push .last .1 .1 .1 .1 .1 .1 .0) (l .s) (c .before .before .before .before .before .before .before .before .before .before .before .before .before .before .before .push .ensures .0) (c .before .before .before .before .before .before .before .before .before .before .before .before .before .before .before .push .ensures .1 (a .plane-triangles .now) (a .plane-edges .now)) (l .candidate-floats) (l .candidate-words) r (c .before .before .before .before .before .before .before .before .before .before .before .before .before .before .before .before .before .before .before .before .before .before .before .before .if1 .taken) (c .before .before .before .before .before .before .before .before .before .before .before .before .before .before .before .before .before .before .before .before .before .if2 .left) in
     let j = joined t (c .before .before .before .before .before .before .before .before) in
     let sound : Sound S (a .q) (a .depth + 1) (state (c .before .before .before .before .before .before .before .before .before .before .before .before .before .before .before .push .last .1 .1 .1 .1 .1 .0) (c .before .before .before .before .before .before .before .before .before .before .before .before .before .before .before .push .last .1 .1 .1 .1 .1 .1 .0) (c .before .before .before .before .before .before .before .before .if4 .s)) =
-    law.sound-visit S (a .q) (a .depth + 1) (c .before .before .before .before .before .before .before .before .before .before .before .before .before .before .before .push .last .1 .1 .1 .1 .1 .0) (c .before .before .before .before .before .before .before .before .before .before .before .before .before .before .before .push .last .1 .1 .1 .1 .1 .1 .0) (l .s) (c .before .before .before .before .before .before .before .before .if4 .s) (l .fs) (c .before .before .before .before .before .before .before .before .if4 .fs) (l .ws) (c .before .before .before .before .before .before .before .before .if4 .ws) (j .0) (v .sound) in
-    (omega (arith, c .before .before .before .before .before .before .before .before .before .before .before .before .before .before .before .before .before .before .before .before .before .before .before .before .before .before .before .before .before .before .before .before .before .before .before .before .before .before .before .before .before .before .pre .0, pre .deep), law.ready-same S (a .q) (a .depth) (a .depth + 1) (state (l .seq) (l .images) (l .s)) (state (c .before .before .before .before .before .before .before .before .before .before .before .before .before .before .before .push .last .1 .1 .1 .1 .1 .0) (c .before .before .before .before .before .before .before .before .before .before .before .before .before .before .before .push .last .1 .1 .1 .1 .1 .1 .0) (c .before .before .before .before .before .before .before .before .if4 .s)) (l .fs) (c .before .before .before .before .before .before .before .before .if4 .fs) (l .ws) (c .before .before .before .before .before .before .before .before .if4 .ws) r (omega (arith, pre .deep, c .before .before .before .before .before .before .if5 .left)) (j .1) (j .2) sound)
+    law.sound-visit S (a .q) (a .depth + 1) (c .before .before .before .before .before .before .before .before .before .before .before .before .before .before .before .push .last .1 .1 .1 .1 .1 .0) (c .before .before .before .before .before .before .before .before .before .before .before .before .before .before .before .push .last .1 .1 .1 .1 .1 .1 .0) (l .s) (c .before .before .before .before .before .before .before .before .if4 .s) (l .candidate-floats) (c .before .before .before .before .before .before .before .before .if4 .candidate-floats) (l .candidate-words) (c .before .before .before .before .before .before .before .before .if4 .candidate-words) (j .0) (v .sound) in
+    (omega (arith, c .before .before .before .before .before .before .before .before .before .before .before .before .before .before .before .before .before .before .before .before .before .before .before .before .before .before .before .before .before .before .before .before .before .before .before .before .before .before .before .before .before .before .pre .0, pre .deep), law.ready-same S (a .q) (a .depth) (a .depth + 1) (state (l .seq) (l .images) (l .s)) (state (c .before .before .before .before .before .before .before .before .before .before .before .before .before .before .before .push .last .1 .1 .1 .1 .1 .0) (c .before .before .before .before .before .before .before .before .before .before .before .before .before .before .before .push .last .1 .1 .1 .1 .1 .1 .0) (c .before .before .before .before .before .before .before .before .if4 .s)) (l .candidate-floats) (c .before .before .before .before .before .before .before .before .if4 .candidate-floats) (l .candidate-words) (c .before .before .before .before .before .before .before .before .if4 .candidate-words) r (omega (arith, pre .deep, c .before .before .before .before .before .before .if5 .left)) (j .1) (j .2) sound)
 
 loop-less-4 : (t : ℕ) → lts.Need-loop-less-4 (may.Asked, may.Learnt, push.Asked, push.Learnt, too-far.Asked, too-far.Learnt, passed.Asked, passed.Learnt, visit.Asked, visit.Learnt, last.Asked, last.Learnt, expand-below t, expand.Post) (expand-at t) expand.Post Inv-loop μ-loop
 loop-less-4 t c =
@@ -238,9 +238,9 @@ loop-again-4 t c =
     let a = c .before .before .before .before .before .before .before .before .before .before .before .before .before .before .before .before .before .before .before .before .before .before .before .before .before .before .before .before .before .before .before .before .before .before .before .before .before .before .before .before .before .before .before .before .before .before .before .before .before .before .before .args in
     let pre = c .before .before .before .before .before .before .before .before .before .before .before .before .before .before .before .before .before .before .before .before .before .before .before .before .before .before .before .before .before .before .before .before .before .before .before .before .before .before .before .before .before .before .before .before .before .before .before .before .before .before .before .pre .1 in
     let l = c .before .before .before .before .before .before .before .before .before .before .before .before .before .before .before .before .before .before .before .before .before .before .before .before .before .before .before .before .before .before .before .before .before .before .before .loop in
-    let S : Scene = (scene (a .padded .now) (a .nodes .now) (a .perm .now) (a .rows .now) (a .handles .now) (a .materials .now) (a .columns .now) (a .floats .now) (a .words .now) (a .members .now) (a .edges .now)) in
-    let r : Ready S (a .q) (a .depth) (state (l .seq) (l .images) (l .s)) (l .fs) (l .ws) =
-    law.ready-same S (a .q) (a .depth) (a .depth) (state (a .seq .now) (a .images .now) (a .t)) (state (l .seq) (l .images) (l .s)) (a .fs .now) (l .fs) (a .ws .now) (l .ws) pre (pre .deep) (l .inv .3) (l .inv .4) (l .inv .5 .sound) in
+    let S : Scene = (scene (a .padded .now) (a .nodes .now) (a .leaf-order .now) (a .leaves .now) (a .handles .now) (a .materials .now) (a .triangles .now) (a .plane-floats .now) (a .plane-words .now) (a .plane-triangles .now) (a .plane-edges .now)) in
+    let r : Ready S (a .q) (a .depth) (state (l .seq) (l .images) (l .s)) (l .candidate-floats) (l .candidate-words) =
+    law.ready-same S (a .q) (a .depth) (a .depth) (state (a .seq .now) (a .images .now) (a .t)) (state (l .seq) (l .images) (l .s)) (a .candidate-floats .now) (l .candidate-floats) (a .candidate-words .now) (l .candidate-words) pre (pre .deep) (l .inv .3) (l .inv .4) (l .inv .5 .sound) in
     let j = joined t (c .before .before .before .before .before .before .before .before .before .before .before .before .before .before .before .before .before) in (
       omega (arith, c .before .before .before .before .before .before .before .before .before .before .before .before .before .before .before .before .before .before .before .before .before .before .before .before .before .before .before .before .before .before .before .before .before .if1 .taken),
       c .before .before .before .before .before .before .before .before .expand-images .kept .1 .1 .1 .1 .1 .1 .1 .1 .1 .1 .1 .1 .1 .1 .0 ∙ c .before .before .before .before .before .before .before .before .before .before .before .before .before .before .before .before .before .before .before .before .before .before .before .before .push .kept .1 .1 .1 .1 .1 .0 ∙ l .inv .1,
@@ -248,7 +248,7 @@ loop-again-4 t c =
       c .before .before .before .before .before .before .before .before .expand-images .kept .1 .1 .1 .1 .1 .1 .1 .1 .1 .1 .1 .1 .1 .1 .1 .1 .0 ∙ j .1 ∙ l .inv .3,
       c .before .before .before .before .before .before .before .before .expand-images .kept .1 .1 .1 .1 .1 .1 .1 .1 .1 .1 .1 .1 .1 .1 .1 .1 .1 .0 ∙ j .2 ∙ l .inv .4,
       law.walked-more S (a .q) (a .depth) (a .q .order - (a .depth + 1)) (l .p) (l .inv .5)
-          (law.walked-visit S (a .q) (a .depth) (a .q .order - (a .depth + 1)) (l .p) (l .seq) (c .before .before .before .before .before .before .before .before .before .before .before .before .before .before .before .before .before .before .before .before .before .before .before .before .push .last .1 .1 .1 .1 .1 .0) (l .images) (c .before .before .before .before .before .before .before .before .before .before .before .before .before .before .before .before .before .before .before .before .before .before .before .before .push .last .1 .1 .1 .1 .1 .1 .0) (l .s) (c .before .before .before .before .before .before .before .before .before .before .before .before .before .before .before .before .before .if4 .s) (state (c .before .before .before .before .before .before .before .before .expand-images .last .1 .1 .1 .1 .1 .1 .1 .1 .1 .1 .1 .1 .1 .1 .0) (c .before .before .before .before .before .before .before .before .expand-images .last .1 .1 .1 .1 .1 .1 .1 .1 .1 .1 .1 .1 .1 .1 .1 .0) (c .before .before .before .before .before .before .before .before .expand-images .result)) (l .fs) (c .before .before .before .before .before .before .before .before .before .before .before .before .before .before .before .before .before .if4 .fs) (c .before .before .before .before .before .before .before .before .expand-images .last .1 .1 .1 .1 .1 .1 .1 .1 .1 .1 .1 .1 .1 .1 .1 .1 .0) (l .ws) (c .before .before .before .before .before .before .before .before .before .before .before .before .before .before .before .before .before .if4 .ws) (c .before .before .before .before .before .before .before .before .expand-images .last .1 .1 .1 .1 .1 .1 .1 .1 .1 .1 .1 .1 .1 .1 .1 .1 .1 .0) (c .before .before .before .before .before .before .before .before .before .before .before .before .before .before .before .before .before .before .before .before .before .before .before .before .before .before .before .before .before .before .if2 .left) (omega (arith, pre .deep, pre .within)) (r .sound .seq-room) (sym (c .before .before .before .before .before .before .before .before .before .before .before .before .before .before .before .before .before .before .before .before .before .before .before .before .before .before .before .before .may .ensures (a .members .now) (a .edges .now)) ∙ c .before .before .before .before .before .before .before .before .before .before .before .before .before .before .before .before .before .before .before .before .before .before .before .before .before .before .before .if3 .taken) (c .before .before .before .before .before .before .before .before .before .before .before .before .before .before .before .before .before .before .before .before .before .before .before .before .push .ensures .0) (j .0) (c .before .before .before .before .before .before .before .before .expand-images .ensures)),
+          (law.walked-visit S (a .q) (a .depth) (a .q .order - (a .depth + 1)) (l .p) (l .seq) (c .before .before .before .before .before .before .before .before .before .before .before .before .before .before .before .before .before .before .before .before .before .before .before .before .push .last .1 .1 .1 .1 .1 .0) (l .images) (c .before .before .before .before .before .before .before .before .before .before .before .before .before .before .before .before .before .before .before .before .before .before .before .before .push .last .1 .1 .1 .1 .1 .1 .0) (l .s) (c .before .before .before .before .before .before .before .before .before .before .before .before .before .before .before .before .before .if4 .s) (state (c .before .before .before .before .before .before .before .before .expand-images .last .1 .1 .1 .1 .1 .1 .1 .1 .1 .1 .1 .1 .1 .1 .0) (c .before .before .before .before .before .before .before .before .expand-images .last .1 .1 .1 .1 .1 .1 .1 .1 .1 .1 .1 .1 .1 .1 .1 .0) (c .before .before .before .before .before .before .before .before .expand-images .result)) (l .candidate-floats) (c .before .before .before .before .before .before .before .before .before .before .before .before .before .before .before .before .before .if4 .candidate-floats) (c .before .before .before .before .before .before .before .before .expand-images .last .1 .1 .1 .1 .1 .1 .1 .1 .1 .1 .1 .1 .1 .1 .1 .1 .0) (l .candidate-words) (c .before .before .before .before .before .before .before .before .before .before .before .before .before .before .before .before .before .if4 .candidate-words) (c .before .before .before .before .before .before .before .before .expand-images .last .1 .1 .1 .1 .1 .1 .1 .1 .1 .1 .1 .1 .1 .1 .1 .1 .1 .0) (c .before .before .before .before .before .before .before .before .before .before .before .before .before .before .before .before .before .before .before .before .before .before .before .before .before .before .before .before .before .before .if2 .left) (omega (arith, pre .deep, pre .within)) (r .sound .seq-room) (sym (c .before .before .before .before .before .before .before .before .before .before .before .before .before .before .before .before .before .before .before .before .before .before .before .before .before .before .before .before .may .ensures (a .plane-triangles .now) (a .plane-edges .now)) ∙ c .before .before .before .before .before .before .before .before .before .before .before .before .before .before .before .before .before .before .before .before .before .before .before .before .before .before .before .if3 .taken) (c .before .before .before .before .before .before .before .before .before .before .before .before .before .before .before .before .before .before .before .before .before .before .before .before .push .ensures .0) (j .0) (c .before .before .before .before .before .before .before .before .expand-images .ensures)),
     )
 
 loop-less-5 : (t : ℕ) → lts.Need-loop-less-5 (may.Asked, may.Learnt, push.Asked, push.Learnt, too-far.Asked, too-far.Learnt, passed.Asked, passed.Learnt, visit.Asked, visit.Learnt, last.Asked, last.Learnt, expand-below t, expand.Post) (expand-at t) expand.Post Inv-loop μ-loop
@@ -260,14 +260,14 @@ loop-again-5 t c =
     let a = c .before .before .before .before .before .before .before .before .before .before .before .before .before .before .before .before .before .before .before .before .before .before .before .before .args in
     let pre = c .before .before .before .before .before .before .before .before .before .before .before .before .before .before .before .before .before .before .before .before .before .before .before .before .pre .1 in
     let l = c .before .before .before .before .before .before .before .before .loop in
-    let S : Scene = (scene (a .padded .now) (a .nodes .now) (a .perm .now) (a .rows .now) (a .handles .now) (a .materials .now) (a .columns .now) (a .floats .now) (a .words .now) (a .members .now) (a .edges .now)) in (
+    let S : Scene = (scene (a .padded .now) (a .nodes .now) (a .leaf-order .now) (a .leaves .now) (a .handles .now) (a .materials .now) (a .triangles .now) (a .plane-floats .now) (a .plane-words .now) (a .plane-triangles .now) (a .plane-edges .now)) in (
       omega (arith, c .before .before .before .before .before .before .if1 .taken),
       l .inv .1,
       l .inv .2,
       l .inv .3,
       l .inv .4,
       law.walked-more S (a .q) (a .depth) (a .q .order - (a .depth + 1)) (l .p) (l .inv .5)
-          (law.walked-not S (a .q) (a .depth) (a .q .order - (a .depth + 1)) (l .p) (state (l .seq) (l .images) (l .s)) (l .fs) (l .ws) (sym (c .before .may .ensures (a .members .now) (a .edges .now)) ∙ c .if3 .left) (l .inv .5 .sound)),
+          (law.walked-not S (a .q) (a .depth) (a .q .order - (a .depth + 1)) (l .p) (state (l .seq) (l .images) (l .s)) (l .candidate-floats) (l .candidate-words) (sym (c .before .may .ensures (a .plane-triangles .now) (a .plane-edges .now)) ∙ c .if3 .left) (l .inv .5 .sound)),
     )
 
 same-length : (t : ℕ) → lts.Need-same-length (may.Asked, may.Learnt, push.Asked, push.Learnt, too-far.Asked, too-far.Learnt, passed.Asked, passed.Learnt, visit.Asked, visit.Learnt, last.Asked, last.Learnt, expand-below t, expand.Post) (expand-at t) expand.Post Inv-loop μ-loop
@@ -291,7 +291,7 @@ returns t c =
     let a = c .before .before .before .before .before .before .before .before .before .before .before .before .before .before .before .before .before .before .args in
     let pre = c .before .before .before .before .before .before .before .before .before .before .before .before .before .before .before .before .before .before .pre .1 in
     let l = c .before .before .loop in
-    let S : Scene = (scene (a .padded .now) (a .nodes .now) (a .perm .now) (a .rows .now) (a .handles .now) (a .materials .now) (a .columns .now) (a .floats .now) (a .words .now) (a .members .now) (a .edges .now)) in
+    let S : Scene = (scene (a .padded .now) (a .nodes .now) (a .leaf-order .now) (a .leaves .now) (a .handles .now) (a .materials .now) (a .triangles .now) (a .plane-floats .now) (a .plane-words .now) (a .plane-triangles .now) (a .plane-edges .now)) in
     let e : l .p ≡ a .q .count = omega (arith, c .if1 .left, l .inv .0) in
     law.walked-all S (a .q) (a .depth) (l .p) (pre .deep) (e ∙ sym (law.firsts-length S (a .q))) (l .inv .5)
 

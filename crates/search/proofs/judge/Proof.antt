@@ -42,7 +42,7 @@ returns c = let a = c .before .before .before .before .before .before .before .b
       few = pre .sound .few;
       seen =
           λ tri t h.
-          judged-fails (a .q .room) (a .t .found) (a .t .nodes) (a .t .rays) (v .result .rays) (a .fs .now) (a .ws .now) (not (eqb (a .t .over) 0)) (take (a .len) (a .seq .now)) _
+          judged-fails (a .q .room) (a .t .found) (a .t .nodes) (a .t .rays) (v .result .rays) (a .candidate-floats .now) (a .candidate-words .now) (not (eqb (a .t .over) 0)) (take (a .len) (a .seq .now)) _
           (ap outcomeOf (sym (rw (c .before .before .before .before .all-planes .ensures) at (v .ensures .0 tri t h))) ∙ not-passed (v .result .fate) (v .result .rays) (c .before .match .keys2));
     })
 
@@ -69,7 +69,7 @@ returns-2 c = let a = c .before .before .before .before .before .before .before 
       seen =
           λ tri t h.
           k .held (take (a .len) (a .seq .now)) long
-          ∙ judged-passes (a .q .room) (a .t .found) (a .t .nodes) (a .t .rays) (v .result .rays) (a .fs .now) (a .ws .now) (not (eqb (a .t .over) 0)) (take (a .len) (a .seq .now)) _ _
+          ∙ judged-passes (a .q .room) (a .t .found) (a .t .nodes) (a .t .rays) (v .result .rays) (a .candidate-floats .now) (a .candidate-words .now) (not (eqb (a .t .over) 0)) (take (a .len) (a .seq .now)) _ _
           (ap outcomeOf (sym (rw (c .before .before .before .before .before .before .before .before .before .before .before .before .all-planes .ensures) at (v .ensures .0 tri t h))) ∙ passed (v .result .fate) (v .result .rays) _ (c .before .before .before .before .before .before .before .before .fate .given .1));
     }
 

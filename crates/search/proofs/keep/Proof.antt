@@ -41,7 +41,7 @@ returns c = let a = c .before .before .before .before .before .before .before .b
       few = let t = c .before .before .before .before .before .before .before .before .before .before .before .before .if1 .taken in omega (arith, t);
       held =
           λ seq e.
-          keep-some (a .room) (a .t .found) (a .t .nodes + 1) (a .t .rays + a .rays) (a .fs .now) (c .before .before .before .before .before .before .put-candidate .last .0) (a .ws .now) (c .before .before .before .before .before .before .put-candidate .last .1 .0) (not (eqb (a .t .over) 0)) (tapOf (a .t .nodes + 1) seq (foundOf (a .c)))
+          keep-some (a .room) (a .t .found) (a .t .nodes + 1) (a .t .rays + a .rays) (a .candidate-floats .now) (c .before .before .before .before .before .before .put-candidate .last .0) (a .candidate-words .now) (c .before .before .before .before .before .before .put-candidate .last .1 .0) (not (eqb (a .t .over) 0)) (tapOf (a .t .nodes + 1) seq (foundOf (a .c)))
           (c .before .before .before .before .before .before .before .before .before .before .before .before .if1 .taken) (rw e (c .before .before .before .before .before .before .put-candidate .ensures));
     })
 
@@ -57,7 +57,7 @@ returns-2 c = let a = c .before .before .before .before .before .args in
       few = c .before .before .before .before .before .pre .0 .1;
       held =
           λ seq e.
-          keep-none (a .room) (a .t .found) (a .t .nodes + 1) (a .t .rays + a .rays) (a .fs .now) (a .fs .now) (a .ws .now) (a .ws .now) (not (eqb (a .t .over) 0)) (tapOf (a .t .nodes + 1) seq (foundOf (a .c)))
+          keep-none (a .room) (a .t .found) (a .t .nodes + 1) (a .t .rays + a .rays) (a .candidate-floats .now) (a .candidate-floats .now) (a .candidate-words .now) (a .candidate-words .now) (not (eqb (a .t .over) 0)) (tapOf (a .t .nodes + 1) seq (foundOf (a .c)))
           (c .before .if1 .left);
     })
 

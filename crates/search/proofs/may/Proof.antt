@@ -25,8 +25,8 @@ cast-result c = omega (arith, c .shared-slice-known4 .given (c .before .before .
 
 returns : tie.Need-returns
 returns c = let a = c .before .before .before .before .before .args in λ members edges.
-    let e = planes-length (a .floats .now) (a .words .now) members edges (a .q .count) in
-    may-begin (planesIn (a .floats .now) (a .words .now) members edges (a .q .count)) (a .q .source) (a .seq .now) (a .depth) (a .p) (c .lies-on .result) (omega (arith, c .before .before .before .before .before .pre .0)) (c .before .if1 .taken)
+    let e = planes-length (a .plane-floats .now) (a .plane-words .now) members edges (a .q .count) in
+    may-begin (planesIn (a .plane-floats .now) (a .plane-words .now) members edges (a .q .count)) (a .q .source) (a .seq .now) (a .depth) (a .p) (c .lies-on .result) (omega (arith, c .before .before .before .before .before .pre .0)) (c .before .if1 .taken)
     (c .lies-on .ensures members edges (a .q .count) (c .before .before .before .before .before .pre .0 .1))
 
 returns-2 : tie.Need-returns-2
@@ -36,7 +36,7 @@ returns-2 c = let a = c .before .before .before .before .before .args in
     let e : a .depth ≡ suc (a .depth - 1) = omega (arith, pos-of-ne-zero z) in
     let l : a .depth - 1 < length (a .seq .now) = omega (arith, pos-of-ne-zero z) in
     λ members edges.
-    let on = onOf (planesIn (a .floats .now) (a .words .now) members edges (a .q .count)) (a .q .source) in
+    let on = onOf (planesIn (a .plane-floats .now) (a .plane-words .now) members edges (a .q .count)) (a .q .source) in
     sym (ap (λ (d : ℕ). may on (take d (a .seq .now)) (a .p)) e ∙ may-later on (a .seq .now) (a .depth - 1) (a .p) l)
 
 pub may-spec : {M : Type 1} → statement M

@@ -34,7 +34,7 @@ vec-in-requires c κs = omega (arith, c .before .before .before .before .pre .0 
 
 loop-holds : tie.Need-loop-holds Inv-loop μ-loop
 loop-holds c = let a = c .before .before .before .before .before .args in
-    (c .before .before .before .before .before .pre .0 .2, omega arith, λ padded nodes₁ perm rows handles materials columns members edges. law.skips-none (scene padded nodes₁ perm rows handles materials columns (a .floats .now) (a .words .now) members edges) (a .q) (a .depth) (a .seq .now) (a .images .now) (a .from) (a .t))
+    (c .before .before .before .before .before .pre .0 .2, omega arith, λ padded nodes₁ perm rows handles materials columns members edges. law.skips-none (scene padded nodes₁ perm rows handles materials columns (a .plane-floats .now) (a .plane-words .now) members edges) (a .q) (a .depth) (a .seq .now) (a .images .now) (a .from) (a .t))
 
 loop-less : tie.Need-loop-less Inv-loop μ-loop
 loop-less c = omega (arith, c .before .before .before .if1 .taken)
@@ -42,7 +42,7 @@ loop-less c = omega (arith, c .before .before .before .if1 .taken)
 loop-again : tie.Need-loop-again Inv-loop μ-loop
 loop-again c = let a = c .before .before .before .before .before .before .before .before .before .before .before .args in
     let l = c .before .before .before .before .before .loop in
-    (omega (arith, c .before .before .before .if1 .taken), omega (arith, l .inv .1), λ padded nodes₁ perm rows handles materials columns members edges. law.skips-full (scene padded nodes₁ perm rows handles materials columns (a .floats .now) (a .words .now) members edges) (a .q) (a .depth) (a .seq .now) (a .images .now) (a .from) (a .t) (l .p) (l .s) (l .inv .2 padded nodes₁ perm rows handles materials columns members edges) (c .if2 .taken))
+    (omega (arith, c .before .before .before .if1 .taken), omega (arith, l .inv .1), λ padded nodes₁ perm rows handles materials columns members edges. law.skips-full (scene padded nodes₁ perm rows handles materials columns (a .plane-floats .now) (a .plane-words .now) members edges) (a .q) (a .depth) (a .seq .now) (a .images .now) (a .from) (a .t) (l .p) (l .s) (l .inv .2 padded nodes₁ perm rows handles materials columns members edges) (c .if2 .taken))
 
 may-requires : tie.Need-may-requires Inv-loop μ-loop
 may-requires c κs = ((omega (arith, c .before .before .before .before .before .before .before .before .before .before .before .pre .0 .0), c .before .before .before .if1 .taken), (c .before .before .before .before .before .before .before .before .before .before .before .pre .1 .0, c .before .before .before .before .before .before .before .before .before .before .before .pre .1 .1))
@@ -62,10 +62,10 @@ loop-again-2 c = let a = c .before .before .before .before .before .before .befo
       omega (arith, c .before .before .before .before .before .before .before .before .before .if1 .taken),
       omega (arith, l .inv .1),
       λ padded nodes₁ perm rows handles materials columns members edges.
-          let is : c .before .before .before .next-image .result ≡ mirrorOf (planeAt (planesIn (a .floats .now) (a .words .now) members edges (a .q .count)) (l .p)) (pointIn (a .images .now) (a .depth)) =
-          c .before .before .before .next-image .ensures members edges (a .q .count) (c .before .before .before .before .before .before .before .before .before .if1 .taken) ∙ ap (mirrorOf (planeAt (planesIn (a .floats .now) (a .words .now) members edges (a .q .count)) (l .p))) (c .before .before .before .before .before .before .before .before .before .before .before .before .vec-in .ensures) in
+          let is : c .before .before .before .next-image .result ≡ mirrorOf (planeAt (planesIn (a .plane-floats .now) (a .plane-words .now) members edges (a .q .count)) (l .p)) (pointIn (a .images .now) (a .depth)) =
+          c .before .before .before .next-image .ensures members edges (a .q .count) (c .before .before .before .before .before .before .before .before .before .if1 .taken) ∙ ap (mirrorOf (planeAt (planesIn (a .plane-floats .now) (a .plane-words .now) members edges (a .q .count)) (l .p))) (c .before .before .before .before .before .before .before .before .before .before .before .before .vec-in .ensures) in
           rw (c .passed-over .ensures)
-          (law.skips-far (scene padded nodes₁ perm rows handles materials columns (a .floats .now) (a .words .now) members edges) (a .q) (a .depth) (a .seq .now) (a .images .now) (a .from) (a .t) (l .p) (l .s) (l .inv .2 padded nodes₁ perm rows handles materials columns members edges) (c .before .before .before .before .before .before .before .before .before .if1 .taken) (c .before .before .before .before .before .before .if2 .left) (sym (c .before .before .before .before .before .may .ensures members edges) ∙ c .before .before .before .before .if3 .taken)
+          (law.skips-far (scene padded nodes₁ perm rows handles materials columns (a .plane-floats .now) (a .plane-words .now) members edges) (a .q) (a .depth) (a .seq .now) (a .images .now) (a .from) (a .t) (l .p) (l .s) (l .inv .2 padded nodes₁ perm rows handles materials columns members edges) (c .before .before .before .before .before .before .before .before .before .if1 .taken) (c .before .before .before .before .before .before .if2 .left) (sym (c .before .before .before .before .before .may .ensures members edges) ∙ c .before .before .before .before .if3 .taken)
           (ap (λ (v : Vec3). lt (a .q .beyond) (squareOf (a .q .listener) v)) (sym is) ∙ sym (c .before .before .far .ensures) ∙ c .before .if4 .taken)),
     )
 
@@ -79,7 +79,7 @@ loop-less-3 c = omega (arith, c .before .before .before .before .before .if1 .ta
 loop-again-3 : tie.Need-loop-again-3 Inv-loop μ-loop
 loop-again-3 c = let a = c .before .before .before .before .before .before .before .before .before .before .before .before .before .args in
     let l = c .before .before .before .before .before .before .before .loop in
-    (omega (arith, c .before .before .before .before .before .if1 .taken), omega (arith, l .inv .1), λ padded nodes₁ perm rows handles materials columns members edges. law.skips-not (scene padded nodes₁ perm rows handles materials columns (a .floats .now) (a .words .now) members edges) (a .q) (a .depth) (a .seq .now) (a .images .now) (a .from) (a .t) (l .p) (l .s) (l .inv .2 padded nodes₁ perm rows handles materials columns members edges) (sym (c .before .may .ensures members edges) ∙ c .if3 .left))
+    (omega (arith, c .before .before .before .before .before .if1 .taken), omega (arith, l .inv .1), λ padded nodes₁ perm rows handles materials columns members edges. law.skips-not (scene padded nodes₁ perm rows handles materials columns (a .plane-floats .now) (a .plane-words .now) members edges) (a .q) (a .depth) (a .seq .now) (a .images .now) (a .from) (a .t) (l .p) (l .s) (l .inv .2 padded nodes₁ perm rows handles materials columns members edges) (sym (c .before .may .ensures members edges) ∙ c .if3 .left))
 
 returns-2 : tie.Need-returns-2 Inv-loop μ-loop
 returns-2 c = let l = c .before .before .loop in

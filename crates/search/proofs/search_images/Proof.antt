@@ -16,7 +16,7 @@ use Rattle.search.proofs.search_images.Tie as tie
 
 returns : tie.Need-returns
 returns c = let a = c .before .before .before .before .before .before .before .before .before .before .before .before .before .before .args in
-    (λ tri t h. searched-none (onOf (planesIn (a .floats .now) (a .words .now) (a .members .now) (a .edges .now) (a .count)) (a .source)) (a .order) (a .room) (outcomesOf (a .settings) (planesIn (a .floats .now) (a .words .now) (a .members .now) (a .edges .now) (a .count)) tri t (a .materials .now) (a .source) (a .listener)) (a .fs .now) (a .ws .now) (c .if1 .taken), omega arith)
+    (λ tri t h. searched-none (onOf (planesIn (a .plane-floats .now) (a .plane-words .now) (a .plane-triangles .now) (a .plane-edges .now) (a .count)) (a .source)) (a .order) (a .room) (outcomesOf (a .settings) (planesIn (a .plane-floats .now) (a .plane-words .now) (a .plane-triangles .now) (a .plane-edges .now) (a .count)) tri t (a .materials .now) (a .source) (a .listener)) (a .candidate-floats .now) (a .candidate-words .now) (c .if1 .taken), omega arith)
 
 expand-images-requires : tie.Need-expand-images-requires
 expand-images-requires c κs = let a = c .before .before .before .before .before .before .before .before .before .before .before .before .before .before .before .before .before .before .before .before .args in
@@ -26,7 +26,7 @@ expand-images-requires c κs = let a = c .before .before .before .before .before
     let s : State = (state (0 ∷ 0 ∷ 0 ∷ 0 ∷ 0 ∷ 0 ∷ 0 ∷ 0 ∷ []) (c .before .before .before .before .first-images .result) (record { nodes = 0; rays = 0; found = 0; over = 0 })) in
     let new : Fresh q s = record { seq-room = refl; images-room = b .1; image = b .0; no-nodes = refl; no-rays = refl; no-found = refl; not-over = refl } in
     let some = pos-of-ne-zero (c .before .before .before .before .before .before .if1 .left) in
-    record { deep = omega (arith, some); within = pre .1 .0 .0; small = pre .1 .0 .1; bound = omega arith; far = c .before .before .before .before .before .square-beyond .ensures; lent = pre .0; room = pre .1 .1; sound = sound-fresh (scene (a .padded .now) (a .nodes .now) (a .perm .now) (a .rows .now) (a .handles .now) (a .materials .now) (a .columns .now) (a .floats .now) (a .words .now) (a .members .now) (a .edges .now)) q s new }
+    record { deep = omega (arith, some); within = pre .1 .0 .0; small = pre .1 .0 .1; bound = omega arith; far = c .before .before .before .before .before .square-beyond .ensures; lent = pre .0; room = pre .1 .1; sound = sound-fresh (scene (a .padded .now) (a .nodes .now) (a .leaf-order .now) (a .leaves .now) (a .handles .now) (a .materials .now) (a .triangles .now) (a .plane-floats .now) (a .plane-words .now) (a .plane-triangles .now) (a .plane-edges .now)) q s new }
 
 same-length : tie.Need-same-length
 same-length c = c .before .before .before .before .before .before .before .expand-images .kept .1 .1 .1 .1 .1 .1 .1 .1 .1 .1 .1 .1 .1 .1 .1 .1 .0
@@ -41,7 +41,7 @@ returns-2 c = let a = c .before .before .before .before .before .before .before 
     let s : State = (state (0 ∷ 0 ∷ 0 ∷ 0 ∷ 0 ∷ 0 ∷ 0 ∷ 0 ∷ []) (c .before .before .before .before .before .before .before .before .before .before .before .before .first-images .result) (record { nodes = 0; rays = 0; found = 0; over = 0 })) in
     let new : Fresh q s = record { seq-room = refl; images-room = b .1; image = b .0; no-nodes = refl; no-rays = refl; no-found = refl; not-over = refl } in
     let e = c .before .before .before .before .before .before .before .expand-images in
-    (searched-all (scene (a .padded .now) (a .nodes .now) (a .perm .now) (a .rows .now) (a .handles .now) (a .materials .now) (a .columns .now) (a .floats .now) (a .words .now) (a .members .now) (a .edges .now)) q s new (a .fs .now) (e .last .1 .1 .1 .1 .1 .1 .1 .1 .1 .1 .1 .1 .1 .1 .1 .1 .0) (a .ws .now) (e .last .1 .1 .1 .1 .1 .1 .1 .1 .1 .1 .1 .1 .1 .1 .1 .1 .1 .0) (state (e .last .1 .1 .1 .1 .1 .1 .1 .1 .1 .1 .1 .1 .1 .1 .0) (e .last .1 .1 .1 .1 .1 .1 .1 .1 .1 .1 .1 .1 .1 .1 .1 .0) (e .result)) refl (e .ensures), e .ensures .sound .few)
+    (searched-all (scene (a .padded .now) (a .nodes .now) (a .leaf-order .now) (a .leaves .now) (a .handles .now) (a .materials .now) (a .triangles .now) (a .plane-floats .now) (a .plane-words .now) (a .plane-triangles .now) (a .plane-edges .now)) q s new (a .candidate-floats .now) (e .last .1 .1 .1 .1 .1 .1 .1 .1 .1 .1 .1 .1 .1 .1 .1 .1 .0) (a .candidate-words .now) (e .last .1 .1 .1 .1 .1 .1 .1 .1 .1 .1 .1 .1 .1 .1 .1 .1 .1 .0) (state (e .last .1 .1 .1 .1 .1 .1 .1 .1 .1 .1 .1 .1 .1 .1 .0) (e .last .1 .1 .1 .1 .1 .1 .1 .1 .1 .1 .1 .1 .1 .1 .1 .0) (e .result)) refl (e .ensures), e .ensures .sound .few)
 
 pub search-images-spec : {M : Type 1} → statement M
 search-images-spec =

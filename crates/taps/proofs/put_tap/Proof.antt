@@ -66,7 +66,7 @@ same-length c = c .before .before .put-gains .kept .1 .1 .0 ∙ simp length-set
 returns : tie.Need-returns
 returns c =
     let a = c .before .before .before .before .before .before .before .before .before .before .before .before .before .args in
-    tap-stored (a .fs .now) (a .ws .now) (a .i) (a .k * tapWords) (a .taps .now) _ _ _ _ _
+    tap-stored (a .candidate-floats .now) (a .candidate-words .now) (a .i) (a .k * tapWords) (a .taps .now) _ _ _ _ _
     (c .before .before .before .before .before .before .before .bits-at .ensures)
     (c .before .before .before .before .before .before .bits-at2 .ensures)
     (c .before .before .before .before .before .bits-at3 .ensures)

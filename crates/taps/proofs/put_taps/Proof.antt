@@ -43,7 +43,7 @@ loop-again c =
     let l = c .before .before .before .before .before .before .loop in (
       omega arith,
       c .before .before .put-tap .kept .1 .1 .1 .1 .0 ∙ l .inv .1,
-      taps-step (a .fs .now) (a .ws .now) (a .count) (a .positions .now) (l .k) (l .taps) _ _
+      taps-step (a .candidate-floats .now) (a .candidate-words .now) (a .count) (a .positions .now) (l .k) (l .taps) _ _
           (c .before .before .before .before .before .loop-test .taken) (s .pre .1 .0 .room) (c .before .before .put-tap .ensures) (l .inv .2),
     )
 
@@ -55,7 +55,7 @@ returns c =
     let s = c .before .before .before .before .before .before in
     let a = s .args in
     let l = c .before .loop in
-    taps-done (a .fs .now) (a .ws .now) (a .count) (a .positions .now) (l .k) (l .taps) _ (c .loop-test .left) (s .pre .1 .0 .room) (l .inv .2)
+    taps-done (a .candidate-floats .now) (a .candidate-words .now) (a .count) (a .positions .now) (l .k) (l .taps) _ (c .loop-test .left) (s .pre .1 .0 .room) (l .inv .2)
 
 pub put-taps-spec : {M : Type 1} → statement M
 put-taps-spec =

@@ -35,8 +35,8 @@ put-taps-requires c κs =
     let k = c .before .before .before .before .before .before .before .before .before .before .before .rank-reflections .ensures in (
       p .sortable .rows,
       (
-        pointing (a .speed) (a .rate) (a .limit) (a .n) (a .images) (a .fs .now) (a .ws .now) (c .before .before .before .before .before .before .before .before .before .before .before .before .before .before .before .before .before .before .fresh-positions .result) _ _ (p .few) (p .sendable) k,
-        fewer (a .speed) (a .rate) (a .limit) (a .n) (a .images) (a .fs .now) (a .ws .now) (c .before .before .before .before .before .before .before .before .before .before .before .before .before .before .before .before .before .before .fresh-positions .result) _ _ (p .few) (p .sendable) k (c .before .before .before .before .before .before .before .before .before .before .before .before .before .before .before .before .before .fresh-taps .result) (exactly (c .before .before .before .before .before .before .before .before .before .before .before .before .before .before .before .before .before .fresh-taps .ensures)),
+        pointing (a .speed) (a .rate) (a .limit) (a .n) (a .images) (a .candidate-floats .now) (a .candidate-words .now) (c .before .before .before .before .before .before .before .before .before .before .before .before .before .before .before .before .before .before .fresh-positions .result) _ _ (p .few) (p .sendable) k,
+        fewer (a .speed) (a .rate) (a .limit) (a .n) (a .images) (a .candidate-floats .now) (a .candidate-words .now) (c .before .before .before .before .before .before .before .before .before .before .before .before .before .before .before .before .before .before .fresh-positions .result) _ _ (p .few) (p .sendable) k (c .before .before .before .before .before .before .before .before .before .before .before .before .before .before .before .before .before .fresh-taps .result) (exactly (c .before .before .before .before .before .before .before .before .before .before .before .before .before .before .before .before .before .fresh-taps .ensures)),
       ),
     )
 
@@ -47,7 +47,7 @@ returns : tie.Need-returns
 returns c =
     let a = c .before .before .before .before .before .before .before .before .before .before .before .before .before .before .before .before .before .before .before .before .before .before .before .before .before .before .before .before .before .before .before .before .before .before .args in
     let p = c .before .before .before .before .before .before .before .before .before .before .before .before .before .before .before .before .before .before .before .before .before .before .before .before .before .before .before .before .before .before .before .before .before .before .pre in
-    ended (a .speed) (a .rate) (a .limit) (a .n) (a .images) (a .fs .now) (a .ws .now) (c .before .before .before .before .before .before .before .before .before .before .before .before .before .before .before .before .before .before .before .before .before .before .before .before .before .before .fresh-positions .result) _ _ (p .few) (p .sendable)
+    ended (a .speed) (a .rate) (a .limit) (a .n) (a .images) (a .candidate-floats .now) (a .candidate-words .now) (c .before .before .before .before .before .before .before .before .before .before .before .before .before .before .before .before .before .before .before .before .before .before .before .before .before .before .fresh-positions .result) _ _ (p .few) (p .sendable)
     (c .before .before .before .before .before .before .before .before .before .before .before .before .before .before .before .before .before .before .before .rank-reflections .ensures)
     (c .before .before .before .before .before .before .before .before .before .before .before .before .before .before .before .before .before .before .before .before .before .before .before .before .before .fresh-taps .result) _ (exactly (c .before .before .before .before .before .before .before .before .before .before .before .before .before .before .before .before .before .before .before .before .before .before .before .before .before .fresh-taps .ensures))
     (c .before .before .before .before .before .before .before .put-taps .kept .1 .1 .1 .1 .1 .0)

@@ -43,7 +43,7 @@ pub +trace-spec : {M : Type 1} → statement M
     let a = c .before .before .before .before .before .args in
     let H = c .before .before .before .before .before .pre .1 .0 in
     let here = c .before .before .before .before .before .pre .1 .1 .0 in
-    λ tri h ahead hit. law.trace-none slabOf tri (a .way .ray) (a .padded .now) (a .nodes .now) (a .perm .now) (a .fuel) (a .i) (a .best) (c .if1 .taken))
+    λ tri h ahead hit. law.trace-none slabOf tri (a .way .ray) (a .padded .now) (a .nodes .now) (a .leaf-order .now) (a .fuel) (a .i) (a .best) (c .if1 .taken))
     (λ c. let z = c .if1 .left in omega arith)
     (λ c κs.
     let a = c .before .before .before .before .before .args in
@@ -56,7 +56,7 @@ pub +trace-spec : {M : Type 1} → statement M
     let here = c .before .before .before .before .before .before .before .before .pre .1 .1 .0 in
     let e = c .before .before .links-at .ensures in
     let none : linksAtOf (a .nodes .now) (a .i) .len ≡ 0 = sym (ap (λ (k : Links). k .len) e) ∙ c .if2 .taken in
-    let ch = law.children (a .nodes .now) (a .count) (a .i) (length (a .perm .now)) (H .sound) here none in
+    let ch = law.children (a .nodes .now) (a .count) (a .i) (length (a .leaf-order .now)) (H .sound) here none in
     let el = ap (λ (k : Links). k .left) e in
     let er = ap (λ (k : Links). k .right) e in
     let boxes = H .boxes-room in
@@ -67,14 +67,14 @@ pub +trace-spec : {M : Type 1} → statement M
     let here = c .before .before .before .before .before .before .before .before .before .before .before .pre .1 .1 .0 in
     let e = c .before .before .before .before .before .links-at .ensures in
     let none : linksAtOf (a .nodes .now) (a .i) .len ≡ 0 = sym (ap (λ (k : Links). k .len) e) ∙ c .before .before .before .if2 .taken in
-    let ch = law.children (a .nodes .now) (a .count) (a .i) (length (a .perm .now)) (H .sound) here none in
+    let ch = law.children (a .nodes .now) (a .count) (a .i) (length (a .leaf-order .now)) (H .sound) here none in
     let el = ap (λ (k : Links). k .left) e in
     let er = ap (λ (k : Links). k .right) e in
     let boxes = H .boxes-room in
     λ tri h ahead hit.
-    let on : ℕ → Closest → Closest = λ j. traceOf slabOf tri (a .way .ray) (treeAtOf (a .padded .now) (a .nodes .now) (a .perm .now) (a .fuel - 1) j) in
+    let on : ℕ → Closest → Closest = λ j. traceOf slabOf tri (a .way .ray) (treeAtOf (a .padded .now) (a .nodes .now) (a .leaf-order .now) (a .fuel - 1) j) in
     let w = c .before .before .order-at .result in
-    let whole = law.trace-node slabOf tri (a .way .ray) (a .padded .now) (a .nodes .now) (a .perm .now) (a .fuel) (a .i) (a .best) (c .before .before .before .before .before .before .if1 .left) hit none w (rw e at (c .before .before .order-at .ensures .0 ahead)) in
+    let whole = law.trace-node slabOf tri (a .way .ray) (a .padded .now) (a .nodes .now) (a .leaf-order .now) (a .fuel) (a .i) (a .best) (c .before .before .before .before .before .before .if1 .left) hit none w (rw e at (c .before .before .order-at .ensures .0 ahead)) in
     law.turns-none w on (a .best) (c .if3 .taken) ∙ whole)
     (λ c κs.
     let a = c .before .before .before .before .before .before .before .before .before .before .before .args in
@@ -82,7 +82,7 @@ pub +trace-spec : {M : Type 1} → statement M
     let here = c .before .before .before .before .before .before .before .before .before .before .before .pre .1 .1 .0 in
     let e = c .before .before .before .before .before .links-at .ensures in
     let none : linksAtOf (a .nodes .now) (a .i) .len ≡ 0 = sym (ap (λ (k : Links). k .len) e) ∙ c .before .before .before .if2 .taken in
-    let ch = law.children (a .nodes .now) (a .count) (a .i) (length (a .perm .now)) (H .sound) here none in
+    let ch = law.children (a .nodes .now) (a .count) (a .i) (length (a .leaf-order .now)) (H .sound) here none in
     let el = ap (λ (k : Links). k .left) e in
     let er = ap (λ (k : Links). k .right) e in
     let boxes = H .boxes-room in
@@ -96,14 +96,14 @@ pub +trace-spec : {M : Type 1} → statement M
     let here = c .before .before .before .before .before .before .before .before .before .before .before .before .before .before .pre .1 .1 .0 in
     let e = c .before .before .before .before .before .before .before .before .links-at .ensures in
     let none : linksAtOf (a .nodes .now) (a .i) .len ≡ 0 = sym (ap (λ (k : Links). k .len) e) ∙ c .before .before .before .before .before .before .if2 .taken in
-    let ch = law.children (a .nodes .now) (a .count) (a .i) (length (a .perm .now)) (H .sound) here none in
+    let ch = law.children (a .nodes .now) (a .count) (a .i) (length (a .leaf-order .now)) (H .sound) here none in
     let el = ap (λ (k : Links). k .left) e in
     let er = ap (λ (k : Links). k .right) e in
     let boxes = H .boxes-room in
     λ tri h ahead hit.
-    let on : ℕ → Closest → Closest = λ j. traceOf slabOf tri (a .way .ray) (treeAtOf (a .padded .now) (a .nodes .now) (a .perm .now) (a .fuel - 1) j) in
+    let on : ℕ → Closest → Closest = λ j. traceOf slabOf tri (a .way .ray) (treeAtOf (a .padded .now) (a .nodes .now) (a .leaf-order .now) (a .fuel - 1) j) in
     let w = c .before .before .before .before .before .order-at .result in
-    let whole = law.trace-node slabOf tri (a .way .ray) (a .padded .now) (a .nodes .now) (a .perm .now) (a .fuel) (a .i) (a .best) (c .before .before .before .before .before .before .before .before .before .if1 .left) hit none w (rw e at (c .before .before .before .before .before .order-at .ensures .0 ahead)) in
+    let whole = law.trace-node slabOf tri (a .way .ray) (a .padded .now) (a .nodes .now) (a .leaf-order .now) (a .fuel) (a .i) (a .best) (c .before .before .before .before .before .before .before .before .before .if1 .left) hit none w (rw e at (c .before .before .before .before .before .order-at .ensures .0 ahead)) in
     c .before .before .trace .ensures tri h ahead (c .before .before .before .before .before .order-at .ensures .1 .0 ahead (c .before .before .before .if3 .left)) ∙ law.turns-one w on (a .best) (c .before .before .before .if3 .left) (c .if4 .taken) ∙ whole)
     (λ c.
     let a = c .before .before .before .before .before .before .before .before .before .before .before .before .before .before .before .before .before .args in
@@ -112,15 +112,15 @@ pub +trace-spec : {M : Type 1} → statement M
     let e = c .before .before .before .before .before .before .before .before .before .before .before .links-at .ensures in
     let none : linksAtOf (a .nodes .now) (a .i) .len ≡ 0 = sym (ap (λ (k : Links). k .len) e) ∙ c .before .before .before .before .before .before .before .before .before .if2 .taken in
     λ tri h ahead hit.
-    let on : ℕ → Closest → Closest = λ j. traceOf slabOf tri (a .way .ray) (treeAtOf (a .padded .now) (a .nodes .now) (a .perm .now) (a .fuel - 1) j) in
+    let on : ℕ → Closest → Closest = λ j. traceOf slabOf tri (a .way .ray) (treeAtOf (a .padded .now) (a .nodes .now) (a .leaf-order .now) (a .fuel - 1) j) in
     let w = c .before .before .before .before .before .before .before .before .order-at .result in
     let one = c .before .before .before .before .before .trace .result in
     let two = c .before .before .before .before .before .before .if3 .left in
-    let whole = law.trace-node slabOf tri (a .way .ray) (a .padded .now) (a .nodes .now) (a .perm .now) (a .fuel) (a .i) (a .best) (c .before .before .before .before .before .before .before .before .before .before .before .before .if1 .left) hit none w (rw e at (c .before .before .before .before .before .before .before .before .order-at .ensures .0 ahead)) in
+    let whole = law.trace-node slabOf tri (a .way .ray) (a .padded .now) (a .nodes .now) (a .leaf-order .now) (a .fuel) (a .i) (a .best) (c .before .before .before .before .before .before .before .before .before .before .before .before .if1 .left) hit none w (rw e at (c .before .before .before .before .before .before .before .before .order-at .ensures .0 ahead)) in
     let found = c .before .before .before .before .before .trace .ensures tri h ahead (c .before .before .before .before .before .before .before .before .order-at .ensures .1 .0 ahead two) in
     let box = boxAtOf (a .padded .now) (w .second) in
-    let test = test-since tri (a .way .ray) (treeAtOf (a .padded .now) (a .nodes .now) (a .perm .now) (a .fuel - 1) (w .first)) (a .best) one found ahead box (w .far) (c .before .before .before .before .before .before .before .before .order-at .ensures .1 .1 .0 ahead two (c .before .before .before .if4 .left)) in
-    law.trace-miss slabOf tri (a .way .ray) (a .padded .now) (a .nodes .now) (a .perm .now) (a .fuel - 1) (w .second) one (test ∙ ap not (c .if5 .taken))
+    let test = test-since tri (a .way .ray) (treeAtOf (a .padded .now) (a .nodes .now) (a .leaf-order .now) (a .fuel - 1) (w .first)) (a .best) one found ahead box (w .far) (c .before .before .before .before .before .before .before .before .order-at .ensures .1 .1 .0 ahead two (c .before .before .before .if4 .left)) in
+    law.trace-miss slabOf tri (a .way .ray) (a .padded .now) (a .nodes .now) (a .leaf-order .now) (a .fuel - 1) (w .second) one (test ∙ ap not (c .if5 .taken))
     ∙ ap (λ (x : Closest). on (w .second) x) found ∙ law.turns-two w on (a .best) two (c .before .before .before .if4 .left) ∙ whole)
     (λ c κs.
     let a = c .before .before .before .before .before .before .before .before .before .before .before .before .before .before .before .before .before .args in
@@ -128,7 +128,7 @@ pub +trace-spec : {M : Type 1} → statement M
     let here = c .before .before .before .before .before .before .before .before .before .before .before .before .before .before .before .before .before .pre .1 .1 .0 in
     let e = c .before .before .before .before .before .before .before .before .before .before .before .links-at .ensures in
     let none : linksAtOf (a .nodes .now) (a .i) .len ≡ 0 = sym (ap (λ (k : Links). k .len) e) ∙ c .before .before .before .before .before .before .before .before .before .if2 .taken in
-    let ch = law.children (a .nodes .now) (a .count) (a .i) (length (a .perm .now)) (H .sound) here none in
+    let ch = law.children (a .nodes .now) (a .count) (a .i) (length (a .leaf-order .now)) (H .sound) here none in
     let el = ap (λ (k : Links). k .left) e in
     let er = ap (λ (k : Links). k .right) e in
     let boxes = H .boxes-room in
@@ -143,15 +143,15 @@ pub +trace-spec : {M : Type 1} → statement M
     let e = c .before .before .before .before .before .before .before .before .before .before .before .before .links-at .ensures in
     let none : linksAtOf (a .nodes .now) (a .i) .len ≡ 0 = sym (ap (λ (k : Links). k .len) e) ∙ c .before .before .before .before .before .before .before .before .before .before .if2 .taken in
     λ tri h ahead hit.
-    let on : ℕ → Closest → Closest = λ j. traceOf slabOf tri (a .way .ray) (treeAtOf (a .padded .now) (a .nodes .now) (a .perm .now) (a .fuel - 1) j) in
+    let on : ℕ → Closest → Closest = λ j. traceOf slabOf tri (a .way .ray) (treeAtOf (a .padded .now) (a .nodes .now) (a .leaf-order .now) (a .fuel - 1) j) in
     let w = c .before .before .before .before .before .before .before .before .before .order-at .result in
     let one = c .before .before .before .before .before .before .trace .result in
     let two = c .before .before .before .before .before .before .before .if3 .left in
-    let whole = law.trace-node slabOf tri (a .way .ray) (a .padded .now) (a .nodes .now) (a .perm .now) (a .fuel) (a .i) (a .best) (c .before .before .before .before .before .before .before .before .before .before .before .before .before .if1 .left) hit none w (rw e at (c .before .before .before .before .before .before .before .before .before .order-at .ensures .0 ahead)) in
+    let whole = law.trace-node slabOf tri (a .way .ray) (a .padded .now) (a .nodes .now) (a .leaf-order .now) (a .fuel) (a .i) (a .best) (c .before .before .before .before .before .before .before .before .before .before .before .before .before .if1 .left) hit none w (rw e at (c .before .before .before .before .before .before .before .before .before .order-at .ensures .0 ahead)) in
     let found = c .before .before .before .before .before .before .trace .ensures tri h ahead (c .before .before .before .before .before .before .before .before .before .order-at .ensures .1 .0 ahead two) in
     let box = boxAtOf (a .padded .now) (w .second) in
-    let test = test-since tri (a .way .ray) (treeAtOf (a .padded .now) (a .nodes .now) (a .perm .now) (a .fuel - 1) (w .first)) (a .best) one found ahead box (w .far) (c .before .before .before .before .before .before .before .before .before .order-at .ensures .1 .1 .0 ahead two (c .before .before .before .before .if4 .left)) in
-    let later = ahead-since tri (a .way .ray) (treeAtOf (a .padded .now) (a .nodes .now) (a .perm .now) (a .fuel - 1) (w .first)) (a .best) one found ahead in
+    let test = test-since tri (a .way .ray) (treeAtOf (a .padded .now) (a .nodes .now) (a .leaf-order .now) (a .fuel - 1) (w .first)) (a .best) one found ahead box (w .far) (c .before .before .before .before .before .before .before .before .before .order-at .ensures .1 .1 .0 ahead two (c .before .before .before .before .if4 .left)) in
+    let later = ahead-since tri (a .way .ray) (treeAtOf (a .padded .now) (a .nodes .now) (a .leaf-order .now) (a .fuel - 1) (w .first)) (a .best) one found ahead in
     c .trace2 .ensures tri h later (test ∙ ap not (c .before .if5 .left)) ∙ ap (λ (x : Closest). on (w .second) x) found ∙ law.turns-two w on (a .best) two (c .before .before .before .before .if4 .left) ∙ whole)
     (λ c κs.
     let a = c .before .before .before .before .before .before .before .before .args in
@@ -159,11 +159,11 @@ pub +trace-spec : {M : Type 1} → statement M
     let here = c .before .before .before .before .before .before .before .before .pre .1 .1 .0 in
     let e = c .before .before .links-at .ensures in
     let some : linksAtOf (a .nodes .now) (a .i) .len ≡ 0 → ⊥ = rw e at (c .if2 .left) in
-    (H .rows-room, rw e (law.triangles (a .nodes .now) (a .count) (a .i) (length (a .perm .now)) (H .sound) here some)))
+    (H .rows-room, rw e (law.triangles (a .nodes .now) (a .count) (a .i) (length (a .leaf-order .now)) (H .sound) here some)))
     (λ c.
     let a = c .before .before .before .before .before .before .before .before .before .args in
     let H = c .before .before .before .before .before .before .before .before .before .pre .1 .0 in
     let here = c .before .before .before .before .before .before .before .before .before .pre .1 .1 .0 in
     let e = c .before .before .before .links-at .ensures in
     let some : linksAtOf (a .nodes .now) (a .i) .len ≡ 0 → ⊥ = rw e at (c .before .if2 .left) in
-    λ tri h ahead hit. rw e at (c .visit-leaf .ensures tri h) ∙ law.trace-leaf slabOf tri (a .way .ray) (a .padded .now) (a .nodes .now) (a .perm .now) (a .fuel) (a .i) (a .best) (c .before .before .before .before .if1 .left) hit some)
+    λ tri h ahead hit. rw e at (c .visit-leaf .ensures tri h) ∙ law.trace-leaf slabOf tri (a .way .ray) (a .padded .now) (a .nodes .now) (a .leaf-order .now) (a .fuel) (a .i) (a .best) (c .before .before .before .before .if1 .left) hit some)

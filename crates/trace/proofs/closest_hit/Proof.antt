@@ -16,7 +16,7 @@ use Rattle.trace.proofs.closest_hit.Tie as tie
 returns : tie.Need-returns
 returns c =
     let a = c .before .before .before .before .before .before .args in
-    λ tri h. sym (trace-lost slabOf tri (a .ray) (none (a .ray)) (subst T (sym (c .if1 .taken)) tt) (treeAtOf (a .padded .now) (a .nodes .now) (a .perm .now) 33 0))
+    λ tri h. sym (trace-lost slabOf tri (a .ray) (none (a .ray)) (subst T (sym (c .if1 .taken)) tt) (treeAtOf (a .padded .now) (a .nodes .now) (a .leaf-order .now) 33 0))
 
 box-at-requires : tie.Need-box-at-requires
 box-at-requires c κs =
@@ -50,7 +50,7 @@ returns-3 c =
     let way = c .before .before .before .way-of .ensures in
     let e : entered (slabOf (boxAtOf (a .padded .now) 0) (a .ray) (a .ray .«max_distance»)) ≡ false =
     ap (λ (v : Aabb). entered (slabOf v (a .ray) (a .ray .«max_distance»))) (sym (c .before .before .box-at .ensures)) ∙ sym (rw way at (c .before .enters .ensures) (c .before .before .before .before .if1 .left)) ∙ c .if2 .left in
-    λ tri h. law.trace-miss slabOf tri (a .ray) (a .padded .now) (a .nodes .now) (a .perm .now) 33 0 (none (a .ray)) e
+    λ tri h. law.trace-miss slabOf tri (a .ray) (a .padded .now) (a .nodes .now) (a .leaf-order .now) 33 0 (none (a .ray)) e
 
 pub closest-hit-spec : {M : Type 1} → statement M
 closest-hit-spec =

@@ -49,10 +49,10 @@ loop-again c =
     let s = c .before .before .before .before .before .loop .inv .0 in (
       omega arith,
       λ tri h.
-          let e : c .visit .result ≡ visitOf (tri (getD (a .perm .now) k 0)) (a .ray) (getD (a .perm .now) k 0) (c .before .before .before .before .before .loop .closest) =
-          c .visit .ensures ∙ rw (c .before .before .corner-at .ensures, c .before .edges-at .ensures) (law.visit-row (tri (getD (a .perm .now) k 0)) (a .rows .now) k (getD (a .perm .now) k 0) (a .ray) (c .before .before .before .before .before .loop .closest) (h k (omega arith))) in
-          ap (visitAllOf tri (a .ray) (take (a .start + a .len - (k + 1)) (drop (k + 1) (a .perm .now)))) e
-          ∙ sym (law.visit-step tri (a .ray) (a .perm .now) k (a .start + a .len) (c .before .before .before .before .before .loop .closest) t (p .1)) ∙ c .before .before .before .before .before .loop .inv .1 tri h,
+          let e : c .visit .result ≡ visitOf (tri (getD (a .leaf-order .now) k 0)) (a .ray) (getD (a .leaf-order .now) k 0) (c .before .before .before .before .before .loop .closest) =
+          c .visit .ensures ∙ rw (c .before .before .corner-at .ensures, c .before .edges-at .ensures) (law.visit-row (tri (getD (a .leaf-order .now) k 0)) (a .leaves .now) k (getD (a .leaf-order .now) k 0) (a .ray) (c .before .before .before .before .before .loop .closest) (h k (omega arith))) in
+          ap (visitAllOf tri (a .ray) (take (a .start + a .len - (k + 1)) (drop (k + 1) (a .leaf-order .now)))) e
+          ∙ sym (law.visit-step tri (a .ray) (a .leaf-order .now) k (a .start + a .len) (c .before .before .before .before .before .loop .closest) t (p .1)) ∙ c .before .before .before .before .before .loop .inv .1 tri h,
     )
 
 returns : tie.Need-returns Inv-loop μ-loop
@@ -60,9 +60,9 @@ returns c =
     let a = c .before .before .before .before .args in
     let p = c .before .before .before .before .pre in
     λ tri h.
-    sym (law.visit-done tri (a .ray) (a .perm .now) (c .before .loop .k) (a .start + a .len) (c .before .loop .closest) (c .loop-test .left))
+    sym (law.visit-done tri (a .ray) (a .leaf-order .now) (c .before .loop .k) (a .start + a .len) (c .before .loop .closest) (c .loop-test .left))
     ∙ c .before .loop .inv .1 tri h
-    ∙ ap (λ (j : ℕ). visitAllOf tri (a .ray) (take j (drop (a .start) (a .perm .now))) (a .best)) {x = a .start + a .len - a .start} {y = a .len} (omega arith)
+    ∙ ap (λ (j : ℕ). visitAllOf tri (a .ray) (take j (drop (a .start) (a .leaf-order .now))) (a .best)) {x = a .start + a .len - a .start} {y = a .len} (omega arith)
 
 pub visit-leaf-spec : {M : Type 1} → statement M
 visit-leaf-spec =

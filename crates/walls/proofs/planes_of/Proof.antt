@@ -29,7 +29,7 @@ same-length-2 c = c .before .before .before .before .before .before .before .loa
 returns : tie.Need-returns
 returns c = let a = c .before .before .before .before .before .before .before .before .before .before .before .before .before .before .before .before .before .before .before .before .before .before .before .before .before .before .before .before .before .before .before .before .before .before .args in let st = a .settings in let g = c .before .before .before .before .before .before .before .load-scene in let f = c .before .before .front-of in
     let s = scene (a .meshes .now) (a .transforms .now) (a .positions .now) (a .indices .now) (a .materials .now) (a .rows-count) in
-    let areas = work (a .columns .now) (a .handles .now) (a .tree .now) (a .nodes .now) (a .perm .now) (a .hi .now) (a .lo .now) (a .words .now) (a .scratch .now) (a .index .now) (a .id .now) (a .linked .now) (a .queue .now) (a .starts .now) (a .gfloats .now) (a .members .now) (a .rows .now) (a .kept .now) (a .edges .now) in
+    let areas = work (a .triangles .now) (a .handles .now) (a .tree .now) (a .nodes .now) (a .leaf-order .now) (a .keys .now) (a .low-keys .now) (a .words .now) (a .scratch .now) (a .index .now) (a .numbers .now) (a .adjacency .now) (a .queue .now) (a .offsets .now) (a .floats .now) (a .plane-triangles .now) (a .plane-floats .now) (a .plane-words .now) (a .plane-edges .now) in
     let lens = lensOf areas in
     let k = firstRefusal st (a .c) s lens in
     let l = g .ensures in
@@ -47,7 +47,7 @@ returns c = let a = c .before .before .before .before .before .before .before .b
 clear-from-requires : tie.Need-clear-from-requires
 clear-from-requires c κs = let a = c .before .before .before .before .before .before .before .before .before .before .before .before .before .before .before .before .before .before .before .before .before .before .before .before .before .before .before .before .before .before .before .before .before .before .before .args in let st = a .settings in let g = c .before .before .before .before .before .before .before .before .load-scene in let f = c .before .before .before .front-of in
     let s = scene (a .meshes .now) (a .transforms .now) (a .positions .now) (a .indices .now) (a .materials .now) (a .rows-count) in
-    let areas = work (a .columns .now) (a .handles .now) (a .tree .now) (a .nodes .now) (a .perm .now) (a .hi .now) (a .lo .now) (a .words .now) (a .scratch .now) (a .index .now) (a .id .now) (a .linked .now) (a .queue .now) (a .starts .now) (a .gfloats .now) (a .members .now) (a .rows .now) (a .kept .now) (a .edges .now) in
+    let areas = work (a .triangles .now) (a .handles .now) (a .tree .now) (a .nodes .now) (a .leaf-order .now) (a .keys .now) (a .low-keys .now) (a .words .now) (a .scratch .now) (a .index .now) (a .numbers .now) (a .adjacency .now) (a .queue .now) (a .offsets .now) (a .floats .now) (a .plane-triangles .now) (a .plane-floats .now) (a .plane-words .now) (a .plane-edges .now) in
     let lens = lensOf areas in
     let k = firstRefusal st (a .c) s lens in
     let l = g .ensures in
@@ -55,15 +55,15 @@ clear-from-requires c κs = let a = c .before .before .before .before .before .b
     let some = pos-of-ne-zero (c .before .if1 .left) in
     let none = unrefused (f .result .refusal) (f .result .kept) (none-kept k s (g .result) (f .result) (l .answer) (f .ensures)) some in
     let fr = fronted k s (g .result) (f .result) (l .answer) (f .ensures) (sym is ∙ none) in
-    let there = loaded st (a .c) s lens (a .columns .now) (a .handles .now) (g .result) (g .last .1 .1 .1 .1 .1 .1 .1 .1 .1 .0) (g .last .1 .1 .1 .1 .1 .1 .1 .1 .1 .1 .0) (f .result .kept) (placings s) (f .result .triples) (fr .loaded) l in
-    let acc = loaded-accepted st (a .c) s lens (a .columns .now) (a .handles .now) (g .result) (g .last .1 .1 .1 .1 .1 .1 .1 .1 .1 .0) (g .last .1 .1 .1 .1 .1 .1 .1 .1 .1 .1 .0) (f .result .kept) (placings s) (f .result .triples) l (fr .loaded) in
+    let there = loaded st (a .c) s lens (a .triangles .now) (a .handles .now) (g .result) (g .last .1 .1 .1 .1 .1 .1 .1 .1 .1 .0) (g .last .1 .1 .1 .1 .1 .1 .1 .1 .1 .1 .0) (f .result .kept) (placings s) (f .result .triples) (fr .loaded) l in
+    let acc = loaded-accepted st (a .c) s lens (a .triangles .now) (a .handles .now) (g .result) (g .last .1 .1 .1 .1 .1 .1 .1 .1 .1 .0) (g .last .1 .1 .1 .1 .1 .1 .1 .1 .1 .1 .0) (f .result .kept) (placings s) (f .result .triples) l (fr .loaded) in
     let room = acc .room in
     let lim = limits s (g .last .1 .1 .1 .1 .1 .1 .1 .1 .1 .0) (g .last .1 .1 .1 .1 .1 .1 .1 .1 .1 .1 .0) (f .result .triples) (f .result .kept) there in omega (arith, lim .fewer, g .kept .1 .1 .1 .1 .1 .1 .1 .1 .1 .1 .0, room .handles-room)
 
 build-scene-requires : tie.Need-build-scene-requires
 build-scene-requires c κs = let a = c .before .before .before .before .before .before .before .before .before .before .before .before .before .before .before .before .before .before .before .before .before .before .before .before .before .before .before .before .before .before .before .before .before .before .before .before .before .before .before .before .before .before .before .before .before .before .before .before .before .before .before .before .before .before .before .before .before .args in let st = a .settings in let g = c .before .before .before .before .before .before .before .before .before .before .before .before .before .before .before .before .before .before .before .before .before .before .before .before .before .before .before .before .before .before .load-scene in let f = c .before .before .before .before .before .before .before .before .before .before .before .before .before .before .before .before .before .before .before .before .before .before .before .before .before .front-of in
     let s = scene (a .meshes .now) (a .transforms .now) (a .positions .now) (a .indices .now) (a .materials .now) (a .rows-count) in
-    let areas = work (a .columns .now) (a .handles .now) (a .tree .now) (a .nodes .now) (a .perm .now) (a .hi .now) (a .lo .now) (a .words .now) (a .scratch .now) (a .index .now) (a .id .now) (a .linked .now) (a .queue .now) (a .starts .now) (a .gfloats .now) (a .members .now) (a .rows .now) (a .kept .now) (a .edges .now) in
+    let areas = work (a .triangles .now) (a .handles .now) (a .tree .now) (a .nodes .now) (a .leaf-order .now) (a .keys .now) (a .low-keys .now) (a .words .now) (a .scratch .now) (a .index .now) (a .numbers .now) (a .adjacency .now) (a .queue .now) (a .offsets .now) (a .floats .now) (a .plane-triangles .now) (a .plane-floats .now) (a .plane-words .now) (a .plane-edges .now) in
     let lens = lensOf areas in
     let k = firstRefusal st (a .c) s lens in
     let l = g .ensures in
@@ -71,8 +71,8 @@ build-scene-requires c κs = let a = c .before .before .before .before .before .
     let some = pos-of-ne-zero (c .before .before .before .before .before .before .before .before .before .before .before .before .before .before .before .before .before .before .before .before .before .before .before .if1 .left) in
     let none = unrefused (f .result .refusal) (f .result .kept) (none-kept k s (g .result) (f .result) (l .answer) (f .ensures)) some in
     let fr = fronted k s (g .result) (f .result) (l .answer) (f .ensures) (sym is ∙ none) in
-    let there = loaded st (a .c) s lens (a .columns .now) (a .handles .now) (g .result) (g .last .1 .1 .1 .1 .1 .1 .1 .1 .1 .0) (g .last .1 .1 .1 .1 .1 .1 .1 .1 .1 .1 .0) (f .result .kept) (placings s) (f .result .triples) (fr .loaded) l in
-    let acc = loaded-accepted st (a .c) s lens (a .columns .now) (a .handles .now) (g .result) (g .last .1 .1 .1 .1 .1 .1 .1 .1 .1 .0) (g .last .1 .1 .1 .1 .1 .1 .1 .1 .1 .1 .0) (f .result .kept) (placings s) (f .result .triples) l (fr .loaded) in
+    let there = loaded st (a .c) s lens (a .triangles .now) (a .handles .now) (g .result) (g .last .1 .1 .1 .1 .1 .1 .1 .1 .1 .0) (g .last .1 .1 .1 .1 .1 .1 .1 .1 .1 .1 .0) (f .result .kept) (placings s) (f .result .triples) (fr .loaded) l in
+    let acc = loaded-accepted st (a .c) s lens (a .triangles .now) (a .handles .now) (g .result) (g .last .1 .1 .1 .1 .1 .1 .1 .1 .1 .0) (g .last .1 .1 .1 .1 .1 .1 .1 .1 .1 .1 .0) (f .result .kept) (placings s) (f .result .triples) l (fr .loaded) in
     let room = acc .room in
     let lim = limits s (g .last .1 .1 .1 .1 .1 .1 .1 .1 .1 .0) (g .last .1 .1 .1 .1 .1 .1 .1 .1 .1 .1 .0) (f .result .triples) (f .result .kept) there in let d = c .before .before .before .before .before .before .before .before .before .before .before .before .before .before .before .before .before .before .before .before .before .clear-from in
     record {
@@ -81,23 +81,23 @@ build-scene-requires c κs = let a = c .before .before .before .before .before .
       loaded = there;
       cleared = d .ensures;
       some = some;
-      lent = record { few = omega (arith, lim .most); some = lim .fewer; columns = omega (arith, g .kept .1 .1 .1 .1 .1 .1 .1 .1 .1 .0, room .columns-room); named = omega (arith, d .kept .0, g .kept .1 .1 .1 .1 .1 .1 .1 .1 .1 .1 .0, room .handles-room) };
-      for-tree = record { tree-room = room .tree-room; nodes-room = room .nodes-room; perm-room = room .perm-room };
+      lent = record { few = omega (arith, lim .most); some = lim .fewer; columns = omega (arith, g .kept .1 .1 .1 .1 .1 .1 .1 .1 .1 .0, room .triangles-room); named = omega (arith, d .kept .0, g .kept .1 .1 .1 .1 .1 .1 .1 .1 .1 .1 .0, room .handles-room) };
+      for-tree = record { tree-room = room .tree-room; nodes-room = room .nodes-room; leaf-order-room = room .leaf-order-room };
       for-planes = record {
-        hi-room = omega (arith, room .hi-room);
-        lo-room = room .lo-room;
+        keys-room = omega (arith, room .keys-room);
+        low-keys-room = room .low-keys-room;
         words-room = omega (arith, room .words-room);
         scratch-room = omega (arith, room .scratch-room);
         index-room = room .index-room;
-        id-room = omega (arith, room .id-room);
-        linked-room = omega (arith, room .linked-room);
+        numbers-room = omega (arith, room .numbers-room);
+        adjacency-room = omega (arith, room .adjacency-room);
         queue-room = omega (arith, room .queue-room);
-        starts-room = omega (arith, room .starts-room);
-        members-room = omega (arith, room .members-room);
-        kept-room = room .kept-room;
-        rows-room = room .rows-room;
-        gfloats-room = omega (arith, room .gfloats-room);
-        edges-room = omega (arith, room .edges-room);
+        offsets-room = omega (arith, room .offsets-room);
+        plane-triangles-room = omega (arith, room .plane-triangles-room);
+        plane-words-room = room .plane-words-room;
+        plane-floats-room = room .plane-floats-room;
+        floats-room = omega (arith, room .floats-room);
+        plane-edges-room = omega (arith, room .plane-edges-room);
       };
     }
 
@@ -161,7 +161,7 @@ same-length-21 c = c .before .before .before .before .before .before .before .be
 returns-2 : tie.Need-returns-2
 returns-2 c = let a = c .before .before .before .before .before .before .before .before .before .before .before .before .before .before .before .before .before .before .before .before .before .before .before .before .before .before .before .before .before .before .before .before .before .before .before .before .before .before .before .before .before .before .before .before .before .before .before .before .before .before .before .before .before .before .before .before .before .before .before .before .before .before .before .before .before .before .before .before .before .before .before .before .before .before .before .before .before .before .before .before .before .before .before .before .before .before .before .before .before .before .before .before .args in let st = a .settings in let g = c .before .before .before .before .before .before .before .before .before .before .before .before .before .before .before .before .before .before .before .before .before .before .before .before .before .before .before .before .before .before .before .before .before .before .before .before .before .before .before .before .before .before .before .before .before .before .before .before .before .before .before .before .before .before .before .before .before .before .before .before .before .before .before .before .before .load-scene in let f = c .before .before .before .before .before .before .before .before .before .before .before .before .before .before .before .before .before .before .before .before .before .before .before .before .before .before .before .before .before .before .before .before .before .before .before .before .before .before .before .before .before .before .before .before .before .before .before .before .before .before .before .before .before .before .before .before .before .before .before .before .front-of in
     let s = scene (a .meshes .now) (a .transforms .now) (a .positions .now) (a .indices .now) (a .materials .now) (a .rows-count) in
-    let areas = work (a .columns .now) (a .handles .now) (a .tree .now) (a .nodes .now) (a .perm .now) (a .hi .now) (a .lo .now) (a .words .now) (a .scratch .now) (a .index .now) (a .id .now) (a .linked .now) (a .queue .now) (a .starts .now) (a .gfloats .now) (a .members .now) (a .rows .now) (a .kept .now) (a .edges .now) in
+    let areas = work (a .triangles .now) (a .handles .now) (a .tree .now) (a .nodes .now) (a .leaf-order .now) (a .keys .now) (a .low-keys .now) (a .words .now) (a .scratch .now) (a .index .now) (a .numbers .now) (a .adjacency .now) (a .queue .now) (a .offsets .now) (a .floats .now) (a .plane-triangles .now) (a .plane-floats .now) (a .plane-words .now) (a .plane-edges .now) in
     let lens = lensOf areas in
     let k = firstRefusal st (a .c) s lens in
     let l = g .ensures in
@@ -169,8 +169,8 @@ returns-2 c = let a = c .before .before .before .before .before .before .before 
     let some = pos-of-ne-zero (c .before .before .before .before .before .before .before .before .before .before .before .before .before .before .before .before .before .before .before .before .before .before .before .before .before .before .before .before .before .before .before .before .before .before .before .before .before .before .before .before .before .before .before .before .before .before .before .before .before .before .before .before .before .before .before .before .before .before .if1 .left) in
     let none = unrefused (f .result .refusal) (f .result .kept) (none-kept k s (g .result) (f .result) (l .answer) (f .ensures)) some in
     let fr = fronted k s (g .result) (f .result) (l .answer) (f .ensures) (sym is ∙ none) in
-    let there = loaded st (a .c) s lens (a .columns .now) (a .handles .now) (g .result) (g .last .1 .1 .1 .1 .1 .1 .1 .1 .1 .0) (g .last .1 .1 .1 .1 .1 .1 .1 .1 .1 .1 .0) (f .result .kept) (placings s) (f .result .triples) (fr .loaded) l in
-    let acc = loaded-accepted st (a .c) s lens (a .columns .now) (a .handles .now) (g .result) (g .last .1 .1 .1 .1 .1 .1 .1 .1 .1 .0) (g .last .1 .1 .1 .1 .1 .1 .1 .1 .1 .1 .0) (f .result .kept) (placings s) (f .result .triples) l (fr .loaded) in
+    let there = loaded st (a .c) s lens (a .triangles .now) (a .handles .now) (g .result) (g .last .1 .1 .1 .1 .1 .1 .1 .1 .1 .0) (g .last .1 .1 .1 .1 .1 .1 .1 .1 .1 .1 .0) (f .result .kept) (placings s) (f .result .triples) (fr .loaded) l in
+    let acc = loaded-accepted st (a .c) s lens (a .triangles .now) (a .handles .now) (g .result) (g .last .1 .1 .1 .1 .1 .1 .1 .1 .1 .0) (g .last .1 .1 .1 .1 .1 .1 .1 .1 .1 .1 .0) (f .result .kept) (placings s) (f .result .triples) l (fr .loaded) in
     let room = acc .room in let p = c .before .before .before .before .before .before .before .before .before .before .before .before .before .before .before .before .before .before .before .before .before .before .before .before .before .before .before .before .before .before .before .before .before .before .build-scene .ensures .planes-stand in let inside = within st (a .c) (acc .settings) in
     record {
       are = λ z some. p .are s (g .last .1 .1 .1 .1 .1 .1 .1 .1 .1 .1 .0) there (c .before .before .before .before .before .before .before .before .before .before .before .before .before .before .before .before .before .before .before .before .before .before .before .before .before .before .before .before .before .before .before .before .before .before .before .before .before .before .before .before .before .before .before .before .before .before .before .before .before .before .before .before .before .before .before .before .clear-from .ensures);

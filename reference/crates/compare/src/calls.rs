@@ -75,7 +75,7 @@ fn slip(left: &mut Left, kind: usize) -> bool {
         0 => a.refusal = (a.refusal + 1) % 8,
         1 if a.bytes > 9 => left.out[a.bytes - 1] ^= 1,
         2 if left.out.len() > a.bytes => left.out[a.bytes] ^= 1,
-        3 if !left.work.linked.is_empty() => left.work.linked[0] ^= 1,
+        3 if !left.work.adjacency.is_empty() => left.work.adjacency[0] ^= 1,
         4 => a.rays += 1,
         _ => return false,
     }

@@ -214,25 +214,25 @@ impl Areas {
 /// The least length of each area: so much a triple, a candidate, and more (docs/AREAS.md).
 #[rustfmt::skip]
 pub const LEAST: [[usize; 3]; AREAS] = [
-    [COLUMNS, 0, 0], // columns
+    [COLUMNS, 0, 0], // triangles
     [1, 0, 0], // handles
     [22, 0, 0], // tree
     [8, 0, 0], // nodes
-    [1, 0, 0], // perm
-    [3, 1, 0], // hi
-    [3, 0, 0], // lo
+    [1, 0, 0], // leaf_order
+    [3, 1, 0], // keys
+    [3, 0, 0], // low_keys
     [24, 1, 0], // words
     [24, 1, 0], // scratch
     [3, 0, 0], // index
-    [3, CANDIDATE_WORDS, 0], // id
-    [24, 0, 0], // linked
+    [3, CANDIDATE_WORDS, 0], // numbers
+    [24, 0, 0], // adjacency
     [3, 1, 0], // queue
-    [3, 0, 1], // starts
-    [12, CANDIDATE_FLOATS, 0], // gfloats
-    [1, 0, 1], // members
-    [12, 0, 0], // rows
-    [5, 0, 0], // kept
-    [18, 0, 0], // edges
+    [3, 0, 1], // offsets
+    [12, CANDIDATE_FLOATS, 0], // floats
+    [1, 0, 1], // plane_triangles
+    [12, 0, 0], // plane_floats
+    [5, 0, 0], // plane_words
+    [18, 0, 0], // plane_edges
     [0, 0, OUTPUT], // output
 ];
 
@@ -763,8 +763,8 @@ macro_rules! work {
 
 #[rustfmt::skip]
 work!(
-    columns: f32, handles: u32, tree: f32, nodes: u32, perm: u32, hi: u64, lo: u64, words: u64, scratch: u64, index: u32, id: u32,
-    linked: u32, queue: u32, starts: u32, gfloats: f32, members: u32, rows: f32, kept: u32, edges: f32
+    triangles: f32, handles: u32, tree: f32, nodes: u32, leaf_order: u32, keys: u64, low_keys: u64, words: u64, scratch: u64, index: u32, numbers: u32,
+    adjacency: u32, queue: u32, offsets: u32, floats: f32, plane_triangles: u32, plane_floats: f32, plane_words: u32, plane_edges: f32
 );
 
 /// What the whole call answers: a refusal of 1 to 7 with zeros, or 0 with the counts and the packet's length.
@@ -784,14 +784,14 @@ pub fn trace(l: &Lent, work: &mut Work, out: &mut [u8], source: &[f32; 3], liste
     #[rustfmt::skip]
     let refusal = unsafe {
         ffi::biv_trace_early_reflections(
-            work.columns.as_mut_ptr(), work.columns.len(), work.handles.as_mut_ptr(), work.handles.len(),
-            work.tree.as_mut_ptr(), work.tree.len(), work.nodes.as_mut_ptr(), work.nodes.len(), work.perm.as_mut_ptr(), work.perm.len(),
-            work.hi.as_mut_ptr(), work.hi.len(), work.lo.as_mut_ptr(), work.lo.len(), work.words.as_mut_ptr(), work.words.len(),
-            work.scratch.as_mut_ptr(), work.scratch.len(), work.index.as_mut_ptr(), work.index.len(), work.id.as_mut_ptr(), work.id.len(),
-            work.linked.as_mut_ptr(), work.linked.len(), work.queue.as_mut_ptr(), work.queue.len(),
-            work.starts.as_mut_ptr(), work.starts.len(), work.gfloats.as_mut_ptr(), work.gfloats.len(),
-            work.members.as_mut_ptr(), work.members.len(), work.rows.as_mut_ptr(), work.rows.len(),
-            work.kept.as_mut_ptr(), work.kept.len(), work.edges.as_mut_ptr(), work.edges.len(), out.as_mut_ptr(), out.len(),
+            work.triangles.as_mut_ptr(), work.triangles.len(), work.handles.as_mut_ptr(), work.handles.len(),
+            work.tree.as_mut_ptr(), work.tree.len(), work.nodes.as_mut_ptr(), work.nodes.len(), work.leaf_order.as_mut_ptr(), work.leaf_order.len(),
+            work.keys.as_mut_ptr(), work.keys.len(), work.low_keys.as_mut_ptr(), work.low_keys.len(), work.words.as_mut_ptr(), work.words.len(),
+            work.scratch.as_mut_ptr(), work.scratch.len(), work.index.as_mut_ptr(), work.index.len(), work.numbers.as_mut_ptr(), work.numbers.len(),
+            work.adjacency.as_mut_ptr(), work.adjacency.len(), work.queue.as_mut_ptr(), work.queue.len(),
+            work.offsets.as_mut_ptr(), work.offsets.len(), work.floats.as_mut_ptr(), work.floats.len(),
+            work.plane_triangles.as_mut_ptr(), work.plane_triangles.len(), work.plane_floats.as_mut_ptr(), work.plane_floats.len(),
+            work.plane_words.as_mut_ptr(), work.plane_words.len(), work.plane_edges.as_mut_ptr(), work.plane_edges.len(), out.as_mut_ptr(), out.len(),
             &mut found, &l.counts, &l.floats, l.room,
             l.meshes.as_ptr(), l.meshes.len(), l.transforms.as_ptr(), l.transforms.len(), l.positions.as_ptr(), l.positions.len(),
             l.indices.as_ptr(), l.indices.len(), l.materials.as_ptr(), l.materials.len(), l.rows, source, listener, separated,
