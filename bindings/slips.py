@@ -20,7 +20,7 @@ HEADER = [
     ("the flag of merging turned", "settings->plane_merge ? 1u : 0u", "settings->plane_merge ? 0u : 1u"),
     ("merge offset and buried distance exchanged", "settings->plane_merge_offset, settings->plane_buried_distance, m->", "settings->plane_buried_distance, settings->plane_merge_offset, m->"),
     ("least and greatest distance exchanged", "m->rolloff_factor, m->min_distance, m->max_distance}", "m->rolloff_factor, m->max_distance, m->min_distance}"),
-    ("a curve of another number taken", "m->curve};", "m->curve == 0 ? 0u : 1u};"),
+    ("a curve of another number taken", "m->curve},", "m->curve == 0 ? 0u : 1u},"),
     ("images for rays", "answer->rays = (uint32_t)found[2];\n    answer->bytes = found[3];", "answer->rays = (uint32_t)found[1];\n    answer->bytes = found[3];"),
     ("source and listener exchanged", "source, listener, separated);", "listener, source, separated);"),
     ("separated not handed on", "listener, separated);", "listener, separated && false);"),
@@ -28,6 +28,14 @@ HEADER = [
     ("65 taps copied", "if (answer->count <= BIV_MOST_TAPS)", "if (answer->count <= BIV_MOST_TAPS + 1)"),
     ("triples of all indices", "triples += scene->meshes[m + 1] / 3;", "triples += scene->meshes[m + 1];"),
     ("another default", "s.max_reflections = 16;", "s.max_reflections = 0;"),
+    ("the bytes of the planes turned", "source_on = on[p] != 0;", "source_on = on[p] == 0;"),
+    ("spread for area", "planes[p].area = f[11];", "planes[p].area = f[10];"),
+    ("planes one float apart", "w.plane_floats + 12 * p;", "w.plane_floats + 13 * p;"),
+    ("planes not counted", "*count = found[0];", "*count = BIV_MOST_PLANES;"),
+    ("an order of 9 handed on", "settings->max_reflection_order : BIV_MOST_ORDER;", "settings->max_reflection_order : settings->max_reflection_order;"),
+    ("the bytes not handed on", "on[p] = planes[p].source_on ? 1 : 0;", "on[p] = planes[p].source_on && false;"),
+    ("walls not counted", "walls->len = found[0];", "walls->len = BIV_MOST_ORDER;"),
+    ("257 planes taken as 256", "(uint32_t)planes : BIV_MOST_PLANES + 1, order, (const uint8_t *)biv_part(on), planes,", "(uint32_t)planes : BIV_MOST_PLANES, order, (const uint8_t *)biv_part(on), planes <= BIV_MOST_PLANES ? planes : BIV_MOST_PLANES,"),
 ]
 FUZZ = [
     ("query", "an area said to be one longer", "(uint64_t *)area[7], room[7],", "(uint64_t *)area[7], room[7] + 1,"),

@@ -47,7 +47,9 @@ enum biv_refusal {
     BIV_BYTES = 8,
     BIV_COUNTS = 9,
     BIV_NUMBERS = 10,
-    BIV_TAP_ORDER = 11
+    BIV_TAP_ORDER = 11,
+    /* of an image's number */
+    BIV_NO_IMAGE = 13
 };
 
 static inline const char *biv_refusal_text(uint32_t refusal)
@@ -65,6 +67,7 @@ static inline const char *biv_refusal_text(uint32_t refusal)
     case BIV_COUNTS: return "the packet's count, images, an order or an image number is out of range";
     case BIV_NUMBERS: return "a float of the packet is not finite, a delay or a gain not above 0";
     case BIV_TAP_ORDER: return "an image number comes twice, or the taps do not fall in squared-gain sum";
+    case BIV_NO_IMAGE: return "no image has the number, or order, planes or plane bytes are out of range";
     default: return "no refusal of this library";
     }
 }
@@ -74,6 +77,9 @@ static inline const char *biv_refusal_text(uint32_t refusal)
 #define BIV_MOST_TRIPLES 4096
 #define BIV_MOST_CANDIDATES 250000
 #define BIV_MOST_TAPS 64
+#define BIV_MOST_ORDER 8
+#define BIV_MOST_PLANES 256
+#define BIV_MOST_IMAGES 250000
 #define BIV_BANDS 8
 #define BIV_OUTPUT_BYTES 3465 /* the longest packet: 9 bytes, and 54 for each of 64 taps */
 
@@ -165,6 +171,20 @@ struct biv_tap {
     float gains[BIV_BANDS];
 };
 
+/* A plane of a scene, which a wall of a path is: its panels lie in it. */
+struct biv_plane {
+    float normal[3]; /* a unit vector */
+    float offset;    /* along it, from the origin */
+    float area;      /* of its triangles */
+    bool source_on;  /* whether the source lies on it, so that no path begins with it */
+};
+
+/* The walls of an image: the planes that its path meets, the one next to the source first, and 0 behind them. */
+struct biv_walls_met {
+    size_t len;
+    uint8_t planes[BIV_MOST_ORDER];
+};
+
 typedef char biv_tap_is_14_words[sizeof(struct biv_tap) == 14 * sizeof(uint32_t) ? 1 : -1];
 
 /* ---- the functions of the archive, which is for x86-64. A slice is a pointer, never NULL, and then a length; an array is a pointer, never NULL, to as many
@@ -183,6 +203,26 @@ uint32_t biv_packet_read(const uint8_t *bytes, size_t bytes_len, uint32_t *taps,
 /* packet/specs/Writer.antt. Answers the refusal (5, 9 to 11) or 0; found[0] is the packet's length, 0 after a refusal. */
 uint32_t biv_packet_write(size_t count, uint32_t images, uint32_t rays, const uint32_t *taps, size_t taps_len, uint8_t *out, size_t out_len,
                           size_t found[1]);
+
+/* numbering/specs/Walls.antt. From an image's number to its walls. on has a byte for each plane, 1 where the source lies on it, else 0. Answers 13 or 0; walls
+ * gets the planes and zeros behind them, found[0] how many planes they are; zeros after a refusal. */
+uint32_t biv_walls(uint32_t planes, uint32_t order, const uint8_t *on, size_t on_len, uint32_t number, uint8_t walls[BIV_MOST_ORDER], size_t found[1]);
+
+/* exports/specs/Planes.antt, PlanesEntered. The planes of a scene, built as a query builds them, and on which of them the source lies. Areas, counts,
+ * setting_floats, c and scene parts are those of biv_trace_early_reflections. Answers the refusal (1 to 6) or 0; found[0] is how many planes there
+ * are, 0 after a refusal. Plane p stands at 12 p in plane_floats: normal 0 to 2, offset 3, box 4 to 9, spread 10, area 11. on[p] is 1 where the source
+ * lies on it, else 0; behind the planes on is as it was. The other areas hold what the work left, after the refusals 1 to 5 what they held. */
+uint32_t biv_planes(float *triangles, size_t triangles_len, uint32_t *handles, size_t handles_len, float *tree, size_t tree_len,
+                    uint32_t *nodes, size_t nodes_len, uint32_t *leaf_order, size_t leaf_order_len, uint64_t *keys, size_t keys_len,
+                    uint64_t *low_keys, size_t low_keys_len, uint64_t *words, size_t words_len, uint64_t *scratch, size_t scratch_len,
+                    uint32_t *index, size_t index_len, uint32_t *numbers, size_t numbers_len, uint32_t *adjacency, size_t adjacency_len,
+                    uint32_t *queue, size_t queue_len, uint32_t *offsets, size_t offsets_len, float *floats, size_t floats_len,
+                    uint32_t *plane_triangles, size_t plane_triangles_len, float *plane_floats, size_t plane_floats_len, uint32_t *plane_words, size_t plane_words_len,
+                    float *plane_edges, size_t plane_edges_len, uint8_t on[BIV_MOST_PLANES], size_t found[1],
+                    const uint32_t counts[5], const float setting_floats[11], uint32_t c,
+                    const uint32_t *meshes, size_t meshes_len, const float *transforms, size_t transforms_len,
+                    const float *positions, size_t positions_len, const uint32_t *indices, size_t indices_len,
+                    const float *materials, size_t materials_len, uint32_t rows_count, const float source[3]);
 
 /* exports/specs/Entry.antt, Entered. From settings, scene parts and positions to the packet of taps in out. Answers the refusal, or 0. found
  * gets count, images, rays and the packet's length, zeros after a refusal. The 19 work areas come first, in the order of docs/AREAS.md,
@@ -268,6 +308,23 @@ static inline const void *biv_part(const void *part)
     return part != NULL ? part : (const void *)&nothing;
 }
 
+/* The settings as the archive takes them. */
+struct biv_numbers {
+    uint32_t counts[5];
+    float floats[11];
+};
+
+static inline struct biv_numbers biv_numbers_of(const struct biv_settings *settings)
+{
+    const struct biv_distance_model *m = &settings->distance_model;
+    const struct biv_numbers n = {{settings->max_reflection_order, settings->max_reflections, settings->max_reflection_planes,
+                                   settings->plane_merge ? 1u : 0u, m->curve},
+                                  {settings->reflection_edge_fade, settings->max_reflection_distance, settings->speed_of_sound, settings->sample_rate,
+                                   settings->plane_merge_cos, settings->plane_merge_offset, settings->plane_buried_distance, m->reference_distance,
+                                   m->rolloff_factor, m->min_distance, m->max_distance}};
+    return n;
+}
+
 /* A query: the packet of taps stands in the first answer->bytes of out. Answers the refusal or 0. c is the candidate room, 0 to 250,000; block has
  * biv_block_size(biv_triples(scene), c) bytes or more, out BIV_OUTPUT_BYTES or more: less is refused with BIV_AREAS. separated says that a wall
  * stands between source and listener, so that nothing is heard. The block's areas are zero after a result and the refusals 6 and 7, and as they were
@@ -276,12 +333,7 @@ static inline uint32_t biv_trace(const struct biv_settings *settings, uint32_t c
                                  const float listener[3], bool separated, void *block, size_t size, uint8_t *out, size_t out_len,
                                  struct biv_answer *answer)
 {
-    const struct biv_distance_model *m = &settings->distance_model;
-    const uint32_t counts[5] = {settings->max_reflection_order, settings->max_reflections, settings->max_reflection_planes,
-                                settings->plane_merge ? 1u : 0u, m->curve};
-    const float floats[11] = {settings->reflection_edge_fade, settings->max_reflection_distance, settings->speed_of_sound, settings->sample_rate,
-                              settings->plane_merge_cos, settings->plane_merge_offset, settings->plane_buried_distance, m->reference_distance,
-                              m->rolloff_factor, m->min_distance, m->max_distance};
+    const struct biv_numbers n = biv_numbers_of(settings);
     struct biv_work w;
     size_t found[4] = {0, 0, 0, 0};
     uint32_t refusal;
@@ -290,7 +342,7 @@ static inline uint32_t biv_trace(const struct biv_settings *settings, uint32_t c
         w.triangles, w.lens[0], w.handles, w.lens[1], w.tree, w.lens[2], w.nodes, w.lens[3], w.leaf_order, w.lens[4], w.keys, w.lens[5], w.low_keys, w.lens[6],
         w.words, w.lens[7], w.scratch, w.lens[8], w.index, w.lens[9], w.numbers, w.lens[10], w.adjacency, w.lens[11], w.queue, w.lens[12],
         w.offsets, w.lens[13], w.floats, w.lens[14], w.plane_triangles, w.lens[15], w.plane_floats, w.lens[16], w.plane_words, w.lens[17], w.plane_edges, w.lens[18],
-        out, out_len, found, counts, floats, c,
+        out, out_len, found, n.counts, n.floats, c,
         (const uint32_t *)biv_part(scene->meshes), scene->meshes_len, (const float *)biv_part(scene->transforms), scene->transforms_len,
         (const float *)biv_part(scene->positions), scene->positions_len, (const uint32_t *)biv_part(scene->indices), scene->indices_len,
         (const float *)biv_part(scene->materials), scene->materials_len, scene->rows, source, listener, separated);
@@ -329,6 +381,57 @@ static inline uint32_t biv_write(const struct biv_tap *taps, struct biv_answer *
     refusal = biv_packet_write(answer->count, answer->images, answer->rays, words, 14 * BIV_MOST_TAPS, out, out_len, found);
     answer->bytes = found[0];
     return refusal;
+}
+
+/* The walls of the image with that number, as a tap has it. on has a byte for each plane of the query, 1 where the source lies on it, else 0; order is the
+ * query's, 1 to 8. Answers BIV_NO_IMAGE, with no walls, or 0. */
+static inline uint32_t biv_find_walls(const uint8_t *on, size_t planes, uint32_t order, uint32_t number, struct biv_walls_met *walls)
+{
+    size_t found[1] = {0};
+    uint32_t refusal = biv_walls(planes <= BIV_MOST_PLANES ? (uint32_t)planes : BIV_MOST_PLANES + 1, order, (const uint8_t *)biv_part(on), planes, number,
+                                 walls->planes, found);
+    walls->len = found[0];
+    return refusal;
+}
+
+/* The planes of a scene as a query with the same settings has them, the count in *count, 0 after a refusal (1 to 6), which is answered, or 0. planes is
+ * as it was behind them. c and block are those of biv_trace; the block holds anything then, which the next call does not mind. */
+static inline uint32_t biv_scene_planes(const struct biv_settings *settings, uint32_t c, const struct biv_scene *scene, const float source[3], void *block,
+                                        size_t size, struct biv_plane planes[BIV_MOST_PLANES], size_t *count)
+{
+    const struct biv_numbers n = biv_numbers_of(settings);
+    struct biv_work w;
+    uint8_t on[BIV_MOST_PLANES] = {0};
+    size_t found[1] = {0};
+    uint32_t refusal;
+    (void)biv_carve(block, size, biv_triples(scene), c, &w); /* what is too short is refused */
+    refusal = biv_planes(
+        w.triangles, w.lens[0], w.handles, w.lens[1], w.tree, w.lens[2], w.nodes, w.lens[3], w.leaf_order, w.lens[4], w.keys, w.lens[5], w.low_keys, w.lens[6],
+        w.words, w.lens[7], w.scratch, w.lens[8], w.index, w.lens[9], w.numbers, w.lens[10], w.adjacency, w.lens[11], w.queue, w.lens[12],
+        w.offsets, w.lens[13], w.floats, w.lens[14], w.plane_triangles, w.lens[15], w.plane_floats, w.lens[16], w.plane_words, w.lens[17], w.plane_edges, w.lens[18],
+        on, found, n.counts, n.floats, c,
+        (const uint32_t *)biv_part(scene->meshes), scene->meshes_len, (const float *)biv_part(scene->transforms), scene->transforms_len,
+        (const float *)biv_part(scene->positions), scene->positions_len, (const uint32_t *)biv_part(scene->indices), scene->indices_len,
+        (const float *)biv_part(scene->materials), scene->materials_len, scene->rows, source);
+    for (size_t p = 0; p < found[0]; p++) {
+        const float *f = w.plane_floats + 12 * p;
+        memcpy(planes[p].normal, f, sizeof planes[p].normal);
+        planes[p].offset = f[3];
+        planes[p].area = f[11];
+        planes[p].source_on = on[p] != 0;
+    }
+    *count = found[0];
+    return refusal;
+}
+
+/* biv_find_walls with the planes of biv_scene_planes: the walls of a tap by its number. settings are the query's. */
+static inline uint32_t biv_walls_of(const struct biv_settings *settings, const struct biv_plane *planes, size_t count, uint32_t number, struct biv_walls_met *walls)
+{
+    uint32_t order = settings->max_reflection_order < BIV_MOST_ORDER ? settings->max_reflection_order : BIV_MOST_ORDER;
+    uint8_t on[BIV_MOST_PLANES] = {0};
+    for (size_t p = 0; p < count && p < BIV_MOST_PLANES; p++)
+        on[p] = planes[p].source_on ? 1 : 0;
+    return biv_find_walls(on, count <= BIV_MOST_PLANES ? count : 0, order, number, walls); /* no planes are refused, as too many are */
 }
 
 #ifdef __cplusplus

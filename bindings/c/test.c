@@ -1,4 +1,4 @@
-/* The calls of bivelondry.h: case A, every refusal, the block, the packet. Ends with `N checks, 0 failed`. */
+/* The calls of bivelondry.h: case A, every refusal, the block, the packet, the planes and the walls. Ends with `N checks, 0 failed`. */
 #include "case_a.h"
 #include <math.h>
 #include <stdio.h>
@@ -215,9 +215,142 @@ static void test_packet(void)
     CHECK(biv_write(taps, &written, copy, sizeof copy) == BIV_NO_REFUSAL);
 }
 
+/* Whether the number has these walls, and zeros behind them. */
+static bool walls_are(const uint8_t *on, size_t planes, uint32_t order, uint32_t number, size_t len, const uint8_t expected[BIV_MOST_ORDER])
+{
+    struct biv_walls_met walls;
+    memset(&walls, 0x7e, sizeof walls);
+    return biv_find_walls(on, planes, order, number, &walls) == BIV_NO_REFUSAL && walls.len == len && memcmp(walls.planes, expected, sizeof walls.planes) == 0;
+}
+
+static bool walls_refused(const uint8_t *on, size_t planes, uint32_t order, uint32_t number)
+{
+    static const uint8_t zeros[BIV_MOST_ORDER];
+    struct biv_walls_met walls;
+    memset(&walls, 0x7e, sizeof walls);
+    return biv_find_walls(on, planes, order, number, &walls) == BIV_NO_IMAGE && walls.len == 0 && memcmp(walls.planes, zeros, sizeof zeros) == 0;
+}
+
+static void test_walls(void)
+{
+    static const uint8_t off[BIV_MOST_PLANES + 1], all[6] = {1, 1, 1, 1, 1, 1}, one[6] = {1, 0, 0, 0, 0, 0}, two[6] = {0, 2, 0, 0, 0, 0};
+    uint8_t walls[BIV_MOST_ORDER];
+    size_t found[1];
+    CHECK(walls_are(off, 6, 3, 2, 2, (const uint8_t[BIV_MOST_ORDER]){0, 1}));
+    CHECK(walls_are(off, 6, 3, 32, 1, (const uint8_t[BIV_MOST_ORDER]){1}));
+    CHECK(walls_are(off, 6, 3, 186, 3, (const uint8_t[BIV_MOST_ORDER]){5, 4, 5}));
+    CHECK(walls_are(one, 6, 3, 2, 2, (const uint8_t[BIV_MOST_ORDER]){1, 0}));
+    CHECK(walls_are(off, 6, 8, BIV_MOST_IMAGES, 8, (const uint8_t[BIV_MOST_ORDER]){2, 3, 4, 5, 4, 5, 4, 5}));
+    CHECK(walls_are(off, BIV_MOST_PLANES, 8, BIV_MOST_IMAGES, 8, (const uint8_t[BIV_MOST_ORDER]){0, 1, 0, 1, 0, 4, 212, 133}));
+    CHECK(walls_are(off, BIV_MOST_PLANES, 2, 65536, 2, (const uint8_t[BIV_MOST_ORDER]){255, 254}));
+    CHECK(walls_are(off, 1, 8, 1, 1, (const uint8_t[BIV_MOST_ORDER]){0}));
+    CHECK(walls_refused(off, 1, 8, 2) && walls_refused(off, 6, 3, 187) && walls_refused(off, 6, 8, BIV_MOST_IMAGES + 1));
+    CHECK(walls_refused(off, 6, 3, 0) && walls_refused(off, 6, 0, 1) && walls_refused(off, 6, 9, 1) && walls_refused(all, 6, 8, 1));
+    CHECK(walls_refused(two, 6, 3, 1) && walls_refused(NULL, 0, 3, 1) && walls_refused(off, BIV_MOST_PLANES + 1, 3, 1));
+    CHECK(biv_walls(6, 3, off, 5, 1, walls, found) == BIV_NO_IMAGE && biv_walls(5, 3, off, 6, 1, walls, found) == BIV_NO_IMAGE && found[0] == 0);
+}
+
+/* A room of 8 by 3 by 6 m, each wall a mesh of its own, and the corners of its walls. */
+static const float room_corners[8][3] = {{0, 0, 0}, {8, 0, 0}, {8, 3, 0}, {0, 3, 0}, {0, 0, 6}, {8, 0, 6}, {8, 3, 6}, {0, 3, 6}};
+static const uint32_t room_walls[6][4] = {{0, 1, 2, 3}, {4, 5, 6, 7}, {0, 3, 7, 4}, {1, 2, 6, 5}, {0, 1, 5, 4}, {3, 2, 6, 7}};
+static uint32_t room_meshes[6][3], room_indices[6][6];
+static float room_transforms[6][16], room_positions[6][4][3], room_materials[16];
+
+static struct query room(void)
+{
+    static const uint32_t corners[6] = {0, 1, 2, 0, 2, 3};
+    struct query q = case_a();
+    for (size_t m = 0; m < 6; m++) {
+        room_meshes[m][0] = 4;
+        room_meshes[m][1] = 6;
+        memcpy(room_indices[m], corners, sizeof corners);
+        memcpy(room_transforms[m], case_a_transforms, sizeof room_transforms[m]);
+        for (size_t k = 0; k < 4; k++)
+            memcpy(room_positions[m][k], room_corners[room_walls[m][k]], sizeof room_positions[m][k]);
+    }
+    for (size_t b = 0; b < BIV_BANDS; b++)
+        room_materials[b] = 0.3f;
+    q.scene = (struct biv_scene){room_meshes[0], 18, room_transforms[0], 96, room_positions[0][0], 72, room_indices[0], 36, room_materials, 16, 1};
+    q.settings = biv_default_settings();
+    q.settings.max_reflections = BIV_MOST_TAPS;
+    q.c = 256;
+    q.size = biv_block_size(biv_triples(&q.scene), q.c);
+    memcpy(q.source, (const float[3]){2, 1.2f, 2.5f}, sizeof q.source);
+    memcpy(q.listener, (const float[3]){6, 1.7f, 3.4f}, sizeof q.listener);
+    return q;
+}
+
+static struct biv_plane planes[BIV_MOST_PLANES];
+static size_t plane_count;
+
+static uint32_t find_planes(const struct query *q)
+{
+    void *block = calloc(1, q->size > 0 ? q->size : 1);
+    uint32_t refusal;
+    if (block == NULL) {
+        fprintf(stderr, "test: no memory\n");
+        exit(1);
+    }
+    refusal = biv_scene_planes(&q->settings, q->c, &q->scene, q->source, block, q->size, planes, &plane_count);
+    free(block);
+    return refusal;
+}
+
+static void test_planes(void)
+{
+    struct query q = case_a();
+    struct biv_walls_met walls;
+    CHECK(find_planes(&q) == BIV_NO_REFUSAL && plane_count == 1);
+    CHECK(planes[0].normal[0] == 0.0f && fabsf(planes[0].normal[1]) == 1.0f && planes[0].normal[2] == 0.0f && planes[0].offset == 0.0f);
+    CHECK(planes[0].area == 64.0f && !planes[0].source_on);
+    q.settings.max_reflection_order = BIV_MOST_ORDER + 1;
+    CHECK(biv_walls_of(&q.settings, planes, 1, 1, &walls) == BIV_NO_REFUSAL && walls.len == 1 && walls.planes[0] == 0);
+    CHECK(biv_walls_of(&q.settings, planes, BIV_MOST_PLANES + 1, 1, &walls) == BIV_NO_IMAGE);
+    q.source[1] = 0.00005f;
+    CHECK(find_planes(&q) == BIV_NO_REFUSAL && plane_count == 1 && planes[0].source_on);
+    CHECK(biv_walls_of(&q.settings, planes, 1, 1, &walls) == BIV_NO_IMAGE && walls.len == 0);
+    q = case_a();
+    q.settings.distance_model.curve = 2;
+    CHECK(find_planes(&q) == BIV_SETTINGS && plane_count == 0);
+    q = case_a();
+    q.scene.materials_len = 15;
+    CHECK(find_planes(&q) == BIV_LENGTHS && plane_count == 0);
+    q = case_a();
+    q.size--;
+    CHECK(find_planes(&q) == BIV_AREAS && plane_count == 0);
+}
+
+/* The source mirrored in the walls of a tap, one after the other, is the image: the tap's delay and direction are those of its distance. */
+static void test_tap_walls(void)
+{
+    struct query q = room();
+    struct biv_tap taps[BIV_MOST_TAPS];
+    CHECK(trace(&q) == BIV_NO_REFUSAL && answer.images == 186 && answer.count > 10);
+    CHECK(biv_read(out, answer.bytes, taps, &answer) == BIV_NO_REFUSAL);
+    CHECK(find_planes(&q) == BIV_NO_REFUSAL && plane_count == 6);
+    for (size_t i = 0; i < answer.count; i++) {
+        struct biv_walls_met walls;
+        float image[3], length = 0.0f;
+        CHECK(biv_walls_of(&q.settings, planes, plane_count, taps[i].number, &walls) == BIV_NO_REFUSAL && walls.len == taps[i].order);
+        memcpy(image, q.source, sizeof image);
+        for (size_t k = 0; k < walls.len; k++) {
+            const struct biv_plane *p = &planes[walls.planes[k]];
+            float d = p->normal[0] * image[0] + p->normal[1] * image[1] + p->normal[2] * image[2] - p->offset;
+            for (size_t x = 0; x < 3; x++)
+                image[x] -= 2.0f * d * p->normal[x];
+        }
+        for (size_t x = 0; x < 3; x++)
+            length += (image[x] - q.listener[x]) * (image[x] - q.listener[x]);
+        length = sqrtf(length);
+        CHECK(fabsf(length / q.settings.speed_of_sound * q.settings.sample_rate - taps[i].delay_samples) < 0.05f);
+        for (size_t x = 0; x < 3; x++)
+            CHECK(fabsf((image[x] - q.listener[x]) / length - taps[i].direction[x]) < 1e-4f);
+    }
+}
+
 static void test_texts(void)
 {
-    for (uint32_t k = 0; k <= BIV_TAP_ORDER; k++)
+    for (uint32_t k = 0; k <= BIV_NO_IMAGE; k++)
         for (uint32_t j = 0; j < k; j++)
             CHECK(strcmp(biv_refusal_text(k), biv_refusal_text(j)) != 0);
 }
@@ -235,6 +368,9 @@ int main(void)
     }
     test_block(BIV_MOST_TRIPLES, BIV_MOST_CANDIDATES, 1);
     test_packet();
+    test_walls();
+    test_planes();
+    test_tap_walls();
     test_texts();
     printf("%u checks, %u failed\n", checks, failed);
     return failed > 0;

@@ -34,12 +34,18 @@ pub const BANDS: usize = 8;
 pub const MOST_TRIPLES: usize = 4096;
 /// Candidate room, at most.
 pub const MOST_CANDIDATES: u32 = 250_000;
+/// Planes of a query, at most.
+pub const MOST_PLANES: usize = 256;
+/// Planes of an image's sequence, at most.
+pub const MOST_ORDER: u32 = 8;
+/// Images of a query, at most.
+pub const MOST_IMAGES: u32 = 250_000;
 /// Taps of a packet, at most.
 pub const MOST_TAPS: usize = 64;
 /// Bytes of a packet, at most: 9, and 54 for each of 64 taps.
 pub const OUTPUT_BYTES: usize = 3465;
 
-/// Why a query or a packet is refused; of several reasons the first in this order.
+/// Why a query, a packet or an image's number is refused; of several reasons the first in this order.
 #[derive(Clone, Copy, Debug, PartialEq, Eq, PartialOrd, Ord, Hash)]
 pub enum Refusal {
     /// 1: a setting or the candidate room lies outside its limits.
@@ -64,15 +70,17 @@ pub enum Refusal {
     Numbers,
     /// 11: an image number comes twice, or the taps do not fall in squared-gain sum.
     Order,
+    /// 13: no image has the number, or order or planes are out of range.
+    NoImage = 13,
 }
 
 impl Refusal {
-    pub const ALL: [Refusal; 11] = {
+    pub const ALL: [Refusal; 12] = {
         use Refusal::*;
-        [Settings, Lengths, Material, Triangles, Areas, Far, Candidates, Bytes, Counts, Numbers, Order]
+        [Settings, Lengths, Material, Triangles, Areas, Far, Candidates, Bytes, Counts, Numbers, Order, NoImage]
     };
 
-    /// The number of the refusal, 1 to 11.
+    /// The number of the refusal, 1 to 11 or 13.
     pub fn number(self) -> u32 {
         self as u32
     }
@@ -81,7 +89,7 @@ impl Refusal {
     fn check(number: u32) -> Result<(), Refusal> {
         match number {
             0 => Ok(()),
-            k => Err(*Refusal::ALL.get(k as usize - 1).unwrap_or_else(|| panic!("the archive answers {k}, which is no refusal: does it belong to this crate?"))),
+            k => Err(*Refusal::ALL.iter().find(|r| r.number() == k).unwrap_or_else(|| panic!("the archive answers {k}, which is no refusal: does it belong to this crate?"))),
         }
     }
 }
@@ -100,6 +108,7 @@ impl fmt::Display for Refusal {
             Refusal::Counts => "the packet's count, images, an order or an image number is out of range",
             Refusal::Numbers => "a float of the packet is not finite, or a delay or a gain not above 0",
             Refusal::Order => "an image number comes twice, or the taps do not fall in squared-gain sum",
+            Refusal::NoImage => "no image has the number, or order or planes are out of range",
         })
     }
 }
@@ -394,4 +403,57 @@ pub fn trace_packet<'w>(settings: &Settings, scene: &Scene, source: [f32; 3], li
 /// The taps of a query, best first, with its counts; refusals as for [`trace_packet`].
 pub fn trace_early_reflections(settings: &Settings, scene: &Scene, source: [f32; 3], listener: [f32; 3], separated: bool, workspace: &mut Workspace) -> Result<Packet, Refusal> {
     Packet::read(trace_packet(settings, scene, source, listener, separated, workspace)?)
+}
+
+/// A plane of a scene, which a wall of a path is: its panels lie in it.
+#[derive(Clone, Copy, Debug, PartialEq)]
+pub struct Plane {
+    /// A unit vector.
+    pub normal: [f32; 3],
+    /// Along it, from the origin.
+    pub offset: f32,
+    /// Of its triangles.
+    pub area: f32,
+    /// Whether the source lies on it, so that no path begins with it.
+    pub source_on: bool,
+}
+
+/// The planes of a scene as a query with the same settings has them: refusals 1 to 4 and 6.
+pub fn planes(settings: &Settings, scene: &Scene, source: [f32; 3], workspace: &mut Workspace) -> Result<Vec<Plane>, Refusal> {
+    let areas = workspace.areas(scene.triples());
+    let (counts, floats, mut on, mut found) = (settings.counts(), settings.floats(), [0u8; ffi::PLANES], [0usize; 1]);
+    let block = workspace.block.as_mut_ptr();
+    let at = |i: usize| (block.wrapping_add(areas[i].0), areas[i].1);
+    // SAFETY: as for `trace_packet`.
+    Refusal::check(unsafe { ffi::planes(at, &mut on, &mut found, &counts, &floats, workspace.c, scene, &source) })?;
+    let (first, len) = at(ffi::PLANE_AREA);
+    let len = len.min(ffi::PLANE_FLOATS * found[0]);
+    // SAFETY: the area lies in the block and has that many floats, any bits of which are one; no planes have no area.
+    let rows = if len == 0 { &[][..] } else { unsafe { std::slice::from_raw_parts(first.cast::<f32>(), len) } };
+    let plane = |(f, &on): (&[f32], &u8)| Plane { normal: [f[0], f[1], f[2]], offset: f[3], area: f[11], source_on: on != 0 };
+    Ok(rows.chunks_exact(ffi::PLANE_FLOATS).zip(&on).map(plane).collect())
+}
+
+/// The walls of the image with that number, as a [`Tap`] has it: which of the query's [`planes`] its path meets, the one next to the source first. The
+/// settings are the query's. Refusal 13.
+pub fn walls(settings: &Settings, planes: &[Plane], number: u32) -> Result<Vec<u8>, Refusal> {
+    let on: Vec<bool> = planes.iter().map(|p| p.source_on).collect();
+    find_walls(&on, settings.max_reflection_order.min(MOST_ORDER), number)
+}
+
+/// The same, where `on` says of each plane of the query whether the source lies on it; `order` is the query's, 1 to 8.
+///
+/// ```
+/// use bivelondry::{find_walls, Refusal};
+/// assert_eq!(find_walls(&[false; 6], 3, 186)?, [5, 4, 5]);
+/// assert_eq!(find_walls(&[false; 6], 3, 187), Err(Refusal::NoImage));
+/// # Ok::<(), Refusal>(())
+/// ```
+pub fn find_walls(on: &[bool], order: u32, number: u32) -> Result<Vec<u8>, Refusal> {
+    let (mut planes, mut found) = ([0u8; ffi::ORDERS], [0usize; 1]);
+    // 2^32 planes are refused as 257 are
+    let count = u32::try_from(on.len()).unwrap_or(u32::MAX);
+    // SAFETY: a bool is a byte, 0 or 1; the pointer goes with its own length.
+    Refusal::check(unsafe { ffi::biv_walls(count, order, on.as_ptr().cast(), on.len(), number, &mut planes, &mut found) })?;
+    Ok(planes[..found[0]].to_vec())
 }

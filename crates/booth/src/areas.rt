@@ -3,7 +3,7 @@
 ghost use mathlib.Core.Path.{_≡_};
 ghost use lib.ListN.{length};
 
-pub fn fresh_columns() -> [f32; 11776]
+pub fn fresh_triangles() -> [f32; 11776]
     ensures { λ r. ⌜ length r ≡ 11776 ⌝ }
 {
     [0.0; 11776]
@@ -27,19 +27,19 @@ pub fn fresh_nodes() -> [u32; 4096]
     [0u32; 4096]
 }
 
-pub fn fresh_perm() -> [u32; 512]
+pub fn fresh_leaf_order() -> [u32; 512]
     ensures { λ r. ⌜ length r ≡ 512 ⌝ }
 {
     [0u32; 512]
 }
 
-pub fn fresh_hi() -> [u64; 5632]
+pub fn fresh_keys() -> [u64; 5632]
     ensures { λ r. ⌜ length r ≡ 5632 ⌝ }
 {
     [0u64; 5632]
 }
 
-pub fn fresh_lo() -> [u64; 1536]
+pub fn fresh_low_keys() -> [u64; 1536]
     ensures { λ r. ⌜ length r ≡ 1536 ⌝ }
 {
     [0u64; 1536]
@@ -63,13 +63,13 @@ pub fn fresh_index() -> [u32; 1536]
     [0u32; 1536]
 }
 
-pub fn fresh_id() -> [u32; 9728]
+pub fn fresh_numbers() -> [u32; 9728]
     ensures { λ r. ⌜ length r ≡ 9728 ⌝ }
 {
     [0u32; 9728]
 }
 
-pub fn fresh_linked() -> [u32; 12288]
+pub fn fresh_adjacency() -> [u32; 12288]
     ensures { λ r. ⌜ length r ≡ 12288 ⌝ }
 {
     [0u32; 12288]
@@ -81,37 +81,37 @@ pub fn fresh_queue() -> [u32; 5632]
     [0u32; 5632]
 }
 
-pub fn fresh_starts() -> [u32; 1537]
+pub fn fresh_offsets() -> [u32; 1537]
     ensures { λ r. ⌜ length r ≡ 1537 ⌝ }
 {
     [0u32; 1537]
 }
 
-pub fn fresh_gfloats() -> [f32; 59392]
+pub fn fresh_floats() -> [f32; 59392]
     ensures { λ r. ⌜ length r ≡ 59392 ⌝ }
 {
     [0.0; 59392]
 }
 
-pub fn fresh_members() -> [u32; 513]
+pub fn fresh_plane_triangles() -> [u32; 513]
     ensures { λ r. ⌜ length r ≡ 513 ⌝ }
 {
     [0u32; 513]
 }
 
-pub fn fresh_rows() -> [f32; 6144]
+pub fn fresh_plane_floats() -> [f32; 6144]
     ensures { λ r. ⌜ length r ≡ 6144 ⌝ }
 {
     [0.0; 6144]
 }
 
-pub fn fresh_kept() -> [u32; 2560]
+pub fn fresh_plane_words() -> [u32; 2560]
     ensures { λ r. ⌜ length r ≡ 2560 ⌝ }
 {
     [0u32; 2560]
 }
 
-pub fn fresh_edges() -> [f32; 9216]
+pub fn fresh_plane_edges() -> [f32; 9216]
     ensures { λ r. ⌜ length r ≡ 9216 ⌝ }
 {
     [0.0; 9216]
@@ -123,9 +123,11 @@ pub fn fresh_output() -> [u8; 3465]
     [0u8; 3465]
 }
 
-// Room for the records of 250,000 images. It promises no length, so that no proof looks into so long a list.
-pub fn fresh_records() -> [u8; 2_250_000] {
-    [0u8; 2_250_000]
+// A byte for each plane: whether the source lies on it.
+pub fn fresh_on() -> [u8; 256]
+    ensures { λ r. ⌜ length r ≡ 256 ⌝ }
+{
+    [0u8; 256]
 }
 
 pub fn fresh_case_words() -> [u32; 11]

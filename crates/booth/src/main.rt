@@ -11,8 +11,9 @@ use answer::Answered;
 use libc::STDOUT_FILENO;
 use scene::Settings;
 use vector::Vec3;
-ghost use Prim.Native.Nat.{_≤_};
+ghost use Prim.Native.Nat.{_*_, _≤_};
 ghost use lib.ListN.{length};
+ghost use Rattle.mirror.specs.Rows.{planeFloats, planeWords};
 
 // The candidates that there is room for.
 const CANDIDATES: u32 = 4096;
@@ -111,25 +112,25 @@ fn trace(
     indices: &[u32],
     materials: &[f32],
 ) -> Answered {
-    let mut columns = areas::fresh_columns();
+    let mut triangles = areas::fresh_triangles();
     let mut handles = areas::fresh_handles();
     let mut tree = areas::fresh_tree();
     let mut nodes = areas::fresh_nodes();
-    let mut perm = areas::fresh_perm();
-    let mut hi = areas::fresh_hi();
-    let mut lo = areas::fresh_lo();
+    let mut leaf_order = areas::fresh_leaf_order();
+    let mut keys = areas::fresh_keys();
+    let mut low_keys = areas::fresh_low_keys();
     let mut words = areas::fresh_words();
     let mut scratch = areas::fresh_scratch();
     let mut index = areas::fresh_index();
-    let mut id = areas::fresh_id();
-    let mut linked = areas::fresh_linked();
+    let mut numbers = areas::fresh_numbers();
+    let mut adjacency = areas::fresh_adjacency();
     let mut queue = areas::fresh_queue();
-    let mut starts = areas::fresh_starts();
-    let mut gfloats = areas::fresh_gfloats();
-    let mut members = areas::fresh_members();
-    let mut rows = areas::fresh_rows();
-    let mut kept = areas::fresh_kept();
-    let mut edges = areas::fresh_edges();
+    let mut offsets = areas::fresh_offsets();
+    let mut floats = areas::fresh_floats();
+    let mut plane_triangles = areas::fresh_plane_triangles();
+    let mut plane_floats = areas::fresh_plane_floats();
+    let mut plane_words = areas::fresh_plane_words();
+    let mut plane_edges = areas::fresh_plane_edges();
     let settings = settings_of(w, f);
     let source = point_of(f, 11);
     let listener = point_of(f, 14);
@@ -137,25 +138,25 @@ fn trace(
     let count = casefile::word(w, 7);
     let separated = separated_of(w);
     query::trace_early_reflections(
-        &mut columns,
+        &mut triangles,
         &mut handles,
         &mut tree,
         &mut nodes,
-        &mut perm,
-        &mut hi,
-        &mut lo,
+        &mut leaf_order,
+        &mut keys,
+        &mut low_keys,
         &mut words,
         &mut scratch,
         &mut index,
-        &mut id,
-        &mut linked,
+        &mut numbers,
+        &mut adjacency,
         &mut queue,
-        &mut starts,
-        &mut gfloats,
-        &mut members,
-        &mut rows,
-        &mut kept,
-        &mut edges,
+        &mut offsets,
+        &mut floats,
+        &mut plane_triangles,
+        &mut plane_floats,
+        &mut plane_words,
+        &mut plane_edges,
         out,
         settings,
         room,
@@ -171,12 +172,21 @@ fn trace(
     )
 }
 
-// The planes of the scene, in rows and kept, and the planes of each image, in records; in areas of its own, since those of the query are gone. The
+// A byte for each plane where there is room for them: 1 where the source lies on it.
+fn mark(on: &mut [u8], plane_floats: &[f32], plane_words: &[u32], planes: usize, source: Vec3)
+    requires { ⌜ (planeFloats * planes ≤ length (now «plane_floats»)) × (planeWords * planes ≤ length (now «plane_words»)) ⌝ }
+{
+    if planes <= on.len() {
+        walls::mark_planes(plane_floats, plane_words, source, &mut on[..planes]);
+    }
+}
+
+// The planes of the scene, in plane_floats and plane_words, and a byte for each, in `on`; in areas of its own, since those of the query are gone. The
 // answer is how many planes there are.
 fn name_walls(
-    rows: &mut [f32],
-    kept: &mut [u32],
-    records: &mut [u8],
+    plane_floats: &mut [f32],
+    plane_words: &mut [u32],
+    on: &mut [u8],
     w: &[u32],
     f: &[f32],
     meshes: &[u32],
@@ -185,47 +195,47 @@ fn name_walls(
     indices: &[u32],
     materials: &[f32],
 ) -> usize {
-    let mut columns = areas::fresh_columns();
+    let mut triangles = areas::fresh_triangles();
     let mut handles = areas::fresh_handles();
     let mut tree = areas::fresh_tree();
     let mut nodes = areas::fresh_nodes();
-    let mut perm = areas::fresh_perm();
-    let mut hi = areas::fresh_hi();
-    let mut lo = areas::fresh_lo();
+    let mut leaf_order = areas::fresh_leaf_order();
+    let mut keys = areas::fresh_keys();
+    let mut low_keys = areas::fresh_low_keys();
     let mut words = areas::fresh_words();
     let mut scratch = areas::fresh_scratch();
     let mut index = areas::fresh_index();
-    let mut id = areas::fresh_id();
-    let mut linked = areas::fresh_linked();
+    let mut numbers = areas::fresh_numbers();
+    let mut adjacency = areas::fresh_adjacency();
     let mut queue = areas::fresh_queue();
-    let mut starts = areas::fresh_starts();
-    let mut gfloats = areas::fresh_gfloats();
-    let mut members = areas::fresh_members();
-    let mut edges = areas::fresh_edges();
+    let mut offsets = areas::fresh_offsets();
+    let mut floats = areas::fresh_floats();
+    let mut plane_triangles = areas::fresh_plane_triangles();
+    let mut plane_edges = areas::fresh_plane_edges();
     let settings = settings_of(w, f);
     let source = point_of(f, 11);
     let room = room_of(casefile::word(w, 3));
     let count = casefile::word(w, 7);
-    let planes = walls::planes_of(
-        &mut columns,
+    let named = walls::planes_of(
+        &mut triangles,
         &mut handles,
         &mut tree,
         &mut nodes,
-        &mut perm,
-        &mut hi,
-        &mut lo,
+        &mut leaf_order,
+        &mut keys,
+        &mut low_keys,
         &mut words,
         &mut scratch,
         &mut index,
-        &mut id,
-        &mut linked,
+        &mut numbers,
+        &mut adjacency,
         &mut queue,
-        &mut starts,
-        &mut gfloats,
-        &mut members,
-        rows,
-        kept,
-        &mut edges,
+        &mut offsets,
+        &mut floats,
+        &mut plane_triangles,
+        plane_floats,
+        plane_words,
+        &mut plane_edges,
         settings,
         room,
         meshes,
@@ -235,23 +245,16 @@ fn name_walls(
         materials,
         count,
     );
-    walls::list_images(
-        rows,
-        kept,
-        planes,
-        source,
-        front::search_order(settings),
-        records,
-    );
-    planes
+    mark(on, plane_floats, plane_words, named.count, source);
+    named.count
 }
 
 // The query, and the planes where it is not refused.
 fn trace_and_name(
     out: &mut [u8],
-    rows: &mut [f32],
-    kept: &mut [u32],
-    records: &mut [u8],
+    plane_floats: &mut [f32],
+    plane_words: &mut [u32],
+    on: &mut [u8],
     w: &[u32],
     f: &[f32],
     meshes: &[u32],
@@ -265,9 +268,9 @@ fn trace_and_name(
         return Named { answer, planes: 0 };
     }
     let planes = name_walls(
-        rows,
-        kept,
-        records,
+        plane_floats,
+        plane_words,
+        on,
         w,
         f,
         meshes,
@@ -277,6 +280,12 @@ fn trace_and_name(
         materials,
     );
     Named { answer, planes }
+}
+
+// The order that the query searches to.
+fn order_of(w: &[u32], f: &[f32]) -> u32 {
+    let order = front::search_order(settings_of(w, f));
+    if order < 9 { order as u32 } else { 0 }
 }
 
 // A count of a case, cut to what its area holds.
@@ -293,9 +302,9 @@ fn limited(n: u32, most: usize) -> usize
 // The query of a case that was read: the parts of its areas that it fills.
 fn ask(
     out: &mut [u8],
-    floats: &mut [f32],
-    words: &mut [u32],
-    records: &mut [u8],
+    plane_floats: &mut [f32],
+    plane_words: &mut [u32],
+    on: &mut [u8],
     w: &[u32],
     f: &[f32],
     meshes: &[u32],
@@ -314,9 +323,9 @@ fn ask(
     let corners = limited(casefile::word(w, 10), 1536);
     trace_and_name(
         out,
-        floats,
-        words,
-        records,
+        plane_floats,
+        plane_words,
+        on,
         w,
         f,
         &meshes[..mesh_words],
@@ -348,18 +357,19 @@ fn save(path: &[u8], packet: &[u8]) {
 // What is said of an answer: the refusal, or the table; the packet goes to the file.
 fn report(
     out: &[u8],
-    floats: &[f32],
-    words: &[u32],
-    records: &[u8],
+    plane_floats: &[f32],
+    plane_words: &[u32],
+    on: &[u8],
     named: Named,
     w: &[u32],
     f: &[f32],
     path: &[u8],
 )
-    requires { ⌜ (3072 ≤ length (now floats)) × (1280 ≤ length (now words)) ⌝ }
+    requires { ⌜ (3072 ≤ length (now «plane_floats»)) × (1280 ≤ length (now «plane_words»)) ⌝ }
 {
     let r = named.answer;
     let bytes = r.bytes;
+    let planes = named.planes;
     if r.refusal != 0 {
         table::print_refusal(r.refusal, casefile::word(w, 3));
         return;
@@ -367,12 +377,15 @@ fn report(
     if out.len() < bytes {
         return;
     }
+    if on.len() < planes {
+        return;
+    }
     table::print_table(
         &out[..bytes],
-        floats,
-        words,
-        named.planes,
-        records,
+        plane_floats,
+        plane_words,
+        &on[..planes],
+        order_of(w, f),
         real(f, 3),
         r,
     );
@@ -389,9 +402,9 @@ pub(crate) fn run(s: &[u8], path: &[u8]) {
     let mut positions = areas::fresh_case_positions();
     let mut indices = areas::fresh_case_indices();
     let mut out = areas::fresh_output();
-    let mut floats = areas::fresh_rows();
-    let mut words = areas::fresh_kept();
-    let mut records = areas::fresh_records();
+    let mut plane_floats = areas::fresh_plane_floats();
+    let mut plane_words = areas::fresh_plane_words();
+    let mut on = areas::fresh_on();
     let c = casefile::read_case(
         s,
         &mut w,
@@ -408,9 +421,9 @@ pub(crate) fn run(s: &[u8], path: &[u8]) {
     }
     let named = ask(
         &mut out,
-        &mut floats,
-        &mut words,
-        &mut records,
+        &mut plane_floats,
+        &mut plane_words,
+        &mut on,
         &w,
         &f,
         &meshes,
@@ -419,7 +432,7 @@ pub(crate) fn run(s: &[u8], path: &[u8]) {
         &indices,
         &materials,
     );
-    report(&out, &floats, &words, &records, named, &w, &f, path);
+    report(&out, &plane_floats, &plane_words, &on, named, &w, &f, path);
 }
 
 // ---- files

@@ -1,9 +1,9 @@
--- The planes of a scene, built as the query builds them, and the walls of an image by its number.
-use Prim.Native.Nat.{ℕ, _-_, _*_, _/_, _<_, _≤_}
+-- The planes of a scene, built as the query builds them.
+use Prim.Native.Nat.{ℕ, _*_, _<_, _≤_}
 use mathlib.Core.Path.{_≡_}
-use mathlib.Core.Bool.{true, cond, _&&_}
+use mathlib.Core.Bool.{cond}
 use mathlib.Core.List.{List, [], _∷_}
-use lib.Dec.{eqb, ltb, leb}
+use lib.Dec.{eqb}
 use lib.Ieee.{Float}
 use lib.ListN.{length, replicate}
 use Rattle.float.specs.Literals.{zero32}
@@ -13,15 +13,10 @@ use Rattle.scene.specs.Areas.{outputBytes}
 use Rattle.placing.specs.Corners.{triangles}
 use Rattle.placing.specs.Loading.{firstRefusal}
 use Rattle.mirror.specs.Rows.{planeFloats, planeWords, planesIn}
-use Rattle.sequences.specs.Allowed.{mostPlanes, visited}
-use Rattle.sequences.specs.Run.{perRecord}
-use Rattle.sequences.specs.Contract.{fits, areaOf}
-use Rattle.sequences.specs.Members.{Image}
-use Rattle.listing.specs.Text.{planesAt}
+use Rattle.sequences.specs.Allowed.{mostPlanes}
 use Rattle.scene_planes.specs.ScenePlanes.{planesFor}
 use Rattle.query.specs.Areas.{Work, work}
-
--- ---- the planes
+use Rattle.walls.specs.declared.Planes.{Planes}
 
 -- the lengths of the areas, and that of an output area which is long enough
 abbrev pub lensOf : Work → List ℕ
@@ -57,24 +52,14 @@ withScene w columns handles =
 abbrev pub unbuiltOf : ℕ → Work → Work
 unbuiltOf k w = cond (eqb k 6) (withScene w (replicate (length (w .triangles)) zero32) (replicate (length (w .handles)) 0)) w
 
--- where no refusal of 1 to 6 applies and a triangle is kept, the r planes in the areas are those of the query, and what stands in the areas beside them is
--- open: later steps serve themselves of areas that earlier ones are done with. Else r is 0
-pub record PlanesOf (st : Settings) (c : ℕ) (s : Scene) (found left : Work) (r : ℕ) : Type 0 where
-  pub are : firstRefusal st c s (lensOf found) ≡ 0 → 0 < length (triangles s) → planesIn (left .plane-floats) (left .plane-words) (left .plane-triangles) (left .plane-edges) r ≡ planesFor st (triangles s)
-  pub refused : (firstRefusal st c s (lensOf found) ≡ 0 → ⊥) → r ≡ 0
-  pub bare : length (triangles s) ≡ 0 → r ≡ 0
+-- where no refusal of 1 to 6 applies and a triangle is kept, the planes in the areas are those of the query, and what stands in the areas beside them is
+-- open: later steps serve themselves of areas that earlier ones are done with. Else there are none
+pub record PlanesOf (st : Settings) (c : ℕ) (s : Scene) (found left : Work) (r : Planes) : Type 0 where
+  pub refusal : r .refusal ≡ firstRefusal st c s (lensOf found)
+  pub are : firstRefusal st c s (lensOf found) ≡ 0 → 0 < length (triangles s) → planesIn (left .plane-floats) (left .plane-words) (left .plane-triangles) (left .plane-edges) (r .count) ≡ planesFor st (triangles s)
+  pub refused : (firstRefusal st c s (lensOf found) ≡ 0 → ⊥) → r .count ≡ 0
+  pub bare : length (triangles s) ≡ 0 → r .count ≡ 0
   pub unbuilt : (firstRefusal st c s (lensOf found) ≡ 0 → length (triangles s) ≡ 0) → left ≡ unbuiltOf (firstRefusal st c s (lensOf found)) found
-  pub few : r ≤ mostPlanes
-  pub floats-room : planeFloats * r ≤ length (left .plane-floats)
-  pub words-room : planeWords * r ≤ length (left .plane-words)
-
--- ---- the walls of an image
-
--- the planes of image number n, the one next to the source first, from the records that `enumerate` leaves; none where there is no such record
-unfoldable pub wallsIn : List ℕ → ℕ → List ℕ
-wallsIn records n = cond (ltb 0 n && leb n (length records / perRecord)) (planesAt records (n - 1)) []
-
--- the records are those of the images, and where there is room for them, number n has the walls that they say
-pub record ListsImages (on : List ℕ) (order : ℕ) (records records′ : List ℕ) : Type 0 where
-  pub area : records′ ≡ areaOf on order records
-  pub named : fits on order records ≡ true → (n : ℕ) → 1 ≤ n → n ≤ length (visited on order) → Image (visited on order) n (wallsIn records′ n)
+  pub few : r .count ≤ mostPlanes
+  pub floats-room : planeFloats * r .count ≤ length (left .plane-floats)
+  pub words-room : planeWords * r .count ≤ length (left .plane-words)

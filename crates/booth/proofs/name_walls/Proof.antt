@@ -5,7 +5,7 @@ use Rattle.booth.proofs.name_walls.Tie as tie
 -- `booth::name_walls` meets its contract: each area has its length, and the planes have room in theirs.
 
 slice-aggregate-planes-of : tie.Need-slice-aggregate-planes-of
-slice-aggregate-planes-of c = sym (c .before .before .before .before .before .before .before .before .before .before .before .before .before .before .before .before .before .before .before .before .before .before .fresh-columns .ensures)
+slice-aggregate-planes-of c = sym (c .before .before .before .before .before .before .before .before .before .before .before .before .before .before .before .before .before .before .before .before .before .before .fresh-triangles .ensures)
 
 slice-aggregate-planes-of-2 : tie.Need-slice-aggregate-planes-of-2
 slice-aggregate-planes-of-2 c = sym (c .before .before .before .before .before .before .before .before .before .before .before .before .before .before .before .before .before .before .before .before .before .before .fresh-handles .ensures)
@@ -17,13 +17,13 @@ slice-aggregate-planes-of-4 : tie.Need-slice-aggregate-planes-of-4
 slice-aggregate-planes-of-4 c = sym (c .before .before .before .before .before .before .before .before .before .before .before .before .before .before .before .before .before .before .before .before .before .before .fresh-nodes .ensures)
 
 slice-aggregate-planes-of-5 : tie.Need-slice-aggregate-planes-of-5
-slice-aggregate-planes-of-5 c = sym (c .before .before .before .before .before .before .before .before .before .before .before .before .before .before .before .before .before .before .before .before .before .before .fresh-perm .ensures)
+slice-aggregate-planes-of-5 c = sym (c .before .before .before .before .before .before .before .before .before .before .before .before .before .before .before .before .before .before .before .before .before .before .fresh-leaf-order .ensures)
 
 slice-aggregate-planes-of-6 : tie.Need-slice-aggregate-planes-of-6
-slice-aggregate-planes-of-6 c = sym (c .before .before .before .before .before .before .before .before .before .before .before .before .before .before .before .before .before .before .before .before .before .before .fresh-hi .ensures)
+slice-aggregate-planes-of-6 c = sym (c .before .before .before .before .before .before .before .before .before .before .before .before .before .before .before .before .before .before .before .before .before .before .fresh-keys .ensures)
 
 slice-aggregate-planes-of-7 : tie.Need-slice-aggregate-planes-of-7
-slice-aggregate-planes-of-7 c = sym (c .before .before .before .before .before .before .before .before .before .before .before .before .before .before .before .before .before .before .before .before .before .before .fresh-lo .ensures)
+slice-aggregate-planes-of-7 c = sym (c .before .before .before .before .before .before .before .before .before .before .before .before .before .before .before .before .before .before .before .before .before .before .fresh-low-keys .ensures)
 
 slice-aggregate-planes-of-8 : tie.Need-slice-aggregate-planes-of-8
 slice-aggregate-planes-of-8 c = sym (c .before .before .before .before .before .before .before .before .before .before .before .before .before .before .before .before .before .before .before .before .before .before .fresh-words .ensures)
@@ -35,37 +35,37 @@ slice-aggregate-planes-of-10 : tie.Need-slice-aggregate-planes-of-10
 slice-aggregate-planes-of-10 c = sym (c .before .before .before .before .before .before .before .before .before .before .before .before .before .before .before .before .before .before .before .before .before .before .fresh-index .ensures)
 
 slice-aggregate-planes-of-11 : tie.Need-slice-aggregate-planes-of-11
-slice-aggregate-planes-of-11 c = sym (c .before .before .before .before .before .before .before .before .before .before .before .before .before .before .before .before .before .before .before .before .before .before .fresh-id .ensures)
+slice-aggregate-planes-of-11 c = sym (c .before .before .before .before .before .before .before .before .before .before .before .before .before .before .before .before .before .before .before .before .before .before .fresh-numbers .ensures)
 
 slice-aggregate-planes-of-12 : tie.Need-slice-aggregate-planes-of-12
-slice-aggregate-planes-of-12 c = sym (c .before .before .before .before .before .before .before .before .before .before .before .before .before .before .before .before .before .before .before .before .before .before .fresh-linked .ensures)
+slice-aggregate-planes-of-12 c = sym (c .before .before .before .before .before .before .before .before .before .before .before .before .before .before .before .before .before .before .before .before .before .before .fresh-adjacency .ensures)
 
 slice-aggregate-planes-of-13 : tie.Need-slice-aggregate-planes-of-13
 slice-aggregate-planes-of-13 c = sym (c .before .before .before .before .before .before .before .before .before .before .before .before .before .before .before .before .before .before .before .before .before .before .fresh-queue .ensures)
 
 slice-aggregate-planes-of-14 : tie.Need-slice-aggregate-planes-of-14
-slice-aggregate-planes-of-14 c = sym (c .before .before .before .before .before .before .before .before .before .before .before .before .before .before .before .before .before .before .before .before .before .before .fresh-starts .ensures)
+slice-aggregate-planes-of-14 c = sym (c .before .before .before .before .before .before .before .before .before .before .before .before .before .before .before .before .before .before .before .before .before .before .fresh-offsets .ensures)
 
 slice-aggregate-planes-of-15 : tie.Need-slice-aggregate-planes-of-15
-slice-aggregate-planes-of-15 c = sym (c .before .before .before .before .before .before .before .before .before .before .before .before .before .before .before .before .before .before .before .before .before .before .fresh-gfloats .ensures)
+slice-aggregate-planes-of-15 c = sym (c .before .before .before .before .before .before .before .before .before .before .before .before .before .before .before .before .before .before .before .before .before .before .fresh-floats .ensures)
 
 slice-aggregate-planes-of-16 : tie.Need-slice-aggregate-planes-of-16
-slice-aggregate-planes-of-16 c = sym (c .before .before .before .before .before .before .before .before .before .before .before .before .before .before .before .before .before .before .before .before .before .before .fresh-members .ensures)
+slice-aggregate-planes-of-16 c = sym (c .before .before .before .before .before .before .before .before .before .before .before .before .before .before .before .before .before .before .before .before .before .before .fresh-plane-triangles .ensures)
 
 slice-aggregate-planes-of-17 : tie.Need-slice-aggregate-planes-of-17
-slice-aggregate-planes-of-17 c = sym (c .before .before .before .before .before .before .before .before .before .before .before .before .before .before .before .before .before .before .before .before .before .before .before .before .fresh-edges .ensures)
+slice-aggregate-planes-of-17 c = sym (c .before .before .before .before .before .before .before .before .before .before .before .before .before .before .before .before .before .before .before .before .before .before .before .before .fresh-plane-edges .ensures)
 
-list-images-requires : tie.Need-list-images-requires
-list-images-requires c κs = let p = c .before .before .before .before .before .before .before .before .before .before .before .before .before .before .before .before .before .before .before .before .before .before .before .before .before .planes-of .ensures in (p .few, p .floats-room, p .words-room)
+mark-requires : tie.Need-mark-requires
+mark-requires c κs = let p = c .before .before .before .before .before .before .before .before .before .before .before .before .before .before .before .before .before .before .before .before .before .before .before .before .planes-of .ensures in (p .floats-room, p .words-room)
 
 same-length : tie.Need-same-length
-same-length c = c .before .before .before .before .before .before .before .before .before .before .before .before .before .before .before .before .before .before .before .before .before .before .before .before .before .before .before .before .planes-of .kept .1 .1 .1 .1 .1 .1 .1 .1 .1 .1 .1 .1 .1 .1 .1 .1 .0
+same-length c = c .before .before .before .before .before .before .before .before .before .before .before .before .before .before .before .before .before .before .before .before .before .before .before .before .before .before .before .planes-of .kept .1 .1 .1 .1 .1 .1 .1 .1 .1 .1 .1 .1 .1 .1 .1 .1 .0
 
 same-length-2 : tie.Need-same-length-2
-same-length-2 c = c .before .before .before .before .before .before .before .before .before .before .before .before .before .before .before .before .before .before .before .before .before .before .before .before .before .before .before .before .planes-of .kept .1 .1 .1 .1 .1 .1 .1 .1 .1 .1 .1 .1 .1 .1 .1 .1 .1 .0
+same-length-2 c = c .before .before .before .before .before .before .before .before .before .before .before .before .before .before .before .before .before .before .before .before .before .before .before .before .before .before .before .planes-of .kept .1 .1 .1 .1 .1 .1 .1 .1 .1 .1 .1 .1 .1 .1 .1 .1 .1 .0
 
 same-length-3 : tie.Need-same-length-3
-same-length-3 c = c .before .before .list-images .kept .1 .1 .1 .1 .1 .0
+same-length-3 c = c .before .before .mark .kept .0
 
 pub name-walls-spec : {M : Type 1} → statement M
 name-walls-spec =
@@ -111,8 +111,7 @@ name-walls-spec =
     slice-aggregate-planes-of-16
     slice-aggregate-planes-of-17
     (λ c κs. tt)
-    (λ c κs. tt)
-    list-images-requires
+    mark-requires
     same-length
     same-length-2
     same-length-3

@@ -31,10 +31,10 @@ slice-aggregate-ask : tie.Need-slice-aggregate-ask
 slice-aggregate-ask c = sym (c .before .before .before .before .before .before .before .before .before .before .before .before .before .before .before .before .before .before .before .before .before .fresh-output .ensures)
 
 slice-aggregate-ask-2 : tie.Need-slice-aggregate-ask-2
-slice-aggregate-ask-2 c = sym (c .before .before .before .before .before .before .before .before .before .before .before .before .before .before .before .before .before .before .before .before .before .fresh-rows .ensures)
+slice-aggregate-ask-2 c = sym (c .before .before .before .before .before .before .before .before .before .before .before .before .before .before .before .before .before .before .before .before .before .fresh-plane-floats .ensures)
 
 slice-aggregate-ask-3 : tie.Need-slice-aggregate-ask-3
-slice-aggregate-ask-3 c = sym (c .before .before .before .before .before .before .before .before .before .before .before .before .before .before .before .before .before .before .before .before .before .fresh-kept .ensures)
+slice-aggregate-ask-3 c = sym (c .before .before .before .before .before .before .before .before .before .before .before .before .before .before .before .before .before .before .before .before .before .fresh-plane-words .ensures)
 
 slice-aggregate-ask-5 : tie.Need-slice-aggregate-ask-5
 slice-aggregate-ask-5 c = sym (c .before .before .before .before .before .before .before .before .before .before .before .before .before .before .read-case .kept .1 .0 ∙ c .before .before .before .before .before .before .before .before .before .before .before .before .before .before .before .before .before .before .before .before .before .before .before .before .before .before .before .before .before .before .before .before .fresh-case-words .ensures)
@@ -64,10 +64,10 @@ slice-aggregate-report : tie.Need-slice-aggregate-report
 slice-aggregate-report c = sym (c .before .before .before .before .before .ask .kept .0 ∙ c .before .before .before .before .before .before .before .before .before .before .before .before .before .before .before .before .before .before .before .before .before .before .before .before .before .before .before .before .before .before .before .before .before .before .before .before .before .fresh-output .ensures)
 
 slice-aggregate-report-2 : tie.Need-slice-aggregate-report-2
-slice-aggregate-report-2 c = sym (c .before .before .before .before .before .before .ask .kept .1 .0 ∙ c .before .before .before .before .before .before .before .before .before .before .before .before .before .before .before .before .before .before .before .before .before .before .before .before .before .before .before .before .before .before .before .before .before .before .before .before .before .fresh-rows .ensures)
+slice-aggregate-report-2 c = sym (c .before .before .before .before .before .before .ask .kept .1 .0 ∙ c .before .before .before .before .before .before .before .before .before .before .before .before .before .before .before .before .before .before .before .before .before .before .before .before .before .before .before .before .before .before .before .before .before .before .before .before .before .fresh-plane-floats .ensures)
 
 slice-aggregate-report-3 : tie.Need-slice-aggregate-report-3
-slice-aggregate-report-3 c = sym (c .before .before .before .before .before .before .before .ask .kept .1 .1 .0 ∙ c .before .before .before .before .before .before .before .before .before .before .before .before .before .before .before .before .before .before .before .before .before .before .before .before .before .before .before .before .before .before .before .before .before .before .before .before .before .fresh-kept .ensures)
+slice-aggregate-report-3 c = sym (c .before .before .before .before .before .before .before .ask .kept .1 .1 .0 ∙ c .before .before .before .before .before .before .before .before .before .before .before .before .before .before .before .before .before .before .before .before .before .before .before .before .before .before .before .before .before .before .before .before .before .before .before .before .before .fresh-plane-words .ensures)
 
 slice-aggregate-report-5 : tie.Need-slice-aggregate-report-5
 slice-aggregate-report-5 c = sym (c .before .before .before .before .before .before .before .before .before .before .before .before .before .before .before .before .before .before .before .before .before .before .before .before .before .before .before .before .before .before .read-case .kept .1 .0 ∙ c .before .before .before .before .before .before .before .before .before .before .before .before .before .before .before .before .before .before .before .before .before .before .before .before .before .before .before .before .before .before .before .before .before .before .before .before .before .before .before .before .before .before .before .before .before .before .before .before .fresh-case-words .ensures)
@@ -76,7 +76,7 @@ slice-aggregate-report-6 : tie.Need-slice-aggregate-report-6
 slice-aggregate-report-6 c = sym (c .before .before .before .before .before .before .before .before .before .before .before .before .before .before .before .before .before .before .before .before .before .before .before .before .before .before .before .before .before .before .before .read-case .kept .1 .1 .0 ∙ c .before .before .before .before .before .before .before .before .before .before .before .before .before .before .before .before .before .before .before .before .before .before .before .before .before .before .before .before .before .before .before .before .before .before .before .before .before .before .before .before .before .before .before .before .before .before .before .before .fresh-case-floats .ensures)
 
 report-requires : tie.Need-report-requires
-report-requires c κs = (omega (arith, c .before .before .before .before .before .before .before .before .before .before .ask .kept .1 .0 ∙ c .before .before .before .before .before .before .before .before .before .before .before .before .before .before .before .before .before .before .before .before .before .before .before .before .before .before .before .before .before .before .before .before .before .before .before .before .before .before .before .before .before .fresh-rows .ensures), omega (arith, c .before .before .before .before .before .before .before .before .before .before .ask .kept .1 .1 .0 ∙ c .before .before .before .before .before .before .before .before .before .before .before .before .before .before .before .before .before .before .before .before .before .before .before .before .before .before .before .before .before .before .before .before .before .before .before .before .before .before .before .before .fresh-kept .ensures))
+report-requires c κs = (omega (arith, c .before .before .before .before .before .before .before .before .before .before .ask .kept .1 .0 ∙ c .before .before .before .before .before .before .before .before .before .before .before .before .before .before .before .before .before .before .before .before .before .before .before .before .before .before .before .before .before .before .before .before .before .before .before .before .before .before .before .before .before .fresh-plane-floats .ensures), omega (arith, c .before .before .before .before .before .before .before .before .before .before .ask .kept .1 .1 .0 ∙ c .before .before .before .before .before .before .before .before .before .before .before .before .before .before .before .before .before .before .before .before .before .before .before .before .before .before .before .before .before .before .before .before .before .before .before .before .before .before .before .before .fresh-plane-words .ensures))
 
 pub run-spec : {M : Type 1} → statement M
 run-spec =

@@ -35,6 +35,7 @@ returns c = let a = c .before .before .before .before .before .before .before .b
     let l = g .ensures in
     let is = front-refusal k s (g .result) (f .result) (l .answer) (f .ensures) in
     record {
+      refusal = is;
       are = λ z some. absurd (let fr = fronted k s (g .result) (f .result) (l .answer) (f .ensures) z in let no : ⊥ = omega (arith, fr .kept, some, c .if1 .taken) in no);
       refused = λ no-answer. refl;
       bare = λ empty. refl;
@@ -173,6 +174,7 @@ returns-2 c = let a = c .before .before .before .before .before .before .before 
     let acc = loaded-accepted st (a .c) s lens (a .triangles .now) (a .handles .now) (g .result) (g .last .1 .1 .1 .1 .1 .1 .1 .1 .1 .0) (g .last .1 .1 .1 .1 .1 .1 .1 .1 .1 .1 .0) (f .result .kept) (placings s) (f .result .triples) l (fr .loaded) in
     let room = acc .room in let p = c .before .before .before .before .before .before .before .before .before .before .before .before .before .before .before .before .before .before .before .before .before .before .before .before .before .before .before .before .before .before .before .before .before .before .build-scene .ensures .planes-stand in let inside = within st (a .c) (acc .settings) in
     record {
+      refusal = sym (sym is ∙ none);
       are = λ z some. p .are s (g .last .1 .1 .1 .1 .1 .1 .1 .1 .1 .1 .0) there (c .before .before .before .before .before .before .before .before .before .before .before .before .before .before .before .before .before .before .before .before .before .before .before .before .before .before .before .before .before .before .before .before .before .before .before .before .before .before .before .before .before .before .before .before .before .before .before .before .before .before .before .before .before .before .before .before .clear-from .ensures);
       refused = λ no-answer. absurd (no-answer (sym is ∙ none));
       bare = λ empty. absurd (let no : ⊥ = omega (arith, fr .kept, some, empty) in no);

@@ -13,9 +13,9 @@ use std::time::Instant;
 const ROUNDS: usize = 40;
 
 /// The builds and queries of whole scenes, the call that does both and clears its areas, and then the stages and functions that they are made of.
-const PARTS: [(&str, fn()); 11] = [
+const PARTS: [(&str, fn()); 12] = [
     ("builds", builds), ("queries", queries), ("calls", calls), ("fronts", fronts), ("trees", trees), ("planes", all_planes), ("paths", single_paths),
-    ("rankings", rankings), ("packets", packets), ("roots", roots), ("sorts", sorts),
+    ("rankings", rankings), ("packets", packets), ("walls", walls), ("roots", roots), ("sorts", sorts),
 ];
 
 /// All parts, or those named.
@@ -418,6 +418,16 @@ fn packets() {
     let (r, _) = both(|| (), |_| (0..100).for_each(|_| { black_box(port::packet_read(&packet, &mut back).is_ok()); }), |_| ());
     let rate = |ns: f64| len as f64 * 100.0 / ns * 1e3;
     println!("packet of {TAPS} taps, {len} bytes: written at {:.0} MB/s ({:.2} us), read at {:.0} MB/s ({:.2} us)", rate(w), w / 1e5, rate(r), r / 1e5);
+}
+
+/// From a number to its walls, a thousand calls a round.
+fn walls() {
+    for (planes, order, number, expected) in [(6, 8, 250_000, [2, 3, 4, 5, 4, 5, 4, 5]), (256, 8, 250_000, [0, 1, 0, 1, 0, 4, 212, 133])] {
+        let on = vec![0u8; planes as usize];
+        assert_eq!(port::walls(planes, order, &on, number).as_deref(), Ok(&expected[..]));
+        let (ns, _) = both(|| (), |_| (0..1000).for_each(|_| { black_box(port::walls(black_box(planes), order, &on, black_box(number)).is_ok()); }), |_| ());
+        println!("walls of number {number}, {planes} planes, order {order}: {:.0} ns", ns / 1000.0);
+    }
 }
 
 /// The whole call, which builds and queries and leaves its areas zero, against what `build_bvh` does but for the statistics of the room

@@ -13,3 +13,4 @@ pub mod record;
 pub mod scenes;
 pub mod taps;
 pub mod tree;
+pub mod walls;

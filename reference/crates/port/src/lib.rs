@@ -3,7 +3,7 @@
 //! include/bivelondry_stages.h when either changes.
 
 mod ffi {
-    pub use bivelondry::ffi::{biv_area_lengths, biv_packet_read, biv_packet_write, biv_trace_early_reflections};
+    pub use bivelondry::ffi::{biv_area_lengths, biv_packet_read, biv_packet_write, biv_trace_early_reflections, biv_walls};
 
     extern "C" {
         pub fn biv_sqrt(x: f32) -> f32;
@@ -172,6 +172,21 @@ pub fn packet_write(count: usize, images: u32, rays: u32, taps: &[u32], out: &mu
     match unsafe { ffi::biv_packet_write(count, images, rays, taps.as_ptr(), taps.len(), out.as_mut_ptr(), out.len(), &mut found) } {
         0 => Ok(found[0]),
         k => Err(k),
+    }
+}
+
+/// The walls of an image by its number; the error is document 02's refusal. What stands behind the walls must be 0, and all after a refusal.
+pub fn walls(planes: u32, order: u32, on: &[u8], number: u32) -> Result<Vec<u8>, u32> {
+    let (mut walls, mut found) = ([255u8; 8], [usize::MAX]);
+    // SAFETY: the pointer goes with its own length.
+    let refusal = unsafe { ffi::biv_walls(planes, order, on.as_ptr(), on.len(), number, &mut walls, &mut found) };
+    assert!(walls[found[0]..].iter().all(|&p| p == 0), "planes behind the walls");
+    match refusal {
+        0 => Ok(walls[..found[0]].to_vec()),
+        k => {
+            assert_eq!(found[0], 0, "walls after a refusal");
+            Err(k)
+        }
     }
 }
 

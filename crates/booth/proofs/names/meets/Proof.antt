@@ -6,10 +6,10 @@ use Rattle.booth.proofs.names.meets.Tie as tie
 -- `booth::names::meets` meets its contract: each turn is one wall more.
 
 abbrev Inv-loop : tie.InvT-loop
-Inv-loop records number p count k₀ k = Unit {0}
+Inv-loop on order number p met planes k₀ k = Unit {0}
 
 abbrev μ-loop : tie.MeasureT-loop
-μ-loop records number p count k₀ k = count - k
+μ-loop on order number p met planes k₀ k = met .len - k
 
 pub meets-spec : {M : Type 1} → statement M
 meets-spec =

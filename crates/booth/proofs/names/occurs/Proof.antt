@@ -7,10 +7,10 @@ use Rattle.booth.proofs.names.occurs.Tie as tie
 -- `booth::names::occurs` meets its contract: each tap is within the area.
 
 abbrev Inv-loop : tie.InvT-loop
-Inv-loop taps records count p i₀ i = Unit {0}
+Inv-loop taps on order count p i₀ i = Unit {0}
 
 abbrev μ-loop : tie.MeasureT-loop
-μ-loop taps records count p i₀ i = count - i
+μ-loop taps on order count p i₀ i = count - i
 
 mul-meets : tie.Need-mul-meets Inv-loop μ-loop
 mul-meets c = omega (arith, c .if1 .left)

@@ -6,10 +6,10 @@ use Rattle.booth.proofs.names.print_walls.Tie as tie
 -- `booth::names::print_walls` meets its contract: each turn is one wall more.
 
 abbrev Inv-loop : tie.InvT-loop
-Inv-loop records number count k₀ k = Unit {0}
+Inv-loop on order number met planes k₀ k = Unit {0}
 
 abbrev μ-loop : tie.MeasureT-loop
-μ-loop records number count k₀ k = count - k
+μ-loop on order number met planes k₀ k = met .len - k
 
 pub print-walls-spec : {M : Type 1} → statement M
 print-walls-spec =
