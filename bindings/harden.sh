@@ -21,10 +21,11 @@ built=$PWD/../target/bindings
 mkdir -p "$built/corpus/packet" "$built/corpus/query" "$built/found"
 
 echo "-- AddressSanitizer and UndefinedBehaviorSanitizer"
-for name in case_a test replay; do
+for name in case_a forecast test replay; do
     cc -std=c11 -pedantic -Wall -Wextra -Werror -g -O1 -fsanitize=address,undefined -fno-sanitize-recover=all -I../include "c/$name.c" "$archive" -lm -o "$built/$name.asan"
 done
 "$built/case_a.asan" > /dev/null
+"$built/forecast.asan" > /dev/null
 "$built/test.asan"
 "$built/replay.asan" ../crates/replay/stdin "$built/corpus/query" "$built/corpus/packet"
 # a stable compiler has the sanitizer, but lets only this variable turn it on

@@ -16,16 +16,20 @@ built=$PWD/../target/bindings
 mkdir -p "$built"
 
 echo "-- C: example, tests, recorded queries"
-for name in case_a test replay; do
+for name in case_a forecast test replay; do
     cc -std=c11 -pedantic -Wall -Wextra -Werror -O2 -I../include "c/$name.c" "$archive" -lm -o "$built/$name"
 done
-"$built/case_a" | tee "$built/case_a.c.txt"
+for name in case_a forecast; do
+    "$built/$name" | tee "$built/$name.c.txt"
+done
 "$built/test"
 "$built/replay" ../crates/replay/stdin
 
-echo "-- Rust: tests, example"
+echo "-- Rust: tests, examples"
 (cd rust && cargo test --offline --quiet --target-dir "$built/rust")
-(cd rust && cargo run --offline --quiet --target-dir "$built/rust" --example case_a) > "$built/case_a.rust.txt"
-diff "$built/case_a.c.txt" "$built/case_a.rust.txt" || { echo "bindings: the Rust example prints something else than the C example" >&2; exit 1; }
+for name in case_a forecast; do
+    (cd rust && cargo run --offline --quiet --target-dir "$built/rust" --example "$name") > "$built/$name.rust.txt"
+    diff "$built/$name.c.txt" "$built/$name.rust.txt" || { echo "bindings: the Rust example prints something else than the C example" >&2; exit 1; }
+done
 
 echo "bindings: C and Rust answer as they must"

@@ -49,7 +49,9 @@ enum biv_refusal {
     BIV_NUMBERS = 10,
     BIV_TAP_ORDER = 11,
     /* of an image's number */
-    BIV_NO_IMAGE = 13
+    BIV_NO_IMAGE = 13,
+    /* of a forecast */
+    BIV_FORECAST = 14
 };
 
 static inline const char *biv_refusal_text(uint32_t refusal)
@@ -68,6 +70,7 @@ static inline const char *biv_refusal_text(uint32_t refusal)
     case BIV_NUMBERS: return "a float of the packet is not finite, a delay or a gain not above 0";
     case BIV_TAP_ORDER: return "an image number comes twice, or the taps do not fall in squared-gain sum";
     case BIV_NO_IMAGE: return "no image has the number, or order, planes or plane bytes are out of range";
+    case BIV_FORECAST: return "the planes, first planes, order or triples of a forecast lie outside their limits";
     default: return "no refusal of this library";
     }
 }
@@ -197,6 +200,11 @@ typedef char biv_size_is_64_bits[sizeof(size_t) == 8 ? 1 : -1];
 /* exports/specs/Lengths.antt. The least lengths of all areas, in elements, for so many triples and candidates; false for more than 4,096 triples. */
 bool biv_area_lengths(size_t triples, uint32_t c, size_t lens[BIV_AREAS_LENT]);
 
+/* cost/specs/Forecast.antt. What a query will cost: of so many planes, first of which may come first, sequences of at most order planes, and so many
+ * whole triples. Answers the refusal (14) or 0; counts gets the images of each order from 1 to 8, found candidates, rays and the words of 32 bits of
+ * the work areas, all 0 after a refusal. */
+uint32_t biv_query_cost(uint32_t planes, uint32_t first, uint32_t order, uint32_t triples, uint32_t counts[BIV_MOST_ORDER], uint64_t found[3]);
+
 /* packet/specs/Reader.antt. Answers the refusal (5, 8 to 11) or 0; found gets count, images and rays, 0 after a refusal. */
 uint32_t biv_packet_read(const uint8_t *bytes, size_t bytes_len, uint32_t *taps, size_t taps_len, size_t found[3]);
 
@@ -298,6 +306,27 @@ static inline bool biv_carve(void *block, size_t size, size_t triples, uint32_t 
     BIV_WORK(BIV_CUT)
 #undef BIV_CUT
     return fits;
+}
+
+/* ---- what a query will cost, before a booth is hung */
+
+struct biv_cost {
+    uint32_t counts[BIV_MOST_ORDER]; /* images of each order from 1 to 8 that are visited */
+    uint32_t candidates;             /* their sum: room for so many is never refused with BIV_CANDIDATES */
+    uint64_t rays;                   /* at most */
+    uint64_t words;                  /* of 32 bits, of the work areas for the triples and so many candidates */
+};
+
+/* The forecast for planes (1 to 256), first of which the source does not lie on, an order (1 to 8) and whole triples (at most 4,096). Answers 0, or
+ * BIV_FORECAST, and then all of cost is 0. A block for it has biv_block_size(triples, cost->candidates) bytes. */
+static inline uint32_t biv_forecast(uint32_t planes, uint32_t first, uint32_t order, uint32_t triples, struct biv_cost *cost)
+{
+    uint64_t found[3] = {0, 0, 0};
+    uint32_t refusal = biv_query_cost(planes, first, order, triples, cost->counts, found);
+    cost->candidates = (uint32_t)found[0];
+    cost->rays = found[1];
+    cost->words = found[2];
+    return refusal;
 }
 
 /* ---- the calls of a station */

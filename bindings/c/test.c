@@ -1,4 +1,4 @@
-/* The calls of bivelondry.h: case A, every refusal, the block, the packet, the planes and the walls. Ends with `N checks, 0 failed`. */
+/* The calls of bivelondry.h: case A, every refusal, the block, the packet, the planes, the walls, the forecast. Ends with `N checks, 0 failed`. */
 #include "case_a.h"
 #include <math.h>
 #include <stdio.h>
@@ -348,9 +348,39 @@ static void test_tap_walls(void)
     }
 }
 
+static bool costs_nothing(const struct biv_cost *cost)
+{
+    for (int k = 0; k < BIV_MOST_ORDER; k++)
+        if (cost->counts[k] != 0)
+            return false;
+    return cost->candidates == 0 && cost->rays == 0 && cost->words == 0;
+}
+
+/* Both ends of each limit, and a block that is as long as the forecast says but for what its alignment takes. */
+static void test_forecast(void)
+{
+    static const uint32_t six[BIV_MOST_ORDER] = {3, 13, 64, 320, 1600, 8000, 40000, 200000}, many[BIV_MOST_ORDER] = {1, 1, 1, 1, 1, 4, 977, 249014};
+    static const uint32_t refused[6][4] = {{0, 0, 1, 0}, {257, 1, 1, 0}, {2, 2, 0, 0}, {2, 2, 9, 0}, {2, 3, 8, 0}, {2, 2, 8, BIV_MOST_TRIPLES + 1}};
+    struct biv_cost cost;
+    struct query q = case_a();
+    size_t size;
+    for (int k = 0; k < 6; k++) {
+        memset(&cost, 0x7e, sizeof cost);
+        CHECK(biv_forecast(refused[k][0], refused[k][1], refused[k][2], refused[k][3], &cost) == BIV_FORECAST && costs_nothing(&cost));
+    }
+    CHECK(biv_forecast(6, 6, 8, 12, &cost) == BIV_NO_REFUSAL && memcmp(cost.counts, six, sizeof six) == 0);
+    CHECK(cost.candidates == BIV_MOST_CANDIDATES && cost.rays == 354375162);
+    CHECK(biv_forecast(BIV_MOST_PLANES, BIV_MOST_PLANES, BIV_MOST_ORDER, BIV_MOST_TRIPLES, &cost) == BIV_NO_REFUSAL && memcmp(cost.counts, many, sizeof many) == 0);
+    size = biv_block_size(BIV_MOST_TRIPLES, cost.candidates);
+    CHECK(4 * cost.words <= size && size < 4 * cost.words + 8 * BIV_AREAS_LENT);
+    CHECK(biv_forecast(1, 1, 3, (uint32_t)biv_triples(&q.scene), &cost) == BIV_NO_REFUSAL && cost.candidates == 1 && cost.rays == 324);
+    q.c = cost.candidates;
+    CHECK(trace(&q) == BIV_NO_REFUSAL && answer.images == cost.candidates && answer.rays <= cost.rays);
+}
+
 static void test_texts(void)
 {
-    for (uint32_t k = 0; k <= BIV_NO_IMAGE; k++)
+    for (uint32_t k = 0; k <= BIV_FORECAST; k++)
         for (uint32_t j = 0; j < k; j++)
             CHECK(strcmp(biv_refusal_text(k), biv_refusal_text(j)) != 0);
 }
@@ -371,6 +401,7 @@ int main(void)
     test_walls();
     test_planes();
     test_tap_walls();
+    test_forecast();
     test_texts();
     printf("%u checks, %u failed\n", checks, failed);
     return failed > 0;

@@ -23,6 +23,7 @@ pub const PLANE_AREA: usize = 16;
 
 extern "C" {
     pub fn biv_area_lengths(triples: usize, c: u32, lens: &mut [usize; AREAS]) -> bool;
+    pub fn biv_query_cost(planes: u32, first: u32, order: u32, triples: u32, counts: &mut [u32; ORDERS], found: &mut [u64; 3]) -> u32;
     pub fn biv_packet_read(bytes: *const u8, bytes_len: usize, taps: *mut u32, taps_len: usize, found: &mut [usize; 3]) -> u32;
     #[rustfmt::skip]
     pub fn biv_packet_write(

@@ -34,10 +34,10 @@ pub const BANDS: usize = 8;
 pub const MOST_TRIPLES: usize = 4096;
 /// Candidate room, at most.
 pub const MOST_CANDIDATES: u32 = 250_000;
-/// Planes of a query, at most.
-pub const MOST_PLANES: usize = 256;
+/// Planes of a query or a forecast, at most.
+pub const MOST_PLANES: usize = ffi::PLANES;
 /// Planes of an image's sequence, at most.
-pub const MOST_ORDER: u32 = 8;
+pub const MOST_ORDER: u32 = ffi::ORDERS as u32;
 /// Images of a query, at most.
 pub const MOST_IMAGES: u32 = 250_000;
 /// Taps of a packet, at most.
@@ -45,7 +45,7 @@ pub const MOST_TAPS: usize = 64;
 /// Bytes of a packet, at most: 9, and 54 for each of 64 taps.
 pub const OUTPUT_BYTES: usize = 3465;
 
-/// Why a query, a packet or an image's number is refused; of several reasons the first in this order.
+/// Why a query, a packet, an image's number or a forecast is refused; of several reasons the first in this order.
 #[derive(Clone, Copy, Debug, PartialEq, Eq, PartialOrd, Ord, Hash)]
 pub enum Refusal {
     /// 1: a setting or the candidate room lies outside its limits.
@@ -72,15 +72,17 @@ pub enum Refusal {
     Order,
     /// 13: no image has the number, or order or planes are out of range.
     NoImage = 13,
+    /// 14: the planes, first planes, order or triples of a forecast lie outside their limits.
+    Forecast = 14,
 }
 
 impl Refusal {
-    pub const ALL: [Refusal; 12] = {
+    pub const ALL: [Refusal; 13] = {
         use Refusal::*;
-        [Settings, Lengths, Material, Triangles, Areas, Far, Candidates, Bytes, Counts, Numbers, Order, NoImage]
+        [Settings, Lengths, Material, Triangles, Areas, Far, Candidates, Bytes, Counts, Numbers, Order, NoImage, Forecast]
     };
 
-    /// The number of the refusal, 1 to 11 or 13.
+    /// The number of the refusal: 1 to 11, 13 and 14.
     pub fn number(self) -> u32 {
         self as u32
     }
@@ -109,6 +111,7 @@ impl fmt::Display for Refusal {
             Refusal::Numbers => "a float of the packet is not finite, or a delay or a gain not above 0",
             Refusal::Order => "an image number comes twice, or the taps do not fall in squared-gain sum",
             Refusal::NoImage => "no image has the number, or order or planes are out of range",
+            Refusal::Forecast => "the planes, first planes, order or triples of a forecast lie outside their limits",
         })
     }
 }
@@ -311,6 +314,38 @@ impl Workspace {
         }
         areas
     }
+}
+
+/// What a query will cost.
+#[derive(Clone, Copy, Debug, Default, PartialEq, Eq)]
+pub struct Cost {
+    /// Images of each order from 1 to 8 that are visited.
+    pub counts: [u32; ffi::ORDERS],
+    /// Their sum: a query with room for so many is never refused with [`Refusal::Candidates`].
+    pub candidates: u32,
+    /// At most.
+    pub rays: u64,
+    /// Words of 32 bits of the work areas for the triples and so many candidates.
+    pub words: u64,
+}
+
+/// What a query over so many planes (1 to 256), of which `first` may come first, of an order (1 to 8) and so many whole triples (at most 4,096) will cost;
+/// [`Refusal::Forecast`] for others.
+///
+/// ```
+/// use bivelondry::{query_cost, Refusal};
+/// let cost = query_cost(6, 6, 3, 12)?;
+/// assert_eq!(cost.counts, [6, 30, 150, 0, 0, 0, 0, 0]);
+/// assert_eq!((cost.candidates, cost.rays), (186, 113_724));
+/// assert_eq!(query_cost(6, 7, 3, 12), Err(Refusal::Forecast));
+/// # Ok::<(), Refusal>(())
+/// ```
+pub fn query_cost(planes: u32, first: u32, order: u32, triples: u32) -> Result<Cost, Refusal> {
+    let (mut counts, mut found) = ([0; ffi::ORDERS], [0; 3]);
+    // SAFETY: it asks nothing.
+    Refusal::check(unsafe { ffi::biv_query_cost(planes, first, order, triples, &mut counts, &mut found) })?;
+    let [candidates, rays, words] = found;
+    Ok(Cost { counts, candidates: candidates as u32, rays, words })
 }
 
 /// A tap: one echo, as the packet has it.

@@ -143,7 +143,7 @@ fn packets_are_refused() {
 
 #[test]
 fn refusals_have_their_numbers_and_texts() {
-    assert!(Refusal::ALL.iter().map(|r| r.number()).eq((1..=11).chain([13])));
+    assert!(Refusal::ALL.iter().map(|r| r.number()).eq((1..=11).chain([13, 14])));
     for (k, r) in Refusal::ALL.iter().enumerate() {
         assert!(Refusal::ALL[..k].iter().all(|q| q.to_string() != r.to_string()));
     }

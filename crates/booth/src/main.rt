@@ -3,6 +3,7 @@
 //
 // Proved: it is safe and ends, whatever the file holds. What it prints is the answer of `query`, whose contract says what that is.
 mod areas;
+mod forecast;
 mod names;
 mod scene_text;
 mod table;
@@ -299,7 +300,7 @@ fn limited(n: u32, most: usize) -> usize
     most
 }
 
-// The query of a case that was read: the parts of its areas that it fills.
+// The forecast and the query of a case that was read: the parts of its areas that it fills.
 fn ask(
     out: &mut [u8],
     plane_floats: &mut [f32],
@@ -316,6 +317,7 @@ fn ask(
     requires { ⌜ (192 ≤ length (now meshes)) × (1024 ≤ length (now transforms)) × (6144 ≤ length (now positions)) × (1536 ≤ length (now indices)) ×
         (1024 ≤ length (now materials)) ⌝ }
 {
+    forecast::print_forecast(w);
     let rows = 16 * limited(casefile::word(w, 7), 64);
     let mesh_words = 3 * limited(casefile::word(w, 8), 64);
     let mesh_floats = 16 * limited(casefile::word(w, 8), 64);

@@ -1,6 +1,6 @@
-// What a station calls from C or Rust: the query, the packet, the planes of a scene, the walls of an image and the lengths of the areas, with numbers,
-// slices and arrays alone. A `&[T]` passes as a pointer and then a length, a `&[T; n]` as a pointer to n elements. No function asks anything of its caller: what is
-// wrong is refused. include/bivelondry.h declares them, bindings/rust wraps them.
+// What a station calls from C or Rust: the query, its forecast, the packet, the planes of a scene, the walls of an image and the lengths of the areas, with
+// numbers, slices and arrays alone. A `&[T]` passes as a pointer and then a length, a `&[T; n]` as a pointer to n elements. No function asks anything of its
+// caller: what is wrong is refused. include/bivelondry.h declares them, bindings/rust wraps them.
 use answer::Answered;
 use packet::Reading;
 use packet::Written;
@@ -15,14 +15,19 @@ ghost use Rattle.packet.specs.Writer.{writeAnswer, writeOut, writeRefusal, writ
 ghost use Rattle.numbering.specs.Walls.{answerOf};
 ghost use Rattle.scene.specs.Scene.{scene};
 ghost use Rattle.scene.specs.Limits.{mostTriples};
+ghost use Rattle.segments.specs.Segment.{maxCrossings};
+ghost use Rattle.cost.specs.Forecast.{Forecast};
 ghost use Rattle.arguments.specs.Point.{pointFrom};
 ghost use Rattle.mirror.specs.Rows.{planeFloats, planeWords, planesIn};
 ghost use Rattle.search.specs.Outcome.{onOf};
 ghost use Rattle.query.specs.Areas.{work};
 ghost use Rattle.exports.specs.Lengths.{leastLengths, LengthsSet};
-ghost use Rattle.exports.specs.Answers.{answeredFrom};
+ghost use Rattle.exports.specs.Answers.{answeredFrom, costFrom};
 ghost use Rattle.exports.specs.Entry.{Entered};
 ghost use Rattle.exports.specs.Planes.{PlanesEntered};
+
+// The last curve of a distance model that is known: 0 is Inverse, 1 Linear.
+const LAST_CURVE: u32 = 1;
 
 // ---- the packet
 
@@ -136,6 +141,28 @@ pub extern "C" fn biv_area_lengths(triples: usize, c: u32, lens: &mut [usize; sc
     true
 }
 
+// ---- the forecast
+
+// `cost::query_cost`: what a query will cost. Answers the refusal, or 0. `counts` gets the images of each order from 1 to 8, `found` the candidates, rays
+// and words of work area, all zero after a refusal.
+#[no_mangle]
+pub extern "C" fn biv_query_cost(
+    planes: u32,
+    first: u32,
+    order: u32,
+    triples: u32,
+    counts: &mut [u32; 8],
+    found: &mut [u64; 3],
+) -> u32
+    ensures { λ r. ⌜ Forecast maxCrossings planes first order triples (costFrom r (now (counts .exit)) (now (found .exit))) ⌝ }
+{
+    let c = cost::query_cost(planes, first, order, triples);
+    let images = c.counts;
+    *counts = images;
+    *found = [c.candidates as u64, c.rays, c.words];
+    c.refusal
+}
+
 // ---- the whole call
 
 // The numbers of an answer: the refusal is handed on, `found` gets count, images, rays and bytes.
@@ -198,7 +225,7 @@ pub extern "C" fn biv_trace_early_reflections(
         ⌜ Entered (now (counts .entry)) (now («setting_floats» .entry)) c parts (pointFrom (now (source .entry))) (pointFrom (now (listener .entry))) separated
         r (now (found .exit)) (now (out .entry)) (now (out .exit)) before after ⌝ }
 {
-    if counts[4] > 1 {
+    if counts[4] > LAST_CURVE {
         *found = [0, 0, 0, 0];
         return 1;
     }
@@ -303,7 +330,7 @@ pub extern "C" fn biv_planes(
         ⌜ PlanesEntered (now (counts .entry)) (now («setting_floats» .entry)) c parts (pointFrom (now (source .entry))) r (now (found .exit)) (now (on .entry))
         (now (on .exit)) before after ⌝ }
 {
-    if counts[4] > 1 {
+    if counts[4] > LAST_CURVE {
         *found = [0];
         return 1;
     }

@@ -25,6 +25,8 @@ use Rattle.placing.specs.declared.Loaded.the-variants.{Triangles}
 use Rattle.bounces.specs.Areas.{maxOrder}
 use Rattle.packet.specs.Limits.{mostTaps}
 use Rattle.sequences.specs.Allowed.{mostPlanes, visited}
+use Rattle.segments.specs.Segment.{maxCrossings}
+use Rattle.cost.specs.Forecast.{mostRays}
 use Rattle.paths.specs.Path.{pathOf}
 use Rattle.paths.specs.declared.Fate.{Fate}
 use Rattle.paths.specs.declared.Fate.the-variants.{TooFar, NotCrossed, OffSurface, TooLong, Faded, Blocked, Faint, Passed}
@@ -44,7 +46,7 @@ use Rattle.answer.proofs.Silence.{used-most}
 use Rattle.front.specs.declared.Front.{Front}
 use Rattle.front.specs.Asked.{frontOf, earlyOf, searchOrder}
 use Rattle.query.specs.Areas.{Work, work, zeroed, lengthsOf}
-use Rattle.query.specs.Trace.{silentOf, usedOrder, orderOf, limitOf, queryIn, byRefusal, traceOf, callOf, workAfter, mostRays, Traced}
+use Rattle.query.specs.Trace.{silentOf, usedOrder, orderOf, limitOf, queryIn, byRefusal, traceOf, callOf, workAfter, Traced}
 
 -- ---- what loading answers
 
@@ -209,7 +211,7 @@ module _ (st : Settings) (planes : List Plane) (tri : ℕ → Triangle) (t : Tre
       (sym (fate-rays (pathOf st planes tri t materials source listener seq .fate) (pathOf st planes tri t materials source listener seq .rays)))
       (path-rays st planes tri t materials source listener seq)
 
-  all-rays : (seqs : List (List ℕ)) → raysFor (outcomesOf st planes tri t materials source listener) seqs ≤ mostRays seqs
+  all-rays : (seqs : List (List ℕ)) → raysFor (outcomesOf st planes tri t materials source listener) seqs ≤ mostRays maxCrossings seqs
   unfolding raysFor mostRays
   all-rays [] = omega arith
   all-rays (q ∷ qs) = let h = outcome-rays q in let i = all-rays qs in add-le-add h i
@@ -248,7 +250,7 @@ traced st c s source listener separated r out out′ found left h w =
           given-rays (onOf (planesFor st (triangles s)) source) (orderOf st s source listener separated) (st .«speed_of_sound») (st .«sample_rate») (limitOf st) c
           (pathFor st (triangles s) (s .materials) source listener) a (g .1)
           in
-          subst (λ (n : ℕ). n ≤ mostRays (visited (onOf (planesFor st (triangles s)) source) (orderOf st s source listener separated))) (sym same)
+          subst (λ (n : ℕ). n ≤ mostRays maxCrossings (visited (onOf (planesFor st (triangles s)) source) (orderOf st s source listener separated))) (sym same)
           (all-rays st (planesFor st (triangles s)) (triangleAt (triangles s)) (treeOf (triangles s)) (s .materials) source listener
           (visited (onOf (planesFor st (triangles s)) source) (orderOf st s source listener separated)));
     }

@@ -2,3 +2,4 @@
 pub mod Zero
 pub mod Call
 pub mod Prefix
+pub mod Foreseeing

@@ -86,7 +86,7 @@ module _ (st : Settings) (a b : ℕ) where
 
 -- ---- an answer
 
-given-is :
+pub given-is :
     (on : List ℕ) (order : ℕ) (speed rate : Float) (limit room : ℕ) (path : List ℕ → Outcome) (x : Answer) →
     queryOf on order speed rate limit room path ≡ given x → answerOf on order speed rate limit path ≡ x
 unfolding queryOf
@@ -98,7 +98,7 @@ given-is on order speed rate limit room path x e = go (ltb room (length (found p
     go true e = absurd (let z : _≡_ {A = ℕ} 0 1 = cc in omega arith)
     go false e = cc
 
-by-given : (k : ℕ) (q : Query) (x : Answer) → byRefusal k q ≡ given x → q ≡ given x
+pub by-given : (k : ℕ) (q : Query) (x : Answer) → byRefusal k q ≡ given x → q ≡ given x
 by-given zero q x e = e
 by-given (suc k) q x e = absurd (let z : _≡_ {A = ℕ} 0 1 = cc in omega arith)
 

@@ -2,3 +2,4 @@
 pub mod Areas
 pub mod Trace
 pub mod Lists
+pub mod Room

@@ -1,8 +1,8 @@
 -- `trace_early_reflections`: the answer of a call over settings, scene and positions alone, and what the call promises of it.
-use Prim.Native.Nat.{ℕ, _+_, _*_, _≤_, min}
+use Prim.Native.Nat.{ℕ, _≤_, min}
 use mathlib.Core.Path.{_≡_}
 use mathlib.Core.Bool.{Bool, cond, _&&_}
-use mathlib.Core.List.{List, [], _∷_}
+use mathlib.Core.List.{List}
 use lib.Dec.{ltb}
 use lib.ListN.{length}
 use Rattle.vector.specs.declared.Vec3.{Vec3}
@@ -12,6 +12,8 @@ use Rattle.placing.specs.Corners.{triangles}
 use Rattle.placing.specs.Loading.{firstRefusal}
 use Rattle.bounces.specs.Areas.{maxOrder}
 use Rattle.sequences.specs.Allowed.{visited}
+use Rattle.segments.specs.Segment.{maxCrossings}
+use Rattle.cost.specs.Forecast.{mostRays}
 use Rattle.claim.specs.Answer.{Answer}
 use Rattle.claim.specs.Complete.{Complete}
 use Rattle.claim.specs.Query.{Query, given}
@@ -40,11 +42,6 @@ traceOf st c s lens source listener separated = byRefusal (firstRefusal st c s l
 abbrev pub workAfter : ℕ → Work → Work
 workAfter k w = cond (ltb 0 k && ltb k 6) w (zeroed w)
 
--- "An image of order n costs at most 162 × (n + 1)"
-unfoldable pub mostRays : List (List ℕ) → ℕ
-mostRays [] = 0
-mostRays (q ∷ qs) = 162 * (length q + 1) + mostRays qs
-
 -- THE ANSWER of a call that is lent these work areas and this output area
 abbrev pub callOf : Settings → ℕ → Scene → Vec3 → Vec3 → Bool → Work → List ℕ → Query
 callOf st c s source listener separated found out = traceOf st c s (lengthsOf found out) source listener separated
@@ -63,6 +60,7 @@ pub record Traced
       (a : Answer) → callOf st c s source listener separated found out ≡ given a →
       Complete (onOf (planesFor st (triangles s)) source) (orderOf st s source listener separated) (st .«speed_of_sound») (st .«sample_rate») (limitOf st)
       (pathFor st (triangles s) (s .materials) source listener) a
+  -- "An image of order n costs at most 162 × (n + 1)"
   pub rays :
       (a : Answer) → callOf st c s source listener separated found out ≡ given a →
-      a .rays ≤ mostRays (visited (onOf (planesFor st (triangles s)) source) (orderOf st s source listener separated))
+      a .rays ≤ mostRays maxCrossings (visited (onOf (planesFor st (triangles s)) source) (orderOf st s source listener separated))

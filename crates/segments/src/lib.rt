@@ -19,7 +19,7 @@ ghost use Rattle.segments.specs.Areas.{traceIn, TreeReads, Traceable};
 
 const OCCLUSION_EPS: f32 = 1e-3;
 
-const OCCLUSION_MAX_CROSSINGS: usize = 8;
+pub const OCCLUSION_MAX_CROSSINGS: usize = 8;
 
 const REFLECTION_VISIBILITY_RADIUS: f32 = 0.06;
 

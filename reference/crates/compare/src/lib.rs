@@ -1,6 +1,7 @@
 //! What the comparison and the benchmark share: the generator of scenes, a case as the port takes it, and the stages compared.
 pub mod calls;
 pub mod cases;
+pub mod cost;
 pub mod differences;
 pub mod front;
 pub mod lists;

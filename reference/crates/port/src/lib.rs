@@ -3,7 +3,7 @@
 //! include/bivelondry_stages.h when either changes.
 
 mod ffi {
-    pub use bivelondry::ffi::{biv_area_lengths, biv_packet_read, biv_packet_write, biv_trace_early_reflections, biv_walls};
+    pub use bivelondry::ffi::{biv_area_lengths, biv_packet_read, biv_packet_write, biv_query_cost, biv_trace_early_reflections, biv_walls};
 
     extern "C" {
         pub fn biv_sqrt(x: f32) -> f32;
@@ -261,6 +261,24 @@ pub fn area_lengths(t: usize, c: u32) -> Option<[usize; AREAS]> {
     let mut lens = [0; AREAS];
     // SAFETY: it asks nothing.
     unsafe { ffi::biv_area_lengths(t, c, &mut lens) }.then_some(lens)
+}
+
+/// Words of 32 bits of an element of each area; the output is no work area.
+pub const WORDS: [usize; AREAS] = [1, 1, 1, 1, 1, 2, 2, 2, 2, 1, 1, 1, 1, 1, 1, 1, 1, 1, 1, 0];
+
+/// What the port says that a query will cost: the refusal, the images of each order, and candidates, rays and words.
+#[derive(Clone, Copy, Debug, PartialEq, Eq)]
+pub struct Cost {
+    pub refusal: u32,
+    pub counts: [u32; 8],
+    pub found: [u64; 3],
+}
+
+pub fn query_cost(planes: u32, first: u32, order: u32, triples: u32) -> Cost {
+    let mut c = Cost { refusal: 0, counts: [u32::MAX; 8], found: [u64::MAX; 3] };
+    // SAFETY: it asks nothing.
+    c.refusal = unsafe { ffi::biv_query_cost(planes, first, order, triples, &mut c.counts, &mut c.found) };
+    c
 }
 
 /// Columns of a triangle, floats and words of a candidate, and the least output (docs/AREAS.md).

@@ -1,0 +1,35 @@
+// What the query of a case will cost, said before it is traced.
+use crate::table::print;
+use crate::table::print_count;
+use cost::Cost;
+use sequences::MAX_IMAGE_ORDER;
+
+fn lesser(a: u32, b: u32) -> u32 {
+    if a < b {
+        return a;
+    }
+    b
+}
+
+fn print_figures(r: Cost) {
+    print_count(b"  at most ", r.candidates as u64);
+    print_count(b" images are visited, ", r.rays);
+    print_count(b" rays traced and ", r.words);
+    print(b" words of work area taken.\n\n");
+}
+
+// The forecast for as many walls as the settings and the triangles of a case allow, each of which may come first. Nothing where none can be made.
+pub fn print_forecast(w: &[u32]) {
+    let triples = casefile::word(w, 10) / 3;
+    let planes = lesser(casefile::word(w, 2), triples);
+    let order = lesser(casefile::word(w, 0), MAX_IMAGE_ORDER as u32);
+    let r = cost::query_cost(planes, planes, order, triples);
+    if r.refusal != 0 {
+        return;
+    }
+    print_count(b"Before it is traced: with ", triples as u64);
+    print_count(b" triangles, no more than ", planes as u64);
+    print_count(b" walls and order ", order as u64);
+    print(b"\n");
+    print_figures(r);
+}

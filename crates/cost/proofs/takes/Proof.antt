@@ -1,0 +1,48 @@
+-- `cost::takes` meets its contract: test by test.
+use mathlib.Core.Path.{_≡_, refl, sym, ap}
+use native.Mathlib.Omega.{arith}
+use borrow.Author.Tests.{le-leb, lt-leb}
+use Rattle.cost.specs.Cost.{takes}
+use Rattle.cost.proofs.takes.Statement.{statement}
+use Rattle.cost.proofs.takes.Tie as tie
+
+returns : tie.Need-returns
+unfolding takes
+returns c =
+    rw (
+      ← c .before .before .before .before .within .ensures,
+      c .before .before .before .if1 .taken,
+      ← c .before .before .within2 .ensures,
+      c .before .if2 .taken,
+      le-leb _ _ (c .if3 .taken),
+    )
+
+returns-2 : tie.Need-returns-2
+unfolding takes
+returns-2 c =
+    rw (
+      ← c .before .before .before .before .within .ensures,
+      c .before .before .before .if1 .taken,
+      ← c .before .before .within2 .ensures,
+      c .before .if2 .taken,
+      lt-leb _ _ (c .if3 .left),
+    )
+
+returns-3 : tie.Need-returns-3
+unfolding takes
+returns-3 c = rw (← c .before .before .before .within .ensures, c .before .before .if1 .taken, ← c .before .within2 .ensures, c .if2 .left)
+
+returns-4 : tie.Need-returns-4
+unfolding takes
+returns-4 c = rw (← c .before .within .ensures, c .if1 .left)
+
+pub takes-spec : {M : Type 1} → statement M
+takes-spec =
+    tie.close
+    (tie.spec
+    (λ c κs. tt)
+    (λ c κs. tt)
+    returns
+    returns-2
+    returns-3
+    returns-4)

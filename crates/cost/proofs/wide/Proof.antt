@@ -1,0 +1,14 @@
+-- `cost::wide` meets its contract.
+use mathlib.Core.Path.{_≡_, refl}
+use native.Mathlib.Omega.{arith}
+use Rattle.cost.proofs.wide.Statement.{statement}
+use Rattle.cost.proofs.wide.Tie as tie
+
+returns : tie.Need-returns
+returns c = (refl, omega arith)
+
+pub wide-spec : {M : Type 1} → statement M
+wide-spec =
+    tie.close
+    (tie.spec
+    returns)
