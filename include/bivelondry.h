@@ -17,6 +17,9 @@
  * time need a block each. What it holds does not matter, but it is read, so it must have been set once, as calloc does (docs/HARDENING.md). Nothing
  * else is kept between calls, and nothing is allocated.
  *
+ * Lengths and positions are in metres, speeds in metres a second, rates in hertz, delays in samples; axes are any three at right angles, the same for
+ * scene, source, listener and answer. docs/BEHAVIOUR.md is the manual: settings, refusals and what to do about each, how images, gains and the list are made.
+ *
  * Link target/staticlib/libexports.a (made by `rt staticlib exports`). What is proved is what stands there; this header hands on to it, and nothing
  * checks its declarations against the Rattle source but the tests of bindings/. The stages alone are in bivelondry_stages.h. */
 #ifndef BIVELONDRY_H
@@ -78,10 +81,13 @@ static inline const char *biv_refusal_text(uint32_t refusal)
 /* ---- what a query takes */
 
 #define BIV_MOST_TRIPLES 4096
-#define BIV_MOST_CANDIDATES 250000
+#define BIV_MOST_CANDIDATES 250000 /* candidate room */
 #define BIV_MOST_TAPS 64
 #define BIV_MOST_ORDER 8
 #define BIV_MOST_PLANES 256
+/* Sequences of planes that a query visits, at most: the first in the order of a dictionary, which goes deep before it goes on. An answer with so many
+ * images stopped at this limit: later planes may never have come first, and then even their single bounces are missing. All are visited up to 63 planes at order
+ * 3, 22 at 4, 12 at 5, 8 at 6, 6 at 7 and 5 at 8; so ask for a lower order or fewer planes. */
 #define BIV_MOST_IMAGES 250000
 #define BIV_BANDS 8
 #define BIV_OUTPUT_BYTES 3465 /* the longest packet: 9 bytes, and 54 for each of 64 taps */
@@ -90,22 +96,26 @@ enum biv_curve { BIV_INVERSE = 0, BIV_LINEAR = 1 };
 
 struct biv_distance_model {
     uint32_t curve; /* enum biv_curve; another number is refused with BIV_SETTINGS */
-    float reference_distance, rolloff_factor, min_distance, max_distance; /* each 0 to 1,000,000 */
+    /* each 0 to 1,000,000 */
+    float reference_distance; /* m: where the law is 1 */
+    float rolloff_factor;     /* no unit: how steep it is; 1 / d for Inverse with 1 and a reference of 1 m */
+    float min_distance;       /* m: a shorter path counts as this long */
+    float max_distance;       /* m: a longer path counts as this long; drops no echo */
 };
 
 /* By the Rust's names; the limits are those of refusal 1. */
 struct biv_settings {
-    uint32_t max_reflection_order;    /* any; used as at most 8 */
-    uint32_t max_reflections;         /* any; used as at most 64 */
-    uint32_t max_reflection_planes;   /* 0 to 256 */
-    float reflection_edge_fade;       /* finite */
-    float max_reflection_distance;    /* above 0, at most 1,000 */
-    float speed_of_sound;             /* 100 to 2,000 */
-    float sample_rate;                /* 8,000 to 192,000 */
-    float plane_merge_cos;            /* -1 to 1: the cosine of the Rust's plane_merge_angle_deg */
+    uint32_t max_reflection_order;    /* bounces of an echo; any, used as at most 8 */
+    uint32_t max_reflections;         /* taps of the list; any, used as at most 64 */
+    uint32_t max_reflection_planes;   /* 0 to 256: the most important ones reflect, all others only block */
+    float reflection_edge_fade;       /* m, finite: how far from its border a surface reflects less; 0 or below: hard edges */
+    float max_reflection_distance;    /* m, above 0, at most 1,000: the longest path */
+    float speed_of_sound;             /* m/s, 100 to 2,000 */
+    float sample_rate;                /* Hz, 8,000 to 192,000 */
+    float plane_merge_cos;            /* no unit, -1 to 1: the cosine, taken in float, of the Rust's plane_merge_angle_deg */
     bool plane_merge;                 /* whether that angle is above 0 */
-    float plane_merge_offset;         /* finite */
-    float plane_buried_distance;      /* finite */
+    float plane_merge_offset;         /* m, finite; 0 or below: nothing is merged */
+    float plane_buried_distance;      /* m, finite; 0 or below: not tested */
     struct biv_distance_model distance_model;
 };
 
@@ -132,19 +142,19 @@ static inline struct biv_settings biv_default_settings(void)
     return s;
 }
 
-/* The parts of a scene, each a pointer and how many elements it has; a part of none may be NULL. */
+/* The parts of a scene, each a pointer, aligned for its elements, and how many elements it has; a part of none may be NULL. */
 struct biv_scene {
     const uint32_t *meshes; /* 3 a mesh: vertices, indices, material handle */
     size_t meshes_len;
-    const float *transforms; /* 16 a mesh, column by column */
+    const float *transforms; /* 16 a mesh, column by column; metres in the fourth column; the fourth row takes no part */
     size_t transforms_len;
-    const float *positions; /* 3 a vertex, mesh after mesh */
+    const float *positions; /* 3 a vertex, x y z, mesh after mesh; placed by the transform they are metres, at most 10,000 from 0 on each axis */
     size_t positions_len;
-    const uint32_t *indices; /* mesh after mesh, each into the mesh's own vertices */
+    const uint32_t *indices; /* 3 a triangle, mesh after mesh, each into the mesh's own vertices, from 0; a triple with one out of range is left out */
     size_t indices_len;
-    const float *materials; /* 16 a row: absorption, then transmission, of eight bands */
+    const float *materials; /* 16 a row: absorption (of energy), then transmission (of amplitude), 0 to 1, of eight bands around 62.5 .. 8,000 Hz */
     size_t materials_len;
-    uint32_t rows;
+    uint32_t rows; /* of the materials; a handle is below it */
 };
 
 /* The whole index triples of a scene, which its block is sized by. */
@@ -160,26 +170,26 @@ static inline size_t biv_triples(const struct biv_scene *scene)
 
 struct biv_answer {
     size_t count;    /* taps */
-    uint32_t images; /* sequences of planes tried */
+    uint32_t images; /* sequences of planes tried; BIV_MOST_IMAGES just where there are more: the search stopped there, and echoes may be missing */
     uint32_t rays;   /* traced for them */
     size_t bytes;    /* of the packet */
 };
 
 /* A tap as the packet has it: 14 words of 32 bits. */
 struct biv_tap {
-    uint32_t order;
-    uint32_t number;
-    float direction[3];
-    float delay_samples;
-    float gains[BIV_BANDS];
+    uint32_t order;         /* bounces, 1 to 8 */
+    uint32_t number;        /* of its image, from 1: biv_walls_of names its walls */
+    float direction[3];     /* a unit vector from the listener to the last bounce, in the scene's axes */
+    float delay_samples;    /* samples from the moment when the source sounds, with a fraction */
+    float gains[BIV_BANDS]; /* factors on the amplitude, 0 or above, of the bands around 62.5, 125, 250, 500, 1,000, 2,000, 4,000 and 8,000 Hz */
 };
 
 /* A plane of a scene, which a wall of a path is: its panels lie in it. */
 struct biv_plane {
     float normal[3]; /* a unit vector */
-    float offset;    /* along it, from the origin */
-    float area;      /* of its triangles */
-    bool source_on;  /* whether the source lies on it, so that no path begins with it */
+    float offset;    /* m along it, from the origin */
+    float area;      /* m^2, of its triangles */
+    bool source_on;  /* whether the source lies on it (nearer than 0.1 mm), so that no path begins with it */
 };
 
 /* The walls of an image: the planes that its path meets, the one next to the source first, and 0 behind them. */
@@ -190,8 +200,9 @@ struct biv_walls_met {
 
 typedef char biv_tap_is_14_words[sizeof(struct biv_tap) == 14 * sizeof(uint32_t) ? 1 : -1];
 
-/* ---- the functions of the archive, which is for x86-64. A slice is a pointer, never NULL, and then a length; an array is a pointer, never NULL, to as many
- * elements as stand in its brackets, which no length follows; no two overlap, and all was set once. That is all they ask: what else is wrong is refused. */
+/* ---- the functions of the archive, which is for x86-64. A slice is a pointer, never NULL (but for an output of length 0, which is refused), and then a
+ * length; an array is a pointer, never NULL, to as many elements as stand in its brackets, which no length follows; each is aligned for its elements, no two
+ * overlap, and all was set once. That is all they ask: what else is wrong is refused. */
 
 typedef char biv_size_is_64_bits[sizeof(size_t) == 8 ? 1 : -1];
 
@@ -312,9 +323,9 @@ static inline bool biv_carve(void *block, size_t size, size_t triples, uint32_t 
 
 struct biv_cost {
     uint32_t counts[BIV_MOST_ORDER]; /* images of each order from 1 to 8 that are visited */
-    uint32_t candidates;             /* their sum: room for so many is never refused with BIV_CANDIDATES */
-    uint64_t rays;                   /* at most */
-    uint64_t words;                  /* of 32 bits, of the work areas for the triples and so many candidates */
+    uint32_t candidates;             /* their sum, images: room for so many is never refused with BIV_CANDIDATES; BIV_MOST_IMAGES: the search will stop there */
+    uint64_t rays;                   /* traced, at most */
+    uint64_t words;                  /* of 4 bytes, of the work areas for the triples and so many candidates */
 };
 
 /* The forecast for planes (1 to 256), first of which the source does not lie on, an order (1 to 8) and whole triples (at most 4,096). Answers 0, or
@@ -354,10 +365,17 @@ static inline struct biv_numbers biv_numbers_of(const struct biv_settings *setti
     return n;
 }
 
-/* A query: the packet of taps stands in the first answer->bytes of out. Answers the refusal or 0. c is the candidate room, 0 to 250,000; block has
+/* A query: the packet of taps stands in the first answer->bytes of out. Answers the refusal or 0. Source and listener are in metres. block has
  * biv_block_size(biv_triples(scene), c) bytes or more, out BIV_OUTPUT_BYTES or more: less is refused with BIV_AREAS. separated says that a wall
  * stands between source and listener, so that nothing is heard. The block's areas are zero after a result and the refusals 6 and 7, and as they were
- * after 1 to 5. */
+ * after 1 to 5.
+ *
+ * c is the candidate room, 0 to 250,000: all paths that pass must find room, not just those that are sent. A candidate takes 88 bytes, which each call
+ * reads to leave them zero: 250,000 cost 22 MB and some 0.3 ms a call. A plain booth of six walls has 62 at order 3 and 340 at order 8; the
+ * program booth lends 4,096. Room for the candidates of biv_forecast is never refused with BIV_CANDIDATES.
+ *
+ * block and out may begin anywhere. Neither may overlap the other, answer, or anything else that the call is given. block may be NULL, and out with
+ * out_len 0: nothing is read or written there, and the call is refused with BIV_AREAS or a lower one. No other of its pointers may be NULL. */
 static inline uint32_t biv_trace(const struct biv_settings *settings, uint32_t c, const struct biv_scene *scene, const float source[3],
                                  const float listener[3], bool separated, void *block, size_t size, uint8_t *out, size_t out_len,
                                  struct biv_answer *answer)
@@ -383,7 +401,7 @@ static inline uint32_t biv_trace(const struct biv_settings *settings, uint32_t c
 }
 
 /* Reads a packet: its taps, best first, and its counts. Answers the refusal (8 to 11) or 0. Past the last tap read, and after a refusal, taps is as
- * it was; after a refusal the counts are 0. */
+ * it was; after a refusal the counts are 0. bytes may begin anywhere, and be NULL with bytes_len 0, which is refused with BIV_BYTES. */
 static inline uint32_t biv_read(const uint8_t *bytes, size_t bytes_len, struct biv_tap taps[BIV_MOST_TAPS], struct biv_answer *answer)
 {
     uint32_t words[14 * BIV_MOST_TAPS];
@@ -399,7 +417,8 @@ static inline uint32_t biv_read(const uint8_t *bytes, size_t bytes_len, struct b
 }
 
 /* Writes the packet of answer->count taps with answer's images and rays. Answers the refusal (5, 9 to 11) or 0; answer->bytes gets the packet's
- * length, 0 after a refusal, which writes nothing. out has BIV_OUTPUT_BYTES or more. */
+ * length, 0 after a refusal, which writes nothing. out has BIV_OUTPUT_BYTES or more, less is refused with BIV_AREAS; it may be NULL with out_len 0. taps may
+ * be NULL where there are none. */
 static inline uint32_t biv_write(const struct biv_tap *taps, struct biv_answer *answer, uint8_t *out, size_t out_len)
 {
     uint32_t words[14 * BIV_MOST_TAPS] = {0};

@@ -19,6 +19,10 @@
 //! # Ok::<(), bivelondry::Refusal>(())
 //! ```
 //!
+//! Lengths and positions are in metres, speeds in metres a second, rates in hertz, delays in samples; axes are any three at right angles, the same for
+//! scene, source, listener and answer. docs/BEHAVIOUR.md of the repository is the manual: settings, refusals and what to do about each, how images,
+//! gains and the list are made.
+//!
 //! What is proved is what the archive holds (`target/staticlib/libexports.a`, by `rt staticlib exports`); this crate hands on to it. Its `unsafe`
 //! calls pass slices of their own lengths and arrays of the length that their types say; no function of the archive asks more.
 
@@ -28,7 +32,7 @@ pub mod ffi;
 
 use std::fmt;
 
-/// Bands of a gain, an absorption, a transmission.
+/// Bands of a gain, an absorption, a transmission: octaves around 62.5, 125, 250, 500, 1,000, 2,000, 4,000 and 8,000 Hz.
 pub const BANDS: usize = 8;
 /// Whole index triples of a scene, at most.
 pub const MOST_TRIPLES: usize = 4096;
@@ -38,7 +42,8 @@ pub const MOST_CANDIDATES: u32 = 250_000;
 pub const MOST_PLANES: usize = ffi::PLANES;
 /// Planes of an image's sequence, at most.
 pub const MOST_ORDER: u32 = ffi::ORDERS as u32;
-/// Images of a query, at most.
+/// Images of a query, at most: the first in the order of a dictionary over planes, which goes deep before it goes on. A query that has more stops there
+/// ([`Packet::stopped_at_limit`]): all are visited up to 63 planes at order 3, 22 at 4, 12 at 5, 8 at 6, 6 at 7 and 5 at 8.
 pub const MOST_IMAGES: u32 = 250_000;
 /// Taps of a packet, at most.
 pub const MOST_TAPS: usize = 64;
@@ -129,36 +134,40 @@ pub enum Curve {
 #[derive(Clone, Copy, Debug, PartialEq)]
 pub struct DistanceModel {
     pub curve: Curve,
+    /// Metres: where the law is 1.
     pub reference_distance: f32,
+    /// No unit: how steep the law is.
     pub rolloff_factor: f32,
+    /// Metres: a shorter path counts as this long.
     pub min_distance: f32,
+    /// Metres: a longer path counts as this long. Drops no echo.
     pub max_distance: f32,
 }
 
 /// The settings of a query, by the Rust's names. The default is the Rust's.
 #[derive(Clone, Copy, Debug, PartialEq)]
 pub struct Settings {
-    /// Any; used as at most 8.
+    /// Bounces of an echo. Any; used as at most 8.
     pub max_reflection_order: u32,
-    /// Any; used as at most 64.
+    /// Taps of the list. Any; used as at most 64.
     pub max_reflections: u32,
-    /// 0 to 256.
+    /// 0 to 256: the most important ones reflect, all others only block.
     pub max_reflection_planes: u32,
-    /// Finite.
+    /// Metres, finite: how far from its border a surface reflects less. 0 or below: hard edges.
     pub reflection_edge_fade: f32,
-    /// Above 0, at most 1,000.
+    /// Metres, above 0, at most 1,000: the longest path.
     pub max_reflection_distance: f32,
-    /// 100 to 2,000.
+    /// Metres a second, 100 to 2,000.
     pub speed_of_sound: f32,
-    /// 8,000 to 192,000.
+    /// Hertz, 8,000 to 192,000.
     pub sample_rate: f32,
-    /// The cosine of the Rust's `plane_merge_angle_deg`, -1 to 1.
+    /// No unit, -1 to 1: the cosine, taken in f32, of the Rust's `plane_merge_angle_deg`.
     pub plane_merge_cos: f32,
     /// Whether that angle is above 0.
     pub plane_merge: bool,
-    /// Finite.
+    /// Metres, finite. 0 or below: nothing is merged.
     pub plane_merge_offset: f32,
-    /// Finite.
+    /// Metres, finite. 0 or below: not tested.
     pub plane_buried_distance: f32,
     pub distance_model: DistanceModel,
 }
@@ -199,19 +208,22 @@ impl Settings {
 /// A row of the material table; any floats.
 #[derive(Clone, Copy, Debug, PartialEq)]
 pub struct Material {
+    /// Of energy: a bounce leaves the root of 1 - a of the amplitude. Held to 0 to 1; not finite is 1.
     pub absorption: [f32; BANDS],
+    /// Of amplitude: the factor on what goes through. Held to 0 to 1; a path whose gains have a NaN is dropped.
     pub transmission: [f32; BANDS],
 }
 
 /// A mesh to add to a scene. The default has no vertices and the identity for its transform.
 #[derive(Clone, Copy, Debug)]
 pub struct Mesh<'a> {
+    /// Placed by the transform they are metres, at most 10,000 from 0 on each axis.
     pub positions: &'a [[f32; 3]],
     /// Three a triangle; one that is out of range leaves its triangle out.
     pub indices: &'a [u32],
     /// What `Scene::add_material` answered.
     pub material: u32,
-    /// Column by column.
+    /// Column by column; metres in the fourth column. The fourth row takes no part.
     pub transform: [f32; 16],
 }
 
@@ -277,7 +289,9 @@ pub struct Workspace {
 const ELEMENTS: [usize; ffi::WORK] = [4, 4, 4, 4, 4, 8, 8, 8, 8, 4, 4, 4, 4, 4, 4, 4, 4, 4, 4];
 
 impl Workspace {
-    /// Room for so many candidates, which is more than the taps sent: a query with more is refused with [`Refusal::Candidates`].
+    /// Room for so many candidates, 0 to 250,000: all paths that pass must find room, not just those that are sent, else the query is refused with
+    /// [`Refusal::Candidates`]. A candidate takes 88 bytes, which each call reads to leave them zero: 250,000 cost 22 MB and some 0.3 ms a call. A plain booth of
+    /// six walls has 62 at order 3 and 340 at order 8; the program `booth` lends 4,096. Room for [`Cost::candidates`] is never refused.
     pub fn new(candidates: u32) -> Workspace {
         Workspace { c: candidates, block: Vec::new(), output: vec![0; OUTPUT_BYTES] }
     }
@@ -321,11 +335,11 @@ impl Workspace {
 pub struct Cost {
     /// Images of each order from 1 to 8 that are visited.
     pub counts: [u32; ffi::ORDERS],
-    /// Their sum: a query with room for so many is never refused with [`Refusal::Candidates`].
+    /// Their sum, images: a query with room for so many is never refused with [`Refusal::Candidates`]. [`MOST_IMAGES`]: the search will stop there.
     pub candidates: u32,
-    /// At most.
+    /// Traced, at most.
     pub rays: u64,
-    /// Words of 32 bits of the work areas for the triples and so many candidates.
+    /// Words of 4 bytes of the work areas for the triples and so many candidates.
     pub words: u64,
 }
 
@@ -353,11 +367,13 @@ pub fn query_cost(planes: u32, first: u32, order: u32, triples: u32) -> Result<C
 pub struct Tap {
     /// Bounces.
     pub order: u32,
-    /// Number of the image, from 1.
+    /// Number of the image, from 1: [`walls`] names its walls.
     pub number: u32,
-    /// From the listener towards the last bounce.
+    /// A unit vector from the listener to the last bounce, in the scene's axes.
     pub direction: [f32; 3],
+    /// Samples from the moment when the source sounds, with a fraction.
     pub delay_samples: f32,
+    /// Factors on the amplitude, 0 or above.
     pub gains: [f32; BANDS],
 }
 
@@ -376,7 +392,7 @@ impl Tap {
 /// A packet: the taps of a query, best first, and its counts.
 #[derive(Clone, Debug, Default, PartialEq)]
 pub struct Packet {
-    /// Images visited.
+    /// Images visited; [`MOST_IMAGES`] just where there are more ([`Packet::stopped_at_limit`]).
     pub images: u32,
     /// Rays traced for them.
     pub rays: u32,
@@ -384,6 +400,18 @@ pub struct Packet {
 }
 
 impl Packet {
+    /// Whether the search stopped at [`MOST_IMAGES`]. Then the list is not that of all echoes: later planes may never have come first, and then even their
+    /// single bounces are missing. Ask for a lower order or fewer planes. (No planes and order have just that many images, so that it never says so of a whole search.)
+    ///
+    /// ```
+    /// use bivelondry::{Packet, MOST_IMAGES};
+    /// assert!(Packet { images: MOST_IMAGES, ..Packet::default() }.stopped_at_limit());
+    /// assert!(!Packet { images: 186, ..Packet::default() }.stopped_at_limit());
+    /// ```
+    pub fn stopped_at_limit(&self) -> bool {
+        self.images >= MOST_IMAGES
+    }
+
     /// Reads a packet: refusals 8 to 11.
     pub fn read(bytes: &[u8]) -> Result<Packet, Refusal> {
         let (mut words, mut found) = ([0u32; ffi::TAP_WORDS * MOST_TAPS], [0usize; 3]);
@@ -419,7 +447,7 @@ impl Packet {
 }
 
 /// The packet of a query as bytes, which stand in the workspace until its next use: refusals 1 to 4, 6 and 7. `separated` says that a wall stands
-/// between source and listener, so that nothing is heard.
+/// between source and listener, so that nothing is heard. Source and listener are in metres.
 pub fn trace_packet<'w>(settings: &Settings, scene: &Scene, source: [f32; 3], listener: [f32; 3], separated: bool, workspace: &'w mut Workspace) -> Result<&'w [u8], Refusal> {
     let areas = workspace.areas(scene.triples());
     let (counts, floats, mut found) = (settings.counts(), settings.floats(), [0usize; 4]);
@@ -445,11 +473,11 @@ pub fn trace_early_reflections(settings: &Settings, scene: &Scene, source: [f32;
 pub struct Plane {
     /// A unit vector.
     pub normal: [f32; 3],
-    /// Along it, from the origin.
+    /// Metres along it, from the origin.
     pub offset: f32,
-    /// Of its triangles.
+    /// Square metres, of its triangles.
     pub area: f32,
-    /// Whether the source lies on it, so that no path begins with it.
+    /// Whether the source lies on it (nearer than 0.1 mm), so that no path begins with it.
     pub source_on: bool,
 }
 
