@@ -202,7 +202,7 @@ typedef char biv_tap_is_14_words[sizeof(struct biv_tap) == 14 * sizeof(uint32_t)
 
 /* ---- the functions of the archive, which is for x86-64. A slice is a pointer, never NULL (but for an output of length 0, which is refused), and then a
  * length; an array is a pointer, never NULL, to as many elements as stand in its brackets, which no length follows; each is aligned for its elements, no two
- * overlap, and all was set once. That is all they ask: what else is wrong is refused. */
+ * overlap, and all was set once but for what a function only fills. That is all they ask: what else is wrong is refused. */
 
 typedef char biv_size_is_64_bits[sizeof(size_t) == 8 ? 1 : -1];
 
@@ -211,8 +211,8 @@ typedef char biv_size_is_64_bits[sizeof(size_t) == 8 ? 1 : -1];
 /* exports/specs/Lengths.antt. The least lengths of all areas, in elements, for so many triples and candidates; false for more than 4,096 triples. */
 bool biv_area_lengths(size_t triples, uint32_t c, size_t lens[BIV_AREAS_LENT]);
 
-/* cost/specs/Forecast.antt. What a query will cost: of so many planes, first of which may come first, sequences of at most order planes, and so many
- * whole triples. Answers the refusal (14) or 0; counts gets the images of each order from 1 to 8, found candidates, rays and the words of 32 bits of
+/* cost/specs/Forecast.antt. What a query will cost: of so many planes, first of which may come first, sequences of at most order planes (as used: a query
+ * uses more than 8 as 8), and so many whole triples. Answers the refusal (14) or 0; counts gets the images of each order from 1 to 8, found candidates, rays and the words of 32 bits of
  * the work areas, all 0 after a refusal. */
 uint32_t biv_query_cost(uint32_t planes, uint32_t first, uint32_t order, uint32_t triples, uint32_t counts[BIV_MOST_ORDER], uint64_t found[3]);
 
@@ -230,7 +230,8 @@ uint32_t biv_walls(uint32_t planes, uint32_t order, const uint8_t *on, size_t on
 /* exports/specs/Planes.antt, PlanesEntered. The planes of a scene, built as a query builds them, and on which of them the source lies. Areas, counts,
  * setting_floats, c and scene parts are those of biv_trace_early_reflections. Answers the refusal (1 to 6) or 0; found[0] is how many planes there
  * are, 0 after a refusal. Plane p stands at 12 p in plane_floats: normal 0 to 2, offset 3, box 4 to 9, spread 10, area 11. on[p] is 1 where the source
- * lies on it, else 0; behind the planes on is as it was. The other areas hold what the work left, after the refusals 1 to 5 what they held. */
+ * lies on it, else 0; behind the planes on is as it was. The other areas hold what the work left; after the
+ * refusals 1 to 5, and for a scene without a triangle, what they held; after 6 too, but for triangles and handles, which are zero. */
 uint32_t biv_planes(float *triangles, size_t triangles_len, uint32_t *handles, size_t handles_len, float *tree, size_t tree_len,
                     uint32_t *nodes, size_t nodes_len, uint32_t *leaf_order, size_t leaf_order_len, uint64_t *keys, size_t keys_len,
                     uint64_t *low_keys, size_t low_keys_len, uint64_t *words, size_t words_len, uint64_t *scratch, size_t scratch_len,

@@ -343,8 +343,8 @@ pub struct Cost {
     pub words: u64,
 }
 
-/// What a query over so many planes (1 to 256), of which `first` may come first, of an order (1 to 8) and so many whole triples (at most 4,096) will cost;
-/// [`Refusal::Forecast`] for others.
+/// What a query over so many planes (1 to 256), of which `first` may come first, of an order (1 to 8, as used: a query uses more than 8 as 8) and so many whole
+/// triples (at most 4,096) will cost; [`Refusal::Forecast`] for others.
 ///
 /// ```
 /// use bivelondry::{query_cost, Refusal};
