@@ -92,6 +92,7 @@ int main(int argc, char **argv)
 {
     static char line[LINE];
     static uint32_t words[LONGEST];
+    static const int fills[4] = {0x00, 0xff, 0x7f, 0x5a};
     unsigned cases = 0, differ = 0;
     FILE *f = argc > 1 ? fopen(argv[1], "r") : NULL;
     if (f == NULL) {
@@ -109,7 +110,7 @@ int main(int argc, char **argv)
         cases++;
         held = n >= HEADER && HEADER + (size_t)words[0] + words[1] + words[2] + words[3] + words[4] <= n;
         for (int k = 0; held && k < 4; k++)
-            held = same(words, n, (const int[]){0x00, 0xff, 0x7f, 0x5a}[k]);
+            held = same(words, n, fills[k]);
         if (!held) {
             differ++;
             printf("%s differs\n", line);

@@ -1,4 +1,4 @@
-/* The calls of bivelondry.h: case A, every refusal, the block, the packet, the planes, the walls, the forecast. Ends with `N checks, 0 failed`. */
+/* The calls of bivelondry.h: case A, every refusal, the block, the packet, the planes, the walls, the forecast. C99 and C++17. Ends with `N checks, 0 failed`. */
 #include "case_a.h"
 #include <math.h>
 #include <stdio.h>
@@ -191,7 +191,8 @@ static void test_packet(void)
     uint8_t copy[BIV_OUTPUT_BYTES];
     memset(taps, 0x7e, sizeof taps);
     memset(again, 0x7e, sizeof again);
-    CHECK(trace(&q) == BIV_NO_REFUSAL && biv_read(out, answer.bytes, taps, &read) == BIV_NO_REFUSAL);
+    CHECK(trace(&q) == BIV_NO_REFUSAL);
+    CHECK(biv_read(out, answer.bytes, taps, &read) == BIV_NO_REFUSAL);
     written = read;
     CHECK(biv_write(taps, &written, copy, sizeof copy) == BIV_NO_REFUSAL);
     CHECK(written.bytes == answer.bytes && memcmp(copy, out, answer.bytes) == 0);
@@ -215,17 +216,9 @@ static void test_packet(void)
     CHECK(biv_write(taps, &written, copy, sizeof copy) == BIV_NO_REFUSAL);
 }
 
-/* Whether the number has these walls, and zeros behind them. */
-static bool walls_are(const uint8_t *on, size_t planes, uint32_t order, uint32_t number, size_t len, const uint8_t expected[BIV_MOST_ORDER])
-{
-    struct biv_walls_met walls;
-    memset(&walls, 0x7e, sizeof walls);
-    return biv_find_walls(on, planes, order, number, &walls) == BIV_NO_REFUSAL && walls.len == len && memcmp(walls.planes, expected, sizeof walls.planes) == 0;
-}
-
 static bool walls_refused(const uint8_t *on, size_t planes, uint32_t order, uint32_t number)
 {
-    static const uint8_t zeros[BIV_MOST_ORDER];
+    static const uint8_t zeros[BIV_MOST_ORDER] = {0};
     struct biv_walls_met walls;
     memset(&walls, 0x7e, sizeof walls);
     return biv_find_walls(on, planes, order, number, &walls) == BIV_NO_IMAGE && walls.len == 0 && memcmp(walls.planes, zeros, sizeof zeros) == 0;
@@ -233,17 +226,31 @@ static bool walls_refused(const uint8_t *on, size_t planes, uint32_t order, uint
 
 static void test_walls(void)
 {
-    static const uint8_t off[BIV_MOST_PLANES + 1], all[6] = {1, 1, 1, 1, 1, 1}, one[6] = {1, 0, 0, 0, 0, 0}, two[6] = {0, 2, 0, 0, 0, 0};
+    static const uint8_t off[BIV_MOST_PLANES + 1] = {0}, all[6] = {1, 1, 1, 1, 1, 1}, one[6] = {1, 0, 0, 0, 0, 0}, two[6] = {0, 2, 0, 0, 0, 0};
+    /* a number, and its walls with the zeros behind them */
+    static const struct {
+        const uint8_t *on;
+        size_t planes;
+        uint32_t order, number;
+        struct biv_walls_met walls;
+    } known[] = {
+        {off, 6, 3, 2, {2, {0, 1}}},
+        {off, 6, 3, 32, {1, {1}}},
+        {off, 6, 3, 186, {3, {5, 4, 5}}},
+        {one, 6, 3, 2, {2, {1, 0}}},
+        {off, 6, 8, BIV_MOST_IMAGES, {8, {2, 3, 4, 5, 4, 5, 4, 5}}},
+        {off, BIV_MOST_PLANES, 8, BIV_MOST_IMAGES, {8, {0, 1, 0, 1, 0, 4, 212, 133}}},
+        {off, BIV_MOST_PLANES, 2, 65536, {2, {255, 254}}},
+        {off, 1, 8, 1, {1, {0}}},
+    };
     uint8_t walls[BIV_MOST_ORDER];
     size_t found[1];
-    CHECK(walls_are(off, 6, 3, 2, 2, (const uint8_t[BIV_MOST_ORDER]){0, 1}));
-    CHECK(walls_are(off, 6, 3, 32, 1, (const uint8_t[BIV_MOST_ORDER]){1}));
-    CHECK(walls_are(off, 6, 3, 186, 3, (const uint8_t[BIV_MOST_ORDER]){5, 4, 5}));
-    CHECK(walls_are(one, 6, 3, 2, 2, (const uint8_t[BIV_MOST_ORDER]){1, 0}));
-    CHECK(walls_are(off, 6, 8, BIV_MOST_IMAGES, 8, (const uint8_t[BIV_MOST_ORDER]){2, 3, 4, 5, 4, 5, 4, 5}));
-    CHECK(walls_are(off, BIV_MOST_PLANES, 8, BIV_MOST_IMAGES, 8, (const uint8_t[BIV_MOST_ORDER]){0, 1, 0, 1, 0, 4, 212, 133}));
-    CHECK(walls_are(off, BIV_MOST_PLANES, 2, 65536, 2, (const uint8_t[BIV_MOST_ORDER]){255, 254}));
-    CHECK(walls_are(off, 1, 8, 1, 1, (const uint8_t[BIV_MOST_ORDER]){0}));
+    for (size_t k = 0; k < sizeof known / sizeof known[0]; k++) {
+        struct biv_walls_met met;
+        memset(&met, 0x7e, sizeof met);
+        CHECK(biv_find_walls(known[k].on, known[k].planes, known[k].order, known[k].number, &met) == BIV_NO_REFUSAL);
+        CHECK(met.len == known[k].walls.len && memcmp(met.planes, known[k].walls.planes, sizeof met.planes) == 0);
+    }
     CHECK(walls_refused(off, 1, 8, 2) && walls_refused(off, 6, 3, 187) && walls_refused(off, 6, 8, BIV_MOST_IMAGES + 1));
     CHECK(walls_refused(off, 6, 3, 0) && walls_refused(off, 6, 0, 1) && walls_refused(off, 6, 9, 1) && walls_refused(all, 6, 8, 1));
     CHECK(walls_refused(two, 6, 3, 1) && walls_refused(NULL, 0, 3, 1) && walls_refused(off, BIV_MOST_PLANES + 1, 3, 1));
@@ -259,6 +266,8 @@ static float room_transforms[6][16], room_positions[6][4][3], room_materials[16]
 static struct query room(void)
 {
     static const uint32_t corners[6] = {0, 1, 2, 0, 2, 3};
+    static const float source[3] = {2, 1.2f, 2.5f}, listener[3] = {6, 1.7f, 3.4f};
+    const struct biv_scene scene = {room_meshes[0], 18, room_transforms[0], 96, room_positions[0][0], 72, room_indices[0], 36, room_materials, 16, 1};
     struct query q = case_a();
     for (size_t m = 0; m < 6; m++) {
         room_meshes[m][0] = 4;
@@ -270,13 +279,13 @@ static struct query room(void)
     }
     for (size_t b = 0; b < BIV_BANDS; b++)
         room_materials[b] = 0.3f;
-    q.scene = (struct biv_scene){room_meshes[0], 18, room_transforms[0], 96, room_positions[0][0], 72, room_indices[0], 36, room_materials, 16, 1};
+    q.scene = scene;
     q.settings = biv_default_settings();
     q.settings.max_reflections = BIV_MOST_TAPS;
     q.c = 256;
     q.size = biv_block_size(biv_triples(&q.scene), q.c);
-    memcpy(q.source, (const float[3]){2, 1.2f, 2.5f}, sizeof q.source);
-    memcpy(q.listener, (const float[3]){6, 1.7f, 3.4f}, sizeof q.listener);
+    memcpy(q.source, source, sizeof q.source);
+    memcpy(q.listener, listener, sizeof q.listener);
     return q;
 }
 
@@ -385,8 +394,16 @@ static void test_texts(void)
             CHECK(strcmp(biv_refusal_text(k), biv_refusal_text(j)) != 0);
 }
 
+static void test_version(void)
+{
+    char text[64];
+    snprintf(text, sizeof text, "%d.%d.%d", BIV_VERSION_MAJOR, BIV_VERSION_MINOR, BIV_VERSION_PATCH);
+    CHECK(strcmp(text, BIV_VERSION) == 0);
+}
+
 int main(void)
 {
+    test_version();
     test_case_a();
     test_query_refusals();
     test_triples();
