@@ -20,8 +20,9 @@
  * Lengths and positions are in metres, speeds in metres a second, rates in hertz, delays in samples; axes are any three at right angles, the same for
  * scene, source, listener and answer. docs/BEHAVIOUR.md is the manual: settings, refusals and what to do about each, how images, gains and the list are made.
  *
- * Link target/staticlib/libexports.a (made by `rt staticlib exports`). What is proved is what stands there; this header hands on to it, and nothing
- * checks its declarations against the Rattle source but the tests of bindings/. The stages alone are in bivelondry_stages.h. */
+ * Link -lbivelondry where tools/install.sh put it (`pkg-config --cflags --libs bivelondry`), or target/staticlib/libexports.a (made by
+ * `rt staticlib exports`), which it is made from. What is proved is what stands there; this header hands on to it, and nothing checks its declarations
+ * against the Rattle source but the tests of bindings/. The stages alone are in bivelondry_stages.h of the repository. */
 #ifndef BIVELONDRY_H
 #define BIVELONDRY_H
 
@@ -29,6 +30,13 @@
 #include <stddef.h>
 #include <stdint.h>
 #include <string.h>
+
+/* ---- the version; bindings/installed.sh compares what else has it with these lines */
+
+#define BIV_VERSION_MAJOR 0
+#define BIV_VERSION_MINOR 1
+#define BIV_VERSION_PATCH 0
+#define BIV_VERSION "0.1.0"
 
 #ifdef __cplusplus
 extern "C" {

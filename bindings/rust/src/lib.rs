@@ -32,6 +32,8 @@ pub mod ffi;
 
 use std::fmt;
 
+/// The version of this crate, which is that of the header (`BIV_VERSION`).
+pub const VERSION: &str = env!("CARGO_PKG_VERSION");
 /// Bands of a gain, an absorption, a transmission: octaves around 62.5, 125, 250, 500, 1,000, 2,000, 4,000 and 8,000 Hz.
 pub const BANDS: usize = 8;
 /// Whole index triples of a scene, at most.
