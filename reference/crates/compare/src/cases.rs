@@ -267,11 +267,11 @@ pub fn generated(count: u64, seed: u64) {
 pub fn files(names: &[&str]) {
     let mut cover = Coverage::default();
     for name in names {
-        let text = std::fs::read_to_string(name).unwrap_or_else(|e| {
-            eprintln!("compare: {name}: {e}");
+        let cases = Case::read_file(name).unwrap_or_else(|e| {
+            eprintln!("compare: {e}");
             std::process::exit(2)
         });
-        for c in Case::parse_all(&text) {
+        for c in cases {
             check(&c, &mut cover);
         }
     }

@@ -40,7 +40,7 @@ fn taps(n: usize) -> String {
 
 /// Case A of document 01, with a change.
 fn case_a(change: impl Fn(&mut Case)) -> Case {
-    let mut c = Case::parse_all(include_str!("../../../findings/a_case_a.case")).remove(0);
+    let mut c = Case::read_all(include_bytes!("../../../findings/a_case_a.case")).expect("case A").remove(0);
     c.settings.room = 1;
     change(&mut c);
     c

@@ -102,11 +102,11 @@ fn words(c: &Case, o: &Output) -> usize {
 pub fn run(folder: &str, count: usize, files: &[&str]) {
     let mut all = Sample::default();
     for name in files {
-        let text = std::fs::read_to_string(name).unwrap_or_else(|e| {
-            eprintln!("compare: {name}: {e}");
+        let cases = Case::read_file(name).unwrap_or_else(|e| {
+            eprintln!("compare: {e}");
             std::process::exit(2)
         });
-        for c in Case::parse_all(&text) {
+        for c in cases {
             match answered(&c, false) {
                 Some((c, o)) if words(&c, &o) <= WORDS => all.add(&c, &o),
                 _ => eprintln!("compare: {} does not fit", c.name),

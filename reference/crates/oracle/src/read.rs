@@ -1,0 +1,204 @@
+//! Reads cases from their text (FORMAT.md) as the program `booth` does: crates/text and crates/casefile of the port say the same. What booth
+//! refuses is refused, but for its limits and for further cases behind the first.
+
+use crate::{Case, Mesh, Row, Settings};
+
+type Read<T> = Result<T, String>;
+
+fn is_blank(b: u8) -> bool {
+    matches!(b, b' ' | b'\n' | b'\t' | b'\r')
+}
+
+fn is_decimal(word: &[u8]) -> bool {
+    !word.is_empty() && word.iter().all(u8::is_ascii_digit)
+}
+
+/// A whole number below 2^32: digits alone.
+pub fn whole_of(word: &[u8]) -> Option<u32> {
+    if !is_decimal(word) {
+        return None;
+    }
+    word.iter().try_fold(0u32, |n, b| n.checked_mul(10)?.checked_add((b - b'0') as u32))
+}
+
+/// A float: eight hexadecimal digits in lower case are its bits, and anything else is a decimal.
+pub fn float_of(word: &[u8]) -> Option<f32> {
+    if word.len() == 8 && word.iter().all(|b| matches!(b, b'0'..=b'9' | b'a'..=b'f')) {
+        let digit = |b: u8| if b <= b'9' { b - b'0' } else { b - b'a' + 10 };
+        return Some(f32::from_bits(word.iter().fold(0, |n, &b| n << 4 | digit(b) as u32)));
+    }
+    match word.strip_prefix(b"-") {
+        Some(rest) => unsigned_of(rest).map(|x| -x),
+        None => unsigned_of(word),
+    }
+}
+
+/// One to seven digits, among them a point or none with a digit on each side: the digits as a float, divided by a power of ten as a float. Both
+/// are exact, so that this is the nearest float.
+fn unsigned_of(word: &[u8]) -> Option<f32> {
+    let (whole, decimals) = match word.iter().position(|&b| b == b'.') {
+        Some(p) if is_decimal(&word[p + 1..]) => (&word[..p], &word[p + 1..]),
+        Some(_) => return None,
+        None => (word, &word[..0]),
+    };
+    if !is_decimal(whole) || whole.len() + decimals.len() > 7 {
+        return None;
+    }
+    let digits = whole.iter().chain(decimals).fold(0, |n, b| 10 * n + (b - b'0') as u32);
+    Some(digits as f32 / 10u32.pow(decimals.len() as u32) as f32)
+}
+
+struct Reader<'a> {
+    text: &'a [u8],
+    at: usize,
+    line: usize,
+}
+
+impl<'a> Reader<'a> {
+    /// To the next token, over white space and remarks; false at the text's end.
+    fn more(&mut self) -> bool {
+        let mut remark = false;
+        while let Some(&b) = self.text.get(self.at) {
+            if !remark && !is_blank(b) && b != b'#' {
+                return true;
+            }
+            remark = b == b'#' || remark && b != b'\n';
+            self.line += (b == b'\n') as usize;
+            self.at += 1;
+        }
+        false
+    }
+
+    /// The next token, empty at the text's end.
+    fn token(&mut self) -> &'a [u8] {
+        self.more();
+        let rest = &self.text[self.at..];
+        let n = rest.iter().position(|&b| is_blank(b) || b == b'#').unwrap_or(rest.len());
+        self.at += n;
+        &rest[..n]
+    }
+
+    fn fault<T>(&self, expected: &str) -> Read<T> {
+        Err(format!("line {}: expected {expected}", self.line))
+    }
+
+    fn word(&mut self, word: &str) -> Read<()> {
+        if self.token() == word.as_bytes() { Ok(()) } else { self.fault(&format!("`{word}`")) }
+    }
+
+    fn name(&mut self) -> Read<String> {
+        match self.token() {
+            b"" => self.fault("a name"),
+            name => Ok(String::from_utf8_lossy(name).into_owned()),
+        }
+    }
+
+    fn whole(&mut self) -> Read<u32> {
+        whole_of(self.token()).map_or_else(|| self.fault("a whole number below 4,294,967,296"), Ok)
+    }
+
+    fn flag(&mut self) -> Read<bool> {
+        match self.whole()? {
+            0 => Ok(false),
+            1 => Ok(true),
+            _ => self.fault("0 or 1"),
+        }
+    }
+
+    fn floats<const N: usize>(&mut self) -> Read<[f32; N]> {
+        let mut a = [0.0; N];
+        for x in &mut a {
+            *x = float_of(self.token()).map_or_else(|| self.fault("a float: a decimal of at most seven digits, or eight hexadecimal digits"), Ok)?;
+        }
+        Ok(a)
+    }
+
+    /// `inverse` or `linear`; true for the second.
+    fn linear(&mut self) -> Read<bool> {
+        match self.token() {
+            b"inverse" => Ok(false),
+            b"linear" => Ok(true),
+            _ => self.fault("`inverse` or `linear`"),
+        }
+    }
+
+    fn settings(&mut self) -> Read<Settings> {
+        self.word("counts")?;
+        let (order, max_reflections, planes, room) = (self.whole()?, self.whole()?, self.whole()?, self.whole()?);
+        self.word("floats")?;
+        let [fade, max_distance, speed, rate, merge_cos, merge_offset, buried] = self.floats()?;
+        self.word("merge")?;
+        let merge_on = self.flag()?;
+        self.word("curve")?;
+        let linear = self.linear()?;
+        let [reference, rolloff, min_distance, far_distance] = self.floats()?;
+        Ok(Settings {
+            order, max_reflections, planes, fade, max_distance, speed, rate, merge_cos, merge_on, merge_offset, buried, linear, reference, rolloff,
+            min_distance, far_distance, room,
+        })
+    }
+
+    fn row(&mut self) -> Read<Row> {
+        self.word("m")?;
+        Ok(Row { absorption: self.floats()?, transmission: self.floats()? })
+    }
+
+    fn position(&mut self) -> Read<[f32; 3]> {
+        self.word("p")?;
+        self.floats()
+    }
+
+    fn mesh(&mut self) -> Read<Mesh> {
+        self.word("mesh")?;
+        let (handle, vertices, count) = (self.whole()?, self.whole()?, self.whole()?);
+        self.word("t")?;
+        let transform = self.floats()?;
+        let positions = (0..vertices).map(|_| self.position()).collect::<Read<_>>()?;
+        let mut indices = Vec::new();
+        for j in 0..count {
+            if j % 3 == 0 {
+                self.word("i")?;
+            }
+            indices.push(self.whole()?);
+        }
+        Ok(Mesh { positions, indices, handle, transform })
+    }
+
+    fn case(&mut self) -> Read<Case> {
+        self.word("case")?;
+        let name = self.name()?;
+        let settings = self.settings()?;
+        self.word("materials")?;
+        let rows = self.whole()?;
+        let materials = (0..rows).map(|_| self.row()).collect::<Read<_>>()?;
+        self.word("meshes")?;
+        let count = self.whole()?;
+        let meshes = (0..count).map(|_| self.mesh()).collect::<Read<_>>()?;
+        self.word("source")?;
+        let source = self.floats()?;
+        self.word("listener")?;
+        let listener = self.floats()?;
+        self.word("separated")?;
+        let separated = self.flag()?;
+        self.word("end")?;
+        Ok(Case { name, settings, materials, meshes, source, listener, separated })
+    }
+}
+
+impl Case {
+    /// All cases of a text, of which it has one at least; or the line where it goes wrong, and what was expected there.
+    pub fn read_all(text: &[u8]) -> Result<Vec<Case>, String> {
+        let mut reader = Reader { text, at: 0, line: 1 };
+        let mut cases = vec![reader.case()?];
+        while reader.more() {
+            cases.push(reader.case()?);
+        }
+        Ok(cases)
+    }
+
+    /// All cases of a file; what goes wrong begins with its name.
+    pub fn read_file(name: &str) -> Result<Vec<Case>, String> {
+        let text = std::fs::read(name).map_err(|e| format!("{name}: {e}"))?;
+        Case::read_all(&text).map_err(|e| format!("{name}: {e}"))
+    }
+}

@@ -1,0 +1,236 @@
+//! The reading of cases: both forms of floats, remarks, layout, what is refused, and the cases of findings/ and examples/.
+
+use crate::read::{float_of, whole_of};
+use crate::Case;
+use std::path::{Path, PathBuf};
+
+/// Document 01's case A, as docs/BOOTH.md has it.
+const FLOOR: &str = "case floor
+counts 3 16 32 250000                  # order, most taps, most planes, room for candidates
+floats 0.1 50 320 48000 3f7f069e 0.25 0.05
+                                       # edge fade, longest path, speed of sound, sample rate,
+                                       # cosine of the merge angle, merge offset, buried distance
+merge 1
+curve inverse 1 1 1 10000              # reference, rolloff, least and greatest distance
+materials 1
+m 0.75 0.75 0.75 0.75 0.75 0.75 0.75 0.75  0 0 0 0 0 0 0 0     # absorption, then transmission
+meshes 1
+mesh 0 4 6                             # row of the materials, vertices, indices
+t 1 0 0 0  0 1 0 0  0 0 1 0  0 0 0 1   # transform by columns
+p -4 0 -4
+p 4 0 -4
+p 4 0 4
+p -4 0 4
+i 0 1 2
+i 0 2 3
+source 0 2 0
+listener 3 2 0
+separated 0
+end
+";
+
+fn top() -> PathBuf {
+    Path::new(env!("CARGO_MANIFEST_DIR")).join("../../..")
+}
+
+fn one(text: &[u8]) -> Case {
+    let mut cases = Case::read_all(text).expect("a case");
+    assert_eq!(cases.len(), 1);
+    cases.remove(0)
+}
+
+/// The text with every float by its bits, which tells two cases apart.
+fn bits(text: impl AsRef<[u8]>) -> String {
+    one(text.as_ref()).to_text()
+}
+
+fn fault(text: impl AsRef<[u8]>) -> String {
+    Case::read_all(text.as_ref()).map(|c| c[0].to_text()).expect_err("no case")
+}
+
+fn tokens(text: &str) -> Vec<&str> {
+    text.lines().flat_map(|l| l.split('#').next().unwrap().split_whitespace()).collect()
+}
+
+// ── floats and whole numbers ──────────────────────────────────────────
+
+#[test]
+fn bits_are_eight_lower_case_digits() {
+    for (word, bits) in [("3f800000", 0x3f80_0000), ("12345678", 0x1234_5678), ("80000000", 0x8000_0000), ("ff800001", 0xff80_0001), ("deadbeef", 0xdead_beef)] {
+        assert_eq!(float_of(word.as_bytes()).map(f32::to_bits), Some(bits), "{word}");
+    }
+    for word in ["3F800000", "+3f80000", "0x3f8000", "3f80000", "3f8000000", "-3f80000", "3f80000g"] {
+        assert!(float_of(word.as_bytes()).is_none(), "{word}");
+    }
+}
+
+#[test]
+fn decimals() {
+    for (word, x) in [
+        ("0", 0.0f32), ("-0", -0.0), ("-0.0", -0.0), ("1", 1.0), ("-4", -4.0), ("0.1", 0.1), ("0.05", 0.05), ("48000", 48000.0), ("007", 7.0), ("0.000001", 0.000001),
+        ("9999999", 9999999.0), ("-1234567", -1234567.0), ("1.234567", 1.234567), ("-1234.56", -1234.56), ("123456.7", 123456.7), ("-0.75", -0.75),
+    ] {
+        assert_eq!(float_of(word.as_bytes()).map(f32::to_bits), Some(x.to_bits()), "{word}");
+    }
+    for word in ["", "-", ".", "1.", ".5", "-.5", "--1", "+1", "1e3", "1,5", "1.2.3", "1..2", "-12345678", "0.9961947", "10000.001", "nan", "inf", "1_000", "1-", "\u{663}"] {
+        assert!(float_of(word.as_bytes()).is_none(), "{word}");
+    }
+}
+
+#[test]
+fn decimals_are_the_nearest_floats() {
+    let mut tried = 0;
+    for v in (0..10_000_000u32).step_by(61).chain(9_999_900..10_000_000) {
+        for k in 0..7usize {
+            let digits = format!("{v:0w$}", w = k + 1);
+            let (a, b) = digits.split_at(digits.len() - k);
+            let word = if k == 0 { a.to_string() } else { format!("{a}.{b}") };
+            assert_eq!(float_of(word.as_bytes()).unwrap().to_bits(), word.parse::<f32>().unwrap().to_bits(), "{word}");
+            tried += 1;
+        }
+    }
+    assert!(tried > 1_000_000);
+}
+
+#[test]
+fn whole_numbers() {
+    for (word, n) in [("0", 0), ("00", 0), ("4096", 4096), ("4294967295", u32::MAX), ("00000000000000000004294967295", u32::MAX)] {
+        assert_eq!(whole_of(word.as_bytes()), Some(n), "{word}");
+    }
+    for word in ["", "-1", "+1", "1.0", "4294967296", "99999999999999999999999", "a", "1 "] {
+        assert_eq!(whole_of(word.as_bytes()), None, "{word}");
+    }
+}
+
+// ── remarks and layout ────────────────────────────────────────────────
+
+#[test]
+fn decimals_and_bits_are_one_case() {
+    let text = bits(FLOOR);
+    assert_eq!(bits(&text), text);
+    let recorded = std::fs::read(top().join("reference/findings/a_case_a.case")).unwrap();
+    assert_eq!(bits(recorded).replace("case a_case_a", "case floor"), text);
+}
+
+#[test]
+fn layout_has_no_meaning() {
+    let (text, words) = (bits(FLOOR), tokens(FLOOR));
+    for gap in [" ", "\n", "\t", "\r\n", "\r", " \t \n\n ", "# a remark\n", " # a ## remark, end 1 2 3\r\n", "#\n#\n", "#\rcase\n"] {
+        assert_eq!(bits(words.join(gap)), text, "{gap:?}");
+        assert_eq!(bits(format!("{gap}{}{gap}", words.join(gap))), text, "{gap:?}");
+    }
+    assert_eq!(bits(FLOOR.replace('\n', "\r\n")), text);
+    assert_eq!(bits(FLOOR.trim_end()), text);
+    assert_eq!(bits(format!("{FLOOR}# no line's end")), text);
+    assert_eq!(bits(format!("{}#", FLOOR.trim_end())), text);
+}
+
+#[test]
+fn a_remark_ends_a_token_and_hides_its_line() {
+    let text = bits(FLOOR);
+    assert_eq!(bits(FLOOR.replace("case floor", "case floor#1")), text);
+    assert_eq!(bits(FLOOR.replace("merge 1", "merge 1#0")), text);
+    assert_eq!(bits(FLOOR.replace("merge 1", "# merge 0\nmerge 1 # merge 0")), text);
+    // a remark ends at the line feed, and at nothing else
+    assert!(fault(FLOOR.replace("merge 1\n", "merge 1 # on\r")).starts_with("line 7: expected `curve`"));
+}
+
+#[test]
+fn any_bytes_in_remarks_and_names() {
+    let text = bits(FLOOR);
+    let mut bytes = b"# caf\xe9 \0\xff\xfe\x0c\n".to_vec();
+    bytes.extend(FLOOR.bytes());
+    assert_eq!(bits(&bytes), text);
+    // no white space: the form feed, the vertical tab, the no-break space
+    for other in ["\u{c}", "\u{b}", "\u{a0}", "\0"] {
+        assert_eq!(one(FLOOR.replace("case floor", &format!("case fl{other}oor")).as_bytes()).name, format!("fl{other}oor"));
+        assert!(fault(FLOOR.replace("merge 1", &format!("merge{other}1"))).starts_with("line 6: expected `merge`"));
+    }
+    assert!(fault(format!("\u{feff}{FLOOR}")).starts_with("line 1: expected `case`"));
+}
+
+#[test]
+fn curves_by_name() {
+    let c = one(FLOOR.replace("curve inverse 1 1 1 10000", "curve linear 2 0.5 0.25 3f800000").as_bytes());
+    let s = c.settings;
+    assert_eq!((s.linear, s.reference, s.rolloff, s.min_distance, s.far_distance), (true, 2.0, 0.5, 0.25, 1.0));
+    assert!(!one(FLOOR.as_bytes()).settings.linear);
+    assert!(fault(FLOOR.replace("inverse", "exponential")).starts_with("line 7: expected `inverse` or `linear`"));
+}
+
+#[test]
+fn every_part_reaches_its_place() {
+    let c = one(b"case x counts 1 2 3 4 floats 5 6 7 8 9 10 11 merge 0 curve linear 12 13 14 15 materials 2
+        m 1 2 3 4 5 6 7 8 9 10 11 12 13 14 15 16 m 0 0 0 0 0 0 0 0 1 1 1 1 1 1 1 1
+        meshes 2 mesh 1 2 5 t 1 2 3 4 5 6 7 8 9 10 11 12 13 14 15 16 p 1 2 3 p 4 5 6 i 7 8 9 i 10 11
+        mesh 0 0 0 t 0 0 0 0 0 0 0 0 0 0 0 0 0 0 0 0 source 1 2 3 listener 4 5 6 separated 1 end");
+    let s = &c.settings;
+    assert_eq!((s.order, s.max_reflections, s.planes, s.room), (1, 2, 3, 4));
+    assert_eq!([s.fade, s.max_distance, s.speed, s.rate, s.merge_cos, s.merge_offset, s.buried], [5.0, 6.0, 7.0, 8.0, 9.0, 10.0, 11.0]);
+    assert_eq!((s.merge_on, s.linear, s.reference, s.rolloff, s.min_distance, s.far_distance), (false, true, 12.0, 13.0, 14.0, 15.0));
+    assert_eq!(c.materials[0].absorption, [1.0, 2.0, 3.0, 4.0, 5.0, 6.0, 7.0, 8.0]);
+    assert_eq!(c.materials[0].transmission, [9.0, 10.0, 11.0, 12.0, 13.0, 14.0, 15.0, 16.0]);
+    assert_eq!((c.materials.len(), c.meshes.len()), (2, 2));
+    let m = &c.meshes[0];
+    assert_eq!((m.handle, &m.positions[..], &m.indices[..]), (1, &[[1.0, 2.0, 3.0], [4.0, 5.0, 6.0]][..], &[7, 8, 9, 10, 11][..]));
+    assert_eq!((m.transform[0], m.transform[15]), (1.0, 16.0));
+    assert_eq!((c.meshes[1].positions.len(), c.meshes[1].indices.len(), c.meshes[1].handle), (0, 0, 0));
+    assert_eq!((c.source, c.listener, c.separated), ([1.0, 2.0, 3.0], [4.0, 5.0, 6.0], true));
+}
+
+// ── what is refused ───────────────────────────────────────────────────
+
+#[test]
+fn faults_name_the_line() {
+    for (old, new, says) in [
+        ("case floor", "", "line 2: expected `case`"),
+        ("counts 3", "counts -3", "line 2: expected a whole number"),
+        ("counts 3", "counts 3.0", "line 2: expected a whole number"),
+        ("floats 0.1", "floats .1", "line 3: expected a float"),
+        ("3f7f069e", "0.9961947", "line 3: expected a float"),
+        ("merge 1", "merge 2", "line 6: expected 0 or 1"),
+        ("separated 0", "separated 2", "line 21: expected 0 or 1"),
+        ("m 0.75", "m 0.75 0", "line 9: expected `meshes`"),
+        ("p -4 0 -4", "p -4 0", "line 14: expected a float"),
+        ("i 0 2 3", "0 2 3", "line 18: expected `i`"),
+        ("end\n", "end 1", "line 22: expected `case`"),
+        ("end\n", "", "line 22: expected `end`"),
+        ("meshes 1", "meshes 4294967295", "line 19: expected `mesh`"),
+    ] {
+        assert!(FLOOR.contains(old));
+        let got = fault(FLOOR.replacen(old, new, 1));
+        assert!(got.starts_with(says), "{new}: {got}");
+    }
+    assert_eq!(fault(""), "line 1: expected `case`");
+    assert_eq!(fault("# nothing\n"), "line 2: expected `case`");
+    // no token can be left out
+    let words = tokens(FLOOR);
+    for k in 0..words.len() {
+        let mut without = words.clone();
+        without.remove(k);
+        fault(without.join(" "));
+    }
+}
+
+#[test]
+fn several_cases_in_one_text() {
+    let cases = Case::read_all(format!("{FLOOR}{FLOOR}").as_bytes()).unwrap();
+    assert_eq!(cases.iter().map(Case::to_text).collect::<Vec<_>>(), vec![bits(FLOOR); 2]);
+}
+
+// ── files ─────────────────────────────────────────────────────────────
+
+fn cases_of(folder: &str) -> Vec<PathBuf> {
+    let all = std::fs::read_dir(top().join(folder)).unwrap().map(|f| f.unwrap().path());
+    all.filter(|p| p.extension().is_some_and(|e| e == "case")).collect()
+}
+
+#[test]
+fn findings_are_read_to_their_bits() {
+    let files = cases_of("reference/findings");
+    assert_eq!(files.len(), 23);
+    for file in files {
+        let text = std::fs::read_to_string(&file).unwrap();
+        assert_eq!(bits(&text), text, "{}", file.display());
+    }
+}
