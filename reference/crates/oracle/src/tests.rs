@@ -234,3 +234,30 @@ fn findings_are_read_to_their_bits() {
         assert_eq!(bits(&text), text, "{}", file.display());
     }
 }
+
+#[test]
+fn examples_are_read() {
+    let mut names: Vec<String> = cases_of("examples").iter().map(|p| one(&std::fs::read(p).unwrap()).name).collect();
+    names.sort();
+    assert_eq!(names, ["booth", "screen", "shoebox"]);
+}
+
+#[test]
+fn the_example_booth_is_the_one_built_in() {
+    let source = std::fs::read_to_string(top().join("crates/booth/src/scene_text.rt")).unwrap();
+    let (_, rest) = source.split_once("b\"").unwrap();
+    let (text, _) = rest.split_once("\",\n").unwrap();
+    assert_eq!(bits(text), bits(std::fs::read(top().join("examples/booth.case")).unwrap()));
+}
+
+/// The six single bounces of the shoebox as examples/README.md works them out: 495, 525, 675, 705, 1395 and 1965 samples.
+#[test]
+fn the_shoebox_is_as_worked_out_by_hand() {
+    let c = one(&std::fs::read(top().join("examples/shoebox.case")).unwrap());
+    let taps = crate::run(&c, false).taps;
+    assert_eq!(taps.len(), 6);
+    for (tap, metres) in taps.iter().zip([3.3, 3.5, 4.5, 4.7, 9.3, 13.1]) {
+        assert!((tap.delay_samples - 150.0 * metres).abs() < 0.001, "{}", tap.delay_samples);
+        assert!(tap.gain.0.iter().all(|g| (g - 0.9 / metres).abs() < 0.000_001), "{:?}", tap.gain.0);
+    }
+}
