@@ -1,3 +1,4 @@
 -- The laws of clearing.
 mod Zero
 mod Wiping
+mod MinusZero

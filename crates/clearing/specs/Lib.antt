@@ -1,2 +1,3 @@
 -- Clearing: the definitions that its contracts cite.
 pub mod Zero
+pub mod Runs

@@ -3,7 +3,7 @@ use Prim.Native.Nat.{ℕ}
 use mathlib.Core.Path.{_≡_}
 use mathlib.Core.List.{List}
 use lib.Ieee.{Float}
-use lib.ListN.{length, replicate, take}
+use lib.ListN.{length, replicate}
 use Rattle.float.specs.Literals.{zero32}
 
 -- an area of zeros
@@ -12,10 +12,6 @@ Zeros l = l ≡ replicate (length l) 0
 
 abbrev pub ZeroFloats : List Float → Type 0
 ZeroFloats l = l ≡ replicate (length l) zero32
-
--- the first i elements are z
-abbrev pub ZeroTo : {A : Type 0} → A → List A → ℕ → Type 0
-ZeroTo z l i = take i l ≡ replicate i z
 
 -- the areas of the planes, the candidates and the list
 pub record PlanesZero (keys low-keys words scratch index numbers adjacency queue offsets plane-triangles plane-words : List ℕ) (plane-floats floats plane-edges : List Float) : Type 0 where

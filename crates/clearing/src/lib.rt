@@ -1,51 +1,42 @@
 // The work areas of a query become zero: "6, 7 and every result leave them zero".
-// An area is read before it is written, a chunk at a time: what is zero already stays as it is, so that memory that no query
-// has reached is not written, and pages that the system lends as zero stay so.
-ghost use Prim.Native.Nat.{_+_, _<_, _≤_};
+// An area is read before it is written: what is zero already stays as it is, so that memory that no query has reached is not written, and pages
+// that the system lends as zero stay so. Two runs are read in turn, half an area apart: while the address of the one's next page is looked up,
+// the other's is read.
+ghost use Prim.Native.Nat.{_+_, _≤_};
 ghost use mathlib.Core.Path.{_≡_};
+ghost use lib.Ieee.{nan};
 ghost use lib.ListN.{length, replicate};
 ghost use Rattle.float.specs.Literals.{zero32};
-ghost use Rattle.clearing.specs.Zero.{Zeros, ZeroFloats, SceneZero, ZeroTo};
+ghost use Rattle.clearing.specs.Zero.{Zeros, ZeroFloats, SceneZero};
+ghost use Rattle.clearing.specs.Runs.{Run, Wiped, WipedBoth};
 
-// How many elements are read at once.
-const CHUNK: usize = 1024;
-
-// Of floats fewer, and two at once, from either half of them: one test finds a NaN in either, and the halves lie so near that
-// memory is read as one run.
+// How many elements of each run are tested at once.
 const SPAN: usize = 64;
 
-const HALF: usize = 32;
+const QUARTER: usize = 16;
 
-// The end of the chunk of so many that begins at from.
-fn chunk_end(from: usize, count: usize, size: usize) -> usize
-    requires { ⌜ (from < count) × (0 < size) ⌝ }
-    ensures { λ r. ⌜ (from < r) × (r ≤ count) ⌝ }
-{
-    if count - from <= size {
-        return count;
-    }
-    from + size
-}
+// Of both runs.
+const PAIR: usize = 128;
 
 // ---- u64
 
-// Zero only where all from `from` up to `to` are.
-fn marks_u64(area: &[u64], from: usize, to: usize) -> u64
-    requires { ⌜ (from ≤ to) × (to ≤ length (now area)) × ZeroTo 0 (now area) from ⌝ }
-    ensures { λ r. ⌜ (r ≡ 0 → ZeroTo 0 (now (area .entry)) to) ⌝ }
+// Zero only where the 64 from `near` on and the 64 from `far` on are.
+fn marks_u64(area: &[u64], near: usize, far: usize) -> u64
+    requires { ⌜ (near + 64 ≤ length (now area)) × (far + 64 ≤ length (now area)) ⌝ }
+    ensures { λ r. ⌜ (r ≡ 0 → Run 0 0 (now (area .entry)) near 64 × Run 0 0 (now (area .entry)) far 64) ⌝ }
 {
     let mut marks: u64 = 0;
-    let mut i = from;
-    while i < to {
-        marks |= area[i];
-        i += 1;
+    let mut k = 0;
+    while k < SPAN {
+        marks |= area[near + k] | area[far + k];
+        k += 1;
     }
     marks
 }
 
 fn blank_u64(area: &mut [u64], from: usize, to: usize)
-    requires { ⌜ (from ≤ to) × (to ≤ length (now area)) × ZeroTo 0 (now area) from ⌝ }
-    ensures { λ _. ⌜ ZeroTo 0 (now (area .exit)) to ⌝ }
+    requires { ⌜ (from ≤ to) × (to ≤ length (now area)) ⌝ }
+    ensures { λ _. ⌜ Wiped 0 0 (now (area .entry)) (now (area .exit)) from to ⌝ }
 {
     let mut i = from;
     while i < to {
@@ -54,46 +45,48 @@ fn blank_u64(area: &mut [u64], from: usize, to: usize)
     }
 }
 
-fn wipe_chunk_u64(area: &mut [u64], from: usize, to: usize)
-    requires { ⌜ (from ≤ to) × (to ≤ length (now area)) × ZeroTo 0 (now area) from ⌝ }
-    ensures { λ _. ⌜ ZeroTo 0 (now (area .exit)) to ⌝ }
+fn wipe_both_u64(area: &mut [u64], near: usize, far: usize)
+    requires { ⌜ (near + 64 ≤ length (now area)) × (far + 64 ≤ length (now area)) ⌝ }
+    ensures { λ _. ⌜ WipedBoth 0 0 (now (area .entry)) (now (area .exit)) near far ⌝ }
 {
-    if marks_u64(area, from, to) == 0 {
+    if marks_u64(area, near, far) == 0 {
         return;
     }
-    blank_u64(area, from, to);
+    blank_u64(area, near, near + SPAN);
+    blank_u64(area, far, far + SPAN);
 }
 
 fn wipe_u64(area: &mut [u64])
     ensures { λ _. ⌜ now (area .exit) ≡ replicate (length (now (area .entry))) 0 ⌝ }
 {
-    let mut i = 0;
-    while i < area.len() {
-        let e = chunk_end(i, area.len(), CHUNK);
-        wipe_chunk_u64(area, i, e);
-        i = e;
+    let m = area.len() / PAIR;
+    let mut k = 0;
+    while k < m {
+        wipe_both_u64(area, SPAN * k, SPAN * (m + k));
+        k += 1;
     }
+    blank_u64(area, PAIR * m, area.len());
 }
 
 // ---- u32
 
-// Zero only where all from `from` up to `to` are.
-fn marks_u32(area: &[u32], from: usize, to: usize) -> u32
-    requires { ⌜ (from ≤ to) × (to ≤ length (now area)) × ZeroTo 0 (now area) from ⌝ }
-    ensures { λ r. ⌜ (r ≡ 0 → ZeroTo 0 (now (area .entry)) to) ⌝ }
+// Zero only where the 64 from `near` on and the 64 from `far` on are.
+fn marks_u32(area: &[u32], near: usize, far: usize) -> u32
+    requires { ⌜ (near + 64 ≤ length (now area)) × (far + 64 ≤ length (now area)) ⌝ }
+    ensures { λ r. ⌜ (r ≡ 0 → Run 0 0 (now (area .entry)) near 64 × Run 0 0 (now (area .entry)) far 64) ⌝ }
 {
     let mut marks: u32 = 0;
-    let mut i = from;
-    while i < to {
-        marks |= area[i];
-        i += 1;
+    let mut k = 0;
+    while k < SPAN {
+        marks |= area[near + k] | area[far + k];
+        k += 1;
     }
     marks
 }
 
 fn blank_u32(area: &mut [u32], from: usize, to: usize)
-    requires { ⌜ (from ≤ to) × (to ≤ length (now area)) × ZeroTo 0 (now area) from ⌝ }
-    ensures { λ _. ⌜ ZeroTo 0 (now (area .exit)) to ⌝ }
+    requires { ⌜ (from ≤ to) × (to ≤ length (now area)) ⌝ }
+    ensures { λ _. ⌜ Wiped 0 0 (now (area .entry)) (now (area .exit)) from to ⌝ }
 {
     let mut i = from;
     while i < to {
@@ -102,60 +95,71 @@ fn blank_u32(area: &mut [u32], from: usize, to: usize)
     }
 }
 
-fn wipe_chunk_u32(area: &mut [u32], from: usize, to: usize)
-    requires { ⌜ (from ≤ to) × (to ≤ length (now area)) × ZeroTo 0 (now area) from ⌝ }
-    ensures { λ _. ⌜ ZeroTo 0 (now (area .exit)) to ⌝ }
+fn wipe_both_u32(area: &mut [u32], near: usize, far: usize)
+    requires { ⌜ (near + 64 ≤ length (now area)) × (far + 64 ≤ length (now area)) ⌝ }
+    ensures { λ _. ⌜ WipedBoth 0 0 (now (area .entry)) (now (area .exit)) near far ⌝ }
 {
-    if marks_u32(area, from, to) == 0 {
+    if marks_u32(area, near, far) == 0 {
         return;
     }
-    blank_u32(area, from, to);
+    blank_u32(area, near, near + SPAN);
+    blank_u32(area, far, far + SPAN);
 }
 
 fn wipe_u32(area: &mut [u32])
     ensures { λ _. ⌜ now (area .exit) ≡ replicate (length (now (area .entry))) 0 ⌝ }
 {
-    let mut i = 0;
-    while i < area.len() {
-        let e = chunk_end(i, area.len(), CHUNK);
-        wipe_chunk_u32(area, i, e);
-        i = e;
+    let m = area.len() / PAIR;
+    let mut k = 0;
+    while k < m {
+        wipe_both_u32(area, SPAN * k, SPAN * (m + k));
+        k += 1;
     }
+    blank_u32(area, PAIR * m, area.len());
 }
 
 // ---- f32
 
-// Zero only where both are +0: a NaN has no bits, and those of -0 are not 0.
-fn mark(x: f32, y: f32) -> u32
-    ensures { λ r. ⌜ (r ≡ 0 → (x ≡ zero32) × (y ≡ zero32)) ⌝ }
+// Zero only where all eight are +0. A sum is -0 only where both its parts are, so the chain ends at -0 only where nothing but +0 was taken off
+// (proofs/MinusZero.antt): one test for a NaN, of which no bits are had, serves eight floats.
+fn mark(a: f32, b: f32, c: f32, d: f32, e: f32, f: f32, g: f32, h: f32) -> u32
+    ensures { λ r. ⌜ (r ≡ 0 → (a ≡ zero32) × (b ≡ zero32) × (c ≡ zero32) × (d ≡ zero32) × (e ≡ zero32) × (f ≡ zero32) × (g ≡ zero32) × (h ≡ zero32)) ⌝ }
 {
-    if x != x {
+    let s = -a - b - c - d - e - f - g - h;
+    if s != s {
         return 0xffff_ffff;
     }
-    if y != y {
-        return 0xffff_ffff;
-    }
-    f32::to_bits(x) | f32::to_bits(y)
+    f32::to_bits(-s)
 }
 
-// Zero only where the 64 from `from` on are.
-fn marks_f32(area: &[f32], from: usize) -> u32
-    requires { ⌜ (from + 64 ≤ length (now area)) × ZeroTo zero32 (now area) from ⌝ }
-    ensures { λ r. ⌜ (r ≡ 0 → ZeroTo zero32 (now (area .entry)) (from + 64)) ⌝ }
+// Zero only where the 64 from `near` on and the 64 from `far` on are.
+fn marks_f32(area: &[f32], near: usize, far: usize) -> u32
+    requires { ⌜ (near + 64 ≤ length (now area)) × (far + 64 ≤ length (now area)) ⌝ }
+    ensures { λ r. ⌜ (r ≡ 0 → Run zero32 nan (now (area .entry)) near 64 × Run zero32 nan (now (area .entry)) far 64) ⌝ }
 {
-    let far = from + HALF;
     let mut marks: u32 = 0;
     let mut k = 0;
-    while k < HALF {
-        marks |= mark(area[from + k], area[far + k]);
+    while k < QUARTER {
+        let p = near + k;
+        let q = far + k;
+        marks |= mark(
+            area[p],
+            area[p + 16],
+            area[p + 32],
+            area[p + 48],
+            area[q],
+            area[q + 16],
+            area[q + 32],
+            area[q + 48],
+        );
         k += 1;
     }
     marks
 }
 
 fn blank_f32(area: &mut [f32], from: usize, to: usize)
-    requires { ⌜ (from ≤ to) × (to ≤ length (now area)) × ZeroTo zero32 (now area) from ⌝ }
-    ensures { λ _. ⌜ ZeroTo zero32 (now (area .exit)) to ⌝ }
+    requires { ⌜ (from ≤ to) × (to ≤ length (now area)) ⌝ }
+    ensures { λ _. ⌜ Wiped zero32 nan (now (area .entry)) (now (area .exit)) from to ⌝ }
 {
     let mut i = from;
     while i < to {
@@ -164,29 +168,27 @@ fn blank_f32(area: &mut [f32], from: usize, to: usize)
     }
 }
 
-fn wipe_chunk_f32(area: &mut [f32], from: usize, to: usize)
-    requires { ⌜ (from ≤ to) × (to ≤ length (now area)) × ZeroTo zero32 (now area) from ⌝ }
-    ensures { λ _. ⌜ ZeroTo zero32 (now (area .exit)) to ⌝ }
+fn wipe_both_f32(area: &mut [f32], near: usize, far: usize)
+    requires { ⌜ (near + 64 ≤ length (now area)) × (far + 64 ≤ length (now area)) ⌝ }
+    ensures { λ _. ⌜ WipedBoth zero32 nan (now (area .entry)) (now (area .exit)) near far ⌝ }
 {
-    if to - from != SPAN {
-        blank_f32(area, from, to);
+    if marks_f32(area, near, far) == 0 {
         return;
     }
-    if marks_f32(area, from) == 0 {
-        return;
-    }
-    blank_f32(area, from, to);
+    blank_f32(area, near, near + SPAN);
+    blank_f32(area, far, far + SPAN);
 }
 
 fn wipe_f32(area: &mut [f32])
     ensures { λ _. ⌜ now (area .exit) ≡ replicate (length (now (area .entry))) zero32 ⌝ }
 {
-    let mut i = 0;
-    while i < area.len() {
-        let e = chunk_end(i, area.len(), SPAN);
-        wipe_chunk_f32(area, i, e);
-        i = e;
+    let m = area.len() / PAIR;
+    let mut k = 0;
+    while k < m {
+        wipe_both_f32(area, SPAN * k, SPAN * (m + k));
+        k += 1;
     }
+    blank_f32(area, PAIR * m, area.len());
 }
 
 // ---- the areas

@@ -1,61 +1,81 @@
--- Storing a float in each column: what the loop of `put_columns` keeps, and what is read afterwards. Another row keeps what it had
+-- Storing a float in each column: a triangle's row by parts, and what is read afterwards. Another row keeps what it had
 -- (`put-other`), and the row itself reads as the floats stored (`put-same`); so a triangle is read back as it was stored.
 use mathlib.Core.Path.{_≡_, refl, sym, ap, _∙_}
 use mathlib.Core.List.{List, [], _∷_}
-use Prim.Native.Nat.{ℕ, zero, suc, _+_, _-_, _*_, _<_, _≤_}
-use native.Mathlib.Nat.{suc-mul, add-assoc, zero-mul}
-use native.Mathlib.Numerals.{add-one}
+use Prim.Native.Nat.{ℕ, zero, suc, _+_, _*_, _<_}
+use native.Mathlib.Nat.{suc-mul, zero-mul}
 use native.Mathlib.Omega.{arith}
 use lib.Ieee.{Float, nan}
-use lib.ListN.{length, getD, set, drop, length-set, drop-of-length-le}
-use lib.Seq.{drop-cons, getD-set-same, getD-set-other}
-use Rattle.columns.specs.Columns.{columnCount, putColumns}
+use lib.ListN.{length, getD, set, length-set}
+use lib.Seq.{set-comm, getD-set-same, getD-set-other}
+use Rattle.vector.specs.declared.Vec3.{Vec3}
+use Rattle.vector.specs.Vector.{sub3Of}
+use Rattle.geometry.specs.declared.Triangle.{Triangle}
+use Rattle.geometry.specs.declared.Edges.{Edges}
+use Rattle.geometry.specs.declared.Dots.{Dots}
+use Rattle.geometry.specs.Intersect.{edgesOf}
+use Rattle.geometry.specs.Contains.{dotsOf}
+use Rattle.columns.specs.Columns.{vecRowOf, dotsRowOf, rowOf, putColumns, putTriangleOf}
 
--- k floats stored, the next one at p
-pub record Storing (found area : List Float) (n i : ℕ) (values : List Float) (p k : ℕ) : Type 0 where
-  pub few : k ≤ columnCount
-  pub len : length area ≡ length found
-  pub place : p + (columnCount - k) * n ≡ i + columnCount * n
-  pub left : putColumns area n p (drop k values) ≡ putColumns found n i values
+-- ---- a row by its parts
 
--- the columns left, with one more taken off
-one-less : (k n : ℕ) → k < columnCount → (columnCount - k) * n ≡ (columnCount - (k + 1)) * n + n
-one-less k n h =
-    let e : columnCount - k ≡ suc (columnCount - (k + 1)) = omega arith in
-    rw e (suc-mul (columnCount - (k + 1)) n)
-
--- the place of the next float lies in the area
-pub storing-room :
-    (found area : List Float) (n i : ℕ) (values : List Float) (p k : ℕ) →
-    Storing found area n i values p k → k < columnCount → i < n → columnCount * n ≤ length found → (p < length area) × (p + n < columnCount * n + n)
-storing-room found area n i values p k inv h small room =
-    let e = one-less k n h in
-    let s = inv .place in
-    let l = inv .len in
-    (omega arith, omega arith)
-
-pub storing-more :
-    (found area : List Float) (n i : ℕ) (values : List Float) (p k : ℕ) →
-    Storing found area n i values p k → k < columnCount → length values ≡ columnCount → Storing found (set area p (getD values k nan)) n i values (p + n) (k + 1)
+-- the places as the code counts them
+pub vec-stored : (area : List Float) (n p : ℕ) (v : Vec3) → set (set (set area p (v .x)) (p + n) (v .y)) (p + 2 * n) (v .z) ≡ putColumns area n p (vecRowOf v)
 unfolding putColumns
-storing-more found area n i values p k inv h all =
-    let e = one-less k n h in
-    let s = inv .place in
-    let in-range : k < length values = omega (arith, all, h) in
-    record {
-      few = omega (arith, h);
-      len = simp length-set (inv .len);
-      place = omega arith;
-      left = rw (add-one) (ap (λ (vs : List Float). putColumns area n p vs) (sym (drop-cons values k nan in-range)) ∙ inv .left);
-    }
+vec-stored area n p v = let e : p + 2 * n ≡ p + n + n = omega arith in ap (λ (q : ℕ). set (set (set area p (v .x)) (p + n) (v .y)) q (v .z)) e
 
-pub storing-all :
-    (found area : List Float) (n i : ℕ) (values : List Float) (p k : ℕ) →
-    Storing found area n i values p k → columnCount ≤ k → length values ≡ columnCount → area ≡ putColumns found n i values
+pub dots-stored :
+    (area : List Float) (n p : ℕ) (d : Dots) →
+    set (set (set (set area p (d .d00)) (p + n) (d .d01)) (p + 2 * n) (d .d11)) (p + 3 * n) (d .denom) ≡ putColumns area n p (dotsRowOf d)
 unfolding putColumns
-storing-all found area n i values p k inv h all =
-    let gone : drop k values ≡ [] = drop-of-length-le values {i = k} (omega (arith, all, h)) in
-    sym (ap (λ (vs : List Float). putColumns area n p vs) gone) ∙ inv .left
+dots-stored area n p d =
+    let e : p + 2 * n ≡ p + n + n = omega arith in
+    let g : p + 3 * n ≡ p + n + n + n = omega arith in
+    ap (λ (q : ℕ). set (set (set (set area p (d .d00)) (p + n) (d .d01)) q (d .d11)) (p + 3 * n) (d .denom)) e
+    ∙ ap (λ (q : ℕ). set (set (set (set area p (d .d00)) (p + n) (d .d01)) (p + n + n) (d .d11)) q (d .denom)) g
+
+-- three columns, then the others
+three :
+    (area : List Float) (n p q : ℕ) (x y z : Float) (vs : List Float) → q ≡ p + n + n + n →
+    putColumns area n p (x ∷ y ∷ z ∷ vs) ≡ putColumns (putColumns area n p (x ∷ y ∷ z ∷ [])) n q vs
+unfolding putColumns
+three area n p q x y z vs e = ap (λ (k : ℕ). putColumns (set (set (set area p x) (p + n) y) (p + n + n) z) n k vs) (sym e)
+
+-- a column may be stored after those behind it
+put-late :
+    (area : List Float) (n p q : ℕ) (v : Float) (vs : List Float) → q < p →
+    putColumns (set area q v) n p vs ≡ set (putColumns area n p vs) q v
+unfolding putColumns
+put-late area n p q v [] h = refl
+put-late area n p q v (w ∷ vs) h =
+    ap (λ (l : List Float). putColumns l n (p + n) vs) (set-comm area q p v w (λ e. omega (arith, h, e))) ∙ put-late (set area p w) n (p + n) q v vs (omega (arith, h))
+
+late :
+    (area : List Float) (n p q : ℕ) (v : Float) (vs : List Float) → 0 < n → q ≡ p + n →
+    putColumns area n p (v ∷ vs) ≡ set (putColumns area n q vs) p v
+unfolding putColumns
+late area n p q v vs pos e = put-late area n (p + n) p v vs (omega (arith, pos)) ∙ ap (λ (k : ℕ). set (putColumns area n k vs) p v) (sym e)
+
+-- a triangle's row: six vectors, the products, and last the column before the products
+pub parts-stored :
+    (t : Triangle) (n i : ℕ) (area l₁ l₂ l₃ l₄ l₅ l₆ l₇ : List Float) (s : Edges) (least : Float) → 0 < n →
+    l₁ ≡ putColumns area n i (vecRowOf (t .a)) → l₂ ≡ putColumns l₁ n (i + 3 * n) (vecRowOf (t .b)) →
+    l₃ ≡ putColumns l₂ n (i + 6 * n) (vecRowOf (t .c)) → l₄ ≡ putColumns l₃ n (i + 9 * n) (vecRowOf (t .normal)) →
+    l₅ ≡ putColumns l₄ n (i + 12 * n) (vecRowOf (s .edge1)) → l₆ ≡ putColumns l₅ n (i + 15 * n) (vecRowOf (s .edge2)) →
+    l₇ ≡ putColumns l₆ n (i + 19 * n) (dotsRowOf (dotsOf s)) →
+    s .edge1 ≡ sub3Of (t .b) (t .a) → s .edge2 ≡ sub3Of (t .c) (t .a) → least ≡ edgesOf (t .a) (t .b) (t .c) .«least_det» →
+    set l₇ (i + 18 * n) least ≡ putTriangleOf area n i t
+unfolding putTriangleOf rowOf edgesOf dotsOf
+parts-stored t n i area l₁ l₂ l₃ l₄ l₅ l₆ l₇ s least pos e₁ e₂ e₃ e₄ e₅ e₆ e₇ g h k =
+    rw (e₇, e₆, e₅, e₄, e₃, e₂, e₁, g, h, k)
+    (sym
+    (three area n i (i + 3 * n) _ _ _ _ (omega arith)
+    ∙ three _ n (i + 3 * n) (i + 6 * n) _ _ _ _ (omega arith)
+    ∙ three _ n (i + 6 * n) (i + 9 * n) _ _ _ _ (omega arith)
+    ∙ three _ n (i + 9 * n) (i + 12 * n) _ _ _ _ (omega arith)
+    ∙ three _ n (i + 12 * n) (i + 15 * n) _ _ _ _ (omega arith)
+    ∙ three _ n (i + 15 * n) (i + 18 * n) _ _ _ _ (omega arith)
+    ∙ late _ n (i + 18 * n) (i + 19 * n) _ _ pos (omega arith)))
 
 -- ---- what is read afterwards
 

@@ -51,6 +51,13 @@ rowOf t =
     let d = dotsOf e in
     t .a .x ∷ t .a .y ∷ t .a .z ∷ t .b .x ∷ t .b .y ∷ t .b .z ∷ t .c .x ∷ t .c .y ∷ t .c .z ∷ t .normal .x ∷ t .normal .y ∷ t .normal .z ∷ e .edge1 .x ∷ e .edge1 .y ∷ e .edge1 .z ∷ e .edge2 .x ∷ e .edge2 .y ∷ e .edge2 .z ∷ e .«least_det» ∷ d .d00 ∷ d .d01 ∷ d .d11 ∷ d .denom ∷ []
 
+-- the floats of a vector, and of the products with their divisor
+abbrev pub vecRowOf : Vec3 → List Float
+vecRowOf v = v .x ∷ v .y ∷ v .z ∷ []
+
+abbrev pub dotsRowOf : Dots → List Float
+dotsRowOf d = d .d00 ∷ d .d01 ∷ d .d11 ∷ d .denom ∷ []
+
 -- a float in each column, the first at p
 unfoldable pub putColumns : List Float → ℕ → ℕ → List Float → List Float
 putColumns area n p [] = area

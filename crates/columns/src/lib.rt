@@ -8,7 +8,7 @@ ghost use mathlib.Core.Path.{_≡_};
 ghost use Prim.Native.Nat.{_+_, _*_, _^_, _<_, _≤_};
 ghost use lib.ListN.{length, replicate};
 ghost use Rattle.float.specs.Literals.{zero32};
-ghost use Rattle.columns.specs.Columns.{columnCount, vecAtOf, triangleAtOf, edgesAtOf, dotsAtOf, rowOf, putColumns, putTriangleOf};
+ghost use Rattle.columns.specs.Columns.{columnCount, vecAtOf, triangleAtOf, edgesAtOf, dotsAtOf, vecRowOf, dotsRowOf, putColumns, putTriangleOf};
 
 pub const COLUMNS: usize = 23;
 
@@ -73,59 +73,49 @@ pub fn dots_at(triangles: &[f32], n: usize, i: usize) -> Dots
 
 // ---- storing
 
-// What stands of a triangle in the columns, first column first.
-fn row(t: Triangle) -> [f32; 23]
-    ensures { λ r. ⌜ r ≡ rowOf t ⌝ }
+// A vector in three columns, its x at p.
+fn put_vec(triangles: &mut [f32], n: usize, p: usize, v: Vec3)
+    requires { ⌜ (p + 2 * n < length (now triangles)) × (p < 2 ^ 40) × (n < 2 ^ 32) ⌝ }
+    ensures { λ _. ⌜ now (triangles .exit) ≡ putColumns (now (triangles .entry)) n p (vecRowOf v) ⌝ }
 {
-    let e = geometry::edges_of(t.a, t.b, t.c);
-    let d = geometry::dots_of(e);
-    [
-        t.a.x,
-        t.a.y,
-        t.a.z,
-        t.b.x,
-        t.b.y,
-        t.b.z,
-        t.c.x,
-        t.c.y,
-        t.c.z,
-        t.normal.x,
-        t.normal.y,
-        t.normal.z,
-        e.edge1.x,
-        e.edge1.y,
-        e.edge1.z,
-        e.edge2.x,
-        e.edge2.y,
-        e.edge2.z,
-        e.least_det,
-        d.d00,
-        d.d01,
-        d.d11,
-        d.denom,
-    ]
+    triangles[p] = v.x;
+    triangles[p + n] = v.y;
+    triangles[p + 2 * n] = v.z;
 }
 
-// A float in each column, at i.
-fn put_columns(triangles: &mut [f32], n: usize, i: usize, values: &[f32])
-    requires { ⌜ (length (now values) ≡ columnCount) × (columnCount * n ≤ length (now triangles)) × (i < n) × (n < 2 ^ 32) ⌝ }
-    ensures { λ _. ⌜ now (triangles .exit) ≡ putColumns (now (triangles .entry)) n i (now (values .entry)) ⌝ }
+// The products and the divisor in four columns, the first at p.
+fn put_dots(triangles: &mut [f32], n: usize, p: usize, d: Dots)
+    requires { ⌜ (p + 3 * n < length (now triangles)) × (p < 2 ^ 40) × (n < 2 ^ 32) ⌝ }
+    ensures { λ _. ⌜ now (triangles .exit) ≡ putColumns (now (triangles .entry)) n p (dotsRowOf d) ⌝ }
 {
-    let mut p = i;
-    let mut k = 0;
-    while k < COLUMNS {
-        triangles[p] = values[k];
-        p += n;
-        k += 1;
-    }
+    triangles[p] = d.d00;
+    triangles[p + n] = d.d01;
+    triangles[p + 2 * n] = d.d11;
+    triangles[p + 3 * n] = d.denom;
 }
 
+// The four vectors of a triangle, then what depends on it alone. The column with the root comes last: what was stored before it is not kept in
+// registers around the root.
 pub fn put_triangle(triangles: &mut [f32], n: usize, i: usize, t: Triangle)
     requires { ⌜ (columnCount * n ≤ length (now triangles)) × (i < n) × (n < 2 ^ 32) ⌝ }
     ensures { λ _. ⌜ now (triangles .exit) ≡ putTriangleOf (now (triangles .entry)) n i t ⌝ }
 {
-    let values = row(t);
-    put_columns(triangles, n, i, &values);
+    put_vec(triangles, n, i, t.a);
+    put_vec(triangles, n, i + 3 * n, t.b);
+    put_vec(triangles, n, i + 6 * n, t.c);
+    put_vec(triangles, n, i + 9 * n, t.normal);
+    let edge1 = vector::sub3(t.b, t.a);
+    let edge2 = vector::sub3(t.c, t.a);
+    put_vec(triangles, n, i + 12 * n, edge1);
+    put_vec(triangles, n, i + 15 * n, edge2);
+    let sides = Edges {
+        edge1,
+        edge2,
+        least_det: 0.0,
+    };
+    put_dots(triangles, n, i + 19 * n, geometry::dots_of(sides));
+    let e = geometry::edges_of(t.a, t.b, t.c);
+    triangles[i + 18 * n] = e.least_det;
 }
 
 // ---- clearing

@@ -42,37 +42,23 @@ pub enum Loaded {
     Triangles(usize, usize, usize),
 }
 
+// Two comparisons and no branch, so that nine coordinates are tested four at a time: what is not a number lies between no two.
 fn far(x: f32) -> bool
     ensures { λ r. ⌜ r ≡ farOf x ⌝ }
 {
-    if float::is_finite(x) {
-        return FARTHEST < float::abs(x);
-    }
-    true
+    !((x <= FARTHEST) & (-FARTHEST <= x))
 }
 
 fn far_corner(v: Vec3) -> bool
     ensures { λ r. ⌜ r ≡ farCorner v ⌝ }
 {
-    if far(v.x) {
-        return true;
-    }
-    if far(v.y) {
-        return true;
-    }
-    far(v.z)
+    far(v.x) | far(v.y) | far(v.z)
 }
 
 fn far_corners(a: Vec3, b: Vec3, c: Vec3) -> bool
     ensures { λ r. ⌜ r ≡ farCorners a b c ⌝ }
 {
-    if far_corner(a) {
-        return true;
-    }
-    if far_corner(b) {
-        return true;
-    }
-    far_corner(c)
+    far_corner(a) | far_corner(b) | far_corner(c)
 }
 
 // Vertex i, placed. Each placing counts itself, so that no corner is had without its count.

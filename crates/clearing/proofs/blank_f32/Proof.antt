@@ -2,38 +2,39 @@ use Prim.Native.Nat.{_≤_, _-_}
 use mathlib.Core.Path.{_≡_, refl, subst}
 use native.Mathlib.Omega.{arith}
 use borrow.Author.Needs.{needs}
+use lib.Ieee.{nan}
 use lib.ListN.{length, length-set}
 use Rattle.float.specs.Literals.{zero32}
-use Rattle.columns.proofs.Clearing.{Clearing, clearing-more}
-use Rattle.clearing.specs.Zero.{ZeroTo}
+use Rattle.clearing.specs.Runs.{Wiped}
+use Rattle.clearing.proofs.Wiping.{wiped-none, wiped-more}
 use Rattle.clearing.proofs.blank_f32.Statement.{statement}
 use Rattle.clearing.proofs.blank_f32.Tie as tie
 
--- `clearing::blank_f32` meets its contract, by the laws of clearing of `columns`.
+-- `clearing::blank_f32` meets its contract: what lies before i became zero, and what was zero stays so.
 
 abbrev Inv-loop : tie.InvT-loop
-Inv-loop area₀ from to i₀ area i = (i ≤ to) × Clearing zero32 area₀ area i
+Inv-loop area₀ from to i₀ area i = (i ≤ to) × (length area ≡ length area₀) × Wiped zero32 nan area₀ area from i
 
 abbrev μ-loop : tie.MeasureT-loop
 μ-loop area₀ from to i₀ area i = to - i
 
 loop-holds : tie.Need-loop-holds Inv-loop μ-loop
-loop-holds c = (omega arith, record { within = omega arith; len = refl; done = c .pre .2 })
+loop-holds c = (omega arith, refl, wiped-none zero32 nan _ _)
 
 mul-area : tie.Need-mul-area Inv-loop μ-loop
-mul-area c = let len = c .before .loop .inv .1 .len in omega arith
+mul-area c = let len = c .before .loop .inv .1 in omega arith
 
 slice-write-area : tie.Need-slice-write-area Inv-loop μ-loop
-slice-write-area c = let len = c .before .loop .inv .1 .len in omega arith
+slice-write-area c = let len = c .before .loop .inv .1 in omega arith
 
 loop-again : tie.Need-loop-again Inv-loop μ-loop
-loop-again c = let len = c .before .loop .inv .1 .len in (omega arith, clearing-more zero32 _ _ _ (omega arith) (c .before .loop .inv .1))
+loop-again c = let len = c .before .loop .inv .1 in (omega arith, simp length-set (c .before .loop .inv .1), wiped-more zero32 nan _ _ _ _ (omega arith) (c .before .loop .inv .2))
 
 same-length : tie.Need-same-length Inv-loop μ-loop
-same-length c = c .before .loop .inv .1 .len
+same-length c = c .before .loop .inv .1
 
 returns : tie.Need-returns Inv-loop μ-loop
-returns c = subst (ZeroTo zero32 (c .before .loop .area)) (let last : c .before .loop .i ≡ c .before .before .args .to = omega arith in last) (c .before .loop .inv .1 .done)
+returns c = subst (Wiped zero32 nan (c .before .before .args .area .now) (c .before .loop .area) (c .before .before .args .from)) (let last : c .before .loop .i ≡ c .before .before .args .to = omega arith in last) (c .before .loop .inv .2)
 
 pub blank-f32-spec : {M : Type 1} → statement M
 blank-f32-spec =

@@ -1,38 +1,51 @@
 use Prim.Native.Nat.{_-_}
-use mathlib.Core.Path.{_≡_, refl, _∙_}
+use mathlib.Core.Path.{refl, _∙_}
 use native.Mathlib.Omega.{arith}
 use borrow.Author.Needs.{needs}
+use lib.Ieee.{nan}
 use lib.ListN.{length}
 use Rattle.float.specs.Literals.{zero32}
-use Rattle.columns.proofs.Clearing.{Clearing, clearing-all}
+use Rattle.clearing.proofs.Wiping.{Halves, halves-none, halves-more, halves-all}
 use Rattle.clearing.proofs.wipe_f32.Statement.{statement}
 use Rattle.clearing.proofs.wipe_f32.Tie as tie
 
--- `clearing::wipe_f32` meets its contract: what lies before the next chunk is zero.
+-- `clearing::wipe_f32` meets its contract: k spans of either half are zero, then what lies behind both.
 
 abbrev Inv-loop : tie.InvT-loop
-Inv-loop area₀ i₀ area i = Clearing zero32 area₀ area i
+Inv-loop area₀ m k₀ area k = Halves zero32 nan area₀ area m k
 
 abbrev μ-loop : tie.MeasureT-loop
-μ-loop area₀ i₀ area i = length area - i
+μ-loop area₀ m k₀ area k = m - k
 
 loop-holds : tie.Need-loop-holds Inv-loop μ-loop
-loop-holds c = record { within = omega arith; len = refl; done = refl }
+loop-holds c = halves-none zero32 nan _ _
 
-wipe-chunk-f32-requires : tie.Need-wipe-chunk-f32-requires Inv-loop μ-loop
-wipe-chunk-f32-requires c κs = (omega arith, omega arith, c .before .before .before .loop .inv .done)
+mul-wipe-both-f32 : tie.Need-mul-wipe-both-f32 Inv-loop μ-loop
+mul-wipe-both-f32 c = let len = c .before .before .loop .inv .len in omega arith
 
-loop-less : tie.Need-loop-less Inv-loop μ-loop
-loop-less c = let kept = c .before .before .wipe-chunk-f32 .kept .0 in let room = c .before .before .before .before .before .loop-test .taken in let next = c .before .before .before .before .chunk-end .ensures in omega arith
+add-wipe-both-f32 : tie.Need-add-wipe-both-f32 Inv-loop μ-loop
+add-wipe-both-f32 c = let len = c .before .before .loop .inv .len in omega arith
+
+mul-wipe-both-f32-2 : tie.Need-mul-wipe-both-f32-2 Inv-loop μ-loop
+mul-wipe-both-f32-2 c = let len = c .before .before .loop .inv .len in omega arith
+
+wipe-both-f32-requires : tie.Need-wipe-both-f32-requires Inv-loop μ-loop
+wipe-both-f32-requires c κs = let len = c .before .before .loop .inv .len in (omega arith, omega arith)
 
 loop-again : tie.Need-loop-again Inv-loop μ-loop
-loop-again c = let kept = c .before .before .wipe-chunk-f32 .kept .0 in record { within = omega arith; len = kept ∙ c .before .before .before .before .before .before .loop .inv .len; done = c .before .before .wipe-chunk-f32 .ensures }
+loop-again c = halves-more zero32 nan _ _ _ _ _ _ _ (omega arith) (c .before .before .wipe-both-f32 .kept .0) refl refl (c .before .before .before .before .before .loop .inv) (c .before .before .wipe-both-f32 .ensures)
+
+mul-blank-f32 : tie.Need-mul-blank-f32 Inv-loop μ-loop
+mul-blank-f32 c = let len = c .before .before .loop .inv .len in omega arith
+
+blank-f32-requires : tie.Need-blank-f32-requires Inv-loop μ-loop
+blank-f32-requires c κs = let len = c .before .before .loop .inv .len in (omega arith, omega arith)
 
 same-length : tie.Need-same-length Inv-loop μ-loop
-same-length c = c .before .loop .inv .len
+same-length c = c .before .before .blank-f32 .kept .0 ∙ c .before .before .before .before .before .loop .inv .len
 
 returns : tie.Need-returns Inv-loop μ-loop
-returns c = clearing-all zero32 _ _ _ (omega arith) (c .before .loop .inv)
+returns c = halves-all zero32 nan _ _ _ _ _ _ _ (omega arith) refl refl (c .before .before .blank-f32 .kept .0) (c .before .before .before .before .before .loop .inv) (c .before .before .blank-f32 .ensures)
 
 pub wipe-f32-spec : {M : Type 1} → statement M
 wipe-f32-spec =
@@ -41,9 +54,14 @@ wipe-f32-spec =
     Inv-loop
     μ-loop
     loop-holds
-    (λ c κs. search needs)
-    wipe-chunk-f32-requires
-    loop-less
+    mul-wipe-both-f32
+    add-wipe-both-f32
+    mul-wipe-both-f32-2
+    wipe-both-f32-requires
+    (λ c. omega arith)
+    (λ c. omega arith)
     loop-again
+    mul-blank-f32
+    blank-f32-requires
     same-length
     returns)

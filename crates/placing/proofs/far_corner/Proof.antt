@@ -1,27 +1,20 @@
--- `placing::far_corner` meets its contract: coordinate by coordinate, by the contract of `far`.
-use Rattle.placing.specs.Corners.{farCorner}
+use mathlib.Core.Bool.{or-assoc}
+use mathlib.Core.Path.{_∙_}
+use Rattle.placing.specs.Corners.{farCorner, farOf}
 use Rattle.placing.proofs.far_corner.Statement.{statement}
 use Rattle.placing.proofs.far_corner.Tie as tie
 
-pub far-corner-spec : {M : Type 1} → statement M
+-- `placing::far_corner` meets its contract: coordinate by coordinate, by the contract of `far`.
+
+returns : tie.Need-returns
 unfolding farCorner
+returns c = rw (c .before .before .far .ensures, c .before .far2 .ensures, c .far3 .ensures) (or-assoc (farOf (c .before .before .before .args .v .x)) (farOf (c .before .before .before .args .v .y)) (farOf (c .before .before .before .args .v .z)))
+
+pub far-corner-spec : {M : Type 1} → statement M
 far-corner-spec =
     tie.close
     (tie.spec
     (λ c κs. tt)
-    (λ c. rw (← c .before .far .ensures, c .if1 .taken))
     (λ c κs. tt)
-    (λ c.
-    let at-if1 = c .before .before in
-    rw (← at-if1 .before .far .ensures, at-if1 .if1 .left, ← c .before .far2 .ensures, c .if2 .taken))
     (λ c κs. tt)
-    (λ c.
-    let at-if2 = c .before in
-    let at-if1 = at-if2 .before .before in
-    rw (
-      ← at-if1 .before .far .ensures,
-      at-if1 .if1 .left,
-      ← at-if2 .before .far2 .ensures,
-      at-if2 .if2 .left,
-      ← c .far3 .ensures,
-    )))
+    returns)
