@@ -9,7 +9,9 @@ use Rattle.paths.proofs.judge.Statement.{statement}
 use Rattle.paths.proofs.judge.Tie as tie
 
 go-all-requires : tie.Need-go-all-requires
-go-all-requires c κs = (c .before .before .before .before .before .before .before .before .before .pre .0, (c .before .before .before .before .before .before .before .before .before .pre .1 .0 .1, c .before .before .before .before .before .before .before .before .before .pre .1 .1 (c .before .before .if1 .taken) .points-room))
+go-all-requires c κs =
+    let h = c .before .before .before .before .before .before .before .before .before .pre in
+    (h .0, ((h .1 .0 .1, h .1 .1 (c .before .before .if1 .taken) .points-room), omega (arith, h .1 .0 .2)))
 
 sub-last : tie.Need-sub-last
 sub-last c = omega (arith, c .before .before .before .before .before .before .before .before .before .before .before .before .pre .1 .0)
