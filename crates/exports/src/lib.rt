@@ -142,8 +142,8 @@ pub extern "C" fn biv_area_lengths(triples: usize, c: u32, lens: &mut [usize; sc
 
 // ---- the forecast
 
-// `cost::query_cost`: what a query with this crossing limit will cost. Answers the refusal, or 0. `counts` gets the images of each order from 1 to 8, `found` the candidates, rays
-// and words of work area, all zero after a refusal.
+// `cost::query_cost`: what a query with this crossing limit will cost. Answers the refusal, or 0. `counts` gets the images of each order from 1 to 8,
+// `found` the candidates, rays and words of work area, all zero after a refusal.
 #[no_mangle]
 pub extern "C" fn biv_query_cost(
     crossing_limit: u32,
