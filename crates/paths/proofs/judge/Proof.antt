@@ -1,9 +1,13 @@
 -- `paths::judge` meets its contract, by the trail's fate and the tests of the way.
+use mathlib.Core.Path.{_≡_}
 use Prim.Native.Nat.{_-_}
 use native.Mathlib.Omega.{arith}
 use borrow.Author.Tests.{eq-eqb, ne-eqb}
+use lib.ListN.{take}
 use Rattle.bounces.specs.Areas.{trailOf}
+use Rattle.paths.specs.Visibility.{wayOf}
 use Rattle.paths.specs.Path.{bouncedOf}
+use Rattle.paths.specs.Areas.{softIn}
 use Rattle.paths.proofs.Laws.{last-taken}
 use Rattle.paths.proofs.judge.Statement.{statement}
 use Rattle.paths.proofs.judge.Tie as tie
@@ -30,9 +34,10 @@ unfolding bouncedOf trailOf
 returns c =
     let a = c .before .before .before .before .before .before .before .before .before .before .before .before .before .before .before .before .before .args in (
       λ tri t h.
+          let way : c .before .before .before .before .before .before .before .go-all .result ≡ wayOf (softIn (a .s .«crossing_limit») (a .s .«probe_radius») tri t (a .materials .now)) (a .listener) (a .source) (take (a .order) (a .trail .points)) = c .before .before .before .before .before .before .before .go-all .ensures .0 tri t h in
           rw (
             eq-eqb _ _ (c .before .before .before .before .before .before .before .before .before .before .if1 .taken),
-            ← c .before .before .before .before .before .before .before .go-all .ensures .0 tri t h,
+            ← way,
             ← c .before .before .before .before .before .before .usable .ensures,
             c .before .before .before .before .before .if2 .taken,
             ← c .before .before .before .reflected .ensures tri (h .handles-of),
