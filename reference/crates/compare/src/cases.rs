@@ -253,7 +253,7 @@ pub fn generated(count: u64, seed: u64) {
     let mut cover = Coverage::default();
     for k in 0..count {
         let kind = KINDS[k as usize % KINDS.len()];
-        check(&scenes::case(kind, seed.wrapping_mul(1_000_003) + k), &mut cover);
+        check(&scenes::probed(kind, seed.wrapping_mul(1_000_003) + k), &mut cover);
         *cover.kinds.entry(kind).or_default() += 1;
         if (k + 1) % (count / 4).max(1) == 0 {
             println!("{} of {count} cases equal, {:.1} s", k + 1, start.elapsed().as_secs_f32());
@@ -283,7 +283,7 @@ pub fn files(names: &[&str]) {
 pub fn slips(count: u64, seed: u64) {
     let (mut planted, mut missed) = (0, 0);
     for k in 0..count {
-        let c = scenes::case(KINDS[k as usize % KINDS.len()], seed.wrapping_mul(1_000_003) + k);
+        let c = scenes::probed(KINDS[k as usize % KINDS.len()], seed.wrapping_mul(1_000_003) + k);
         for s in 0..SLIPS {
             match stages(&c, Damage::None, Some(s)) {
                 Some(Err(_)) => planted += 1,
