@@ -320,11 +320,15 @@ fn limits(c: &mut Case, r: &mut Random) {
     c.settings.linear = r.chance(2);
 }
 
-/// Sheets across the first half of the way from the source to the floor: about as many as half a segment may cross.
+/// Sheets across the way by the floor, about as many as half a segment may cross: in its first half, or in all four, so that every ray is traced that
+/// may be.
 fn thick(c: &mut Case, r: &mut Random) {
     let mut m = mesh(0);
-    for k in 0..c.settings.crossing_limit as usize + r.below(3) - 1 {
-        let x = -1.9 + 0.02 * k as f32;
+    let (halves, more) = if r.chance(4) { (4, 1) } else { (1, r.below(3)) };
+    let sheets = c.settings.crossing_limit as usize + more - (halves == 1) as usize;
+    for k in 0..halves * sheets {
+        let (from, to) = [(-1.9, -1.1), (-0.9, -0.1), (0.1, 1.4), (1.6, 2.9)][k / sheets];
+        let x = from + (to - from) * (k % sheets) as f32 / sheets as f32;
         triangle(&mut m, [x, 0.0, -6.0], [x, 0.0, 6.0], [x, 8.0, 0.0]);
     }
     c.meshes.push(m);
