@@ -9,8 +9,8 @@ const TRIPLES: usize = 64;
 const ROOM: u32 = 64;
 const WORDS: usize = 2048;
 
-/// At most so many words for a generated case, and so many images, so that the sample stays small and quick.
-const SHORT: usize = 420;
+/// At most so many words for a generated case beside its settings, and so many images, so that the sample stays small and quick.
+const SHORT: usize = 404;
 const IMAGES: u32 = 20_000;
 
 /// The room that a case has where it says nothing.
@@ -113,7 +113,7 @@ fn add_kind(all: &mut Sample, kind: Kind, count: usize) {
         }
         let sort = if o.refusal == 0 && o.taps.is_empty() { 0 } else { o.refusal as usize };
         let few = (o.refusal != 0 || o.taps.is_empty()) && seen[sort] >= 2;
-        if words(&c, &o) > SHORT || few {
+        if words(&c, &o) > SHORT + port::COUNTS + port::FLOATS || few {
             continue;
         }
         if o.refusal != 0 || o.taps.is_empty() {
