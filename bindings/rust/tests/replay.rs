@@ -80,5 +80,5 @@ fn recorded_queries() {
         }
         cases += 1;
     }
-    assert_eq!(cases, 135);
+    assert_eq!(cases, 149);
 }
