@@ -81,7 +81,7 @@ pub enum Refusal {
     Order,
     /// 13: no image has the number, or order or planes are out of range.
     NoImage = 13,
-    /// 14: the planes, first planes, order or triples of a forecast lie outside their limits.
+    /// 14: the crossing limit, planes, first planes, order or triples of a forecast lie outside their limits.
     Forecast = 14,
 }
 
@@ -120,7 +120,7 @@ impl fmt::Display for Refusal {
             Refusal::Numbers => "a float of the packet is not finite, or a delay or a gain not above 0",
             Refusal::Order => "an image number comes twice, or the taps do not fall in squared-gain sum",
             Refusal::NoImage => "no image has the number, or order or planes are out of range",
-            Refusal::Forecast => "the planes, first planes, order or triples of a forecast lie outside their limits",
+            Refusal::Forecast => "the crossing limit, planes, first planes, order or triples of a forecast lie outside their limits",
         })
     }
 }
