@@ -81,7 +81,7 @@ static inline const char *biv_refusal_text(uint32_t refusal)
     case BIV_NUMBERS: return "a float of the packet is not finite, a delay or a gain not above 0";
     case BIV_TAP_ORDER: return "an image number comes twice, or the taps do not fall in squared-gain sum";
     case BIV_NO_IMAGE: return "no image has the number, or order, planes or plane bytes are out of range";
-    case BIV_FORECAST: return "the planes, first planes, order or triples of a forecast lie outside their limits";
+    case BIV_FORECAST: return "the crossing limit, planes, first planes, order or triples of a forecast lie outside their limits";
     default: return "no refusal of this library";
     }
 }
@@ -93,6 +93,7 @@ static inline const char *biv_refusal_text(uint32_t refusal)
 #define BIV_MOST_TAPS 64
 #define BIV_MOST_ORDER 8
 #define BIV_MOST_PLANES 256
+#define BIV_MOST_CROSSINGS 32
 /* Sequences of planes that a query visits, at most: the first in the order of a dictionary, which goes deep before it goes on. An answer with so many
  * images stopped at this limit: later planes may never have come first, and then even their single bounces are missing. All are visited up to 63 planes at order
  * 3, 22 at 4, 12 at 5, 8 at 6, 6 at 7 and 5 at 8; so ask for a lower order or fewer planes. */
@@ -125,6 +126,8 @@ struct biv_settings {
     float plane_merge_offset;         /* m, finite; 0 or below: nothing is merged */
     float plane_buried_distance;      /* m, finite; 0 or below: not tested */
     struct biv_distance_model distance_model;
+    uint32_t crossing_limit;          /* 1 to 32: surfaces that half a segment may pass through; the next one counts as opaque */
+    float probe_radius;               /* m, 0 to 1: how far around the middle of a segment the bundle of nine rays goes */
 };
 
 /* The Rust's defaults. */
@@ -147,6 +150,8 @@ static inline struct biv_settings biv_default_settings(void)
     s.distance_model.rolloff_factor = 1.0f;
     s.distance_model.min_distance = 1.0f;
     s.distance_model.max_distance = 10000.0f;
+    s.crossing_limit = 8;
+    s.probe_radius = 0.06f;
     return s;
 }
 
@@ -215,14 +220,17 @@ typedef char biv_tap_is_14_words[sizeof(struct biv_tap) == 14 * sizeof(uint32_t)
 typedef char biv_size_is_64_bits[sizeof(size_t) == 8 ? 1 : -1];
 
 #define BIV_AREAS_LENT 20 /* 19 work areas and the output */
+#define BIV_SETTING_COUNTS 6
+#define BIV_SETTING_FLOATS 12
 
 /* exports/specs/Lengths.antt. The least lengths of all areas, in elements, for so many triples and candidates; false for more than 4,096 triples. */
 bool biv_area_lengths(size_t triples, uint32_t c, size_t lens[BIV_AREAS_LENT]);
 
-/* cost/specs/Forecast.antt. What a query will cost: of so many planes, first of which may come first, sequences of at most order planes (as used: a query
- * uses more than 8 as 8), and so many whole triples. Answers the refusal (14) or 0; counts gets the images of each order from 1 to 8, found candidates, rays and the words of 32 bits of
+/* cost/specs/Forecast.antt. What a query will cost: under a crossing limit, of so many planes, first of which may come first, sequences of at most order planes
+ * (as used: a query uses more than 8 as 8), and so many whole triples. Answers the refusal (14) or 0; counts gets the images of each order from 1 to 8, found candidates, rays and the words of 32 bits of
  * the work areas, all 0 after a refusal. */
-uint32_t biv_query_cost(uint32_t planes, uint32_t first, uint32_t order, uint32_t triples, uint32_t counts[BIV_MOST_ORDER], uint64_t found[3]);
+uint32_t biv_query_cost(uint32_t crossing_limit, uint32_t planes, uint32_t first, uint32_t order, uint32_t triples, uint32_t counts[BIV_MOST_ORDER],
+                        uint64_t found[3]);
 
 /* packet/specs/Reader.antt. Answers the refusal (5, 8 to 11) or 0; found gets count, images and rays, 0 after a refusal. */
 uint32_t biv_packet_read(const uint8_t *bytes, size_t bytes_len, uint32_t *taps, size_t taps_len, size_t found[3]);
@@ -247,7 +255,7 @@ uint32_t biv_planes(float *triangles, size_t triangles_len, uint32_t *handles, s
                     uint32_t *queue, size_t queue_len, uint32_t *offsets, size_t offsets_len, float *floats, size_t floats_len,
                     uint32_t *plane_triangles, size_t plane_triangles_len, float *plane_floats, size_t plane_floats_len, uint32_t *plane_words, size_t plane_words_len,
                     float *plane_edges, size_t plane_edges_len, uint8_t on[BIV_MOST_PLANES], size_t found[1],
-                    const uint32_t counts[5], const float setting_floats[11], uint32_t c,
+                    const uint32_t counts[BIV_SETTING_COUNTS], const float setting_floats[BIV_SETTING_FLOATS], uint32_t c,
                     const uint32_t *meshes, size_t meshes_len, const float *transforms, size_t transforms_len,
                     const float *positions, size_t positions_len, const uint32_t *indices, size_t indices_len,
                     const float *materials, size_t materials_len, uint32_t rows_count, const float source[3]);
@@ -256,9 +264,9 @@ uint32_t biv_planes(float *triangles, size_t triangles_len, uint32_t *handles, s
  * gets count, images, rays and the packet's length, zeros after a refusal. The 19 work areas come first, in the order of docs/AREAS.md,
  * which has their least lengths in whole triples T and c; short ones are refused. What they hold does not matter. After the refusals 1 to 5 they are
  * as they were, after 6, 7 and a result all zero. out (3,465 bytes or more) gets the packet, and is as it was past it and after a refusal. counts are
- * max_reflection_order, max_reflections, max_reflection_planes, plane_merge (0 or not), curve (0 is Inverse, 1 Linear, another refused). setting_floats:
+ * max_reflection_order, max_reflections, max_reflection_planes, plane_merge (0 or not), curve (0 is Inverse, 1 Linear, another refused), crossing_limit. setting_floats:
  * reflection_edge_fade, max_reflection_distance, speed_of_sound, sample_rate, plane_merge_cos, plane_merge_offset, plane_buried_distance,
- * reference_distance, rolloff_factor, min_distance, max_distance. c is the candidate room. separated says that source and listener are apart, so
+ * reference_distance, rolloff_factor, min_distance, max_distance, probe_radius. c is the candidate room. separated says that source and listener are apart, so
  * that nothing is heard. */
 uint32_t biv_trace_early_reflections(float *triangles, size_t triangles_len, uint32_t *handles, size_t handles_len, float *tree, size_t tree_len,
                                      uint32_t *nodes, size_t nodes_len, uint32_t *leaf_order, size_t leaf_order_len, uint64_t *keys, size_t keys_len,
@@ -267,7 +275,7 @@ uint32_t biv_trace_early_reflections(float *triangles, size_t triangles_len, uin
                                      uint32_t *queue, size_t queue_len, uint32_t *offsets, size_t offsets_len, float *floats, size_t floats_len,
                                      uint32_t *plane_triangles, size_t plane_triangles_len, float *plane_floats, size_t plane_floats_len, uint32_t *plane_words, size_t plane_words_len,
                                      float *plane_edges, size_t plane_edges_len, uint8_t *out, size_t out_len, size_t found[4],
-                                     const uint32_t counts[5], const float setting_floats[11], uint32_t c,
+                                     const uint32_t counts[BIV_SETTING_COUNTS], const float setting_floats[BIV_SETTING_FLOATS], uint32_t c,
                                      const uint32_t *meshes, size_t meshes_len, const float *transforms, size_t transforms_len,
                                      const float *positions, size_t positions_len, const uint32_t *indices, size_t indices_len,
                                      const float *materials, size_t materials_len, uint32_t rows_count, const float source[3],
@@ -337,12 +345,12 @@ struct biv_cost {
     uint64_t words;                  /* of 4 bytes, of the work areas for the triples and so many candidates */
 };
 
-/* The forecast for planes (1 to 256), first of which the source does not lie on, an order (1 to 8) and whole triples (at most 4,096). Answers 0, or
+/* The forecast for a crossing limit (1 to 32), planes (1 to 256), first of which the source does not lie on, an order (1 to 8) and whole triples (at most 4,096). Answers 0, or
  * BIV_FORECAST, and then all of cost is 0. A block for it has biv_block_size(triples, cost->candidates) bytes. */
-static inline uint32_t biv_forecast(uint32_t planes, uint32_t first, uint32_t order, uint32_t triples, struct biv_cost *cost)
+static inline uint32_t biv_forecast(uint32_t crossing_limit, uint32_t planes, uint32_t first, uint32_t order, uint32_t triples, struct biv_cost *cost)
 {
     uint64_t found[3] = {0, 0, 0};
-    uint32_t refusal = biv_query_cost(planes, first, order, triples, cost->counts, found);
+    uint32_t refusal = biv_query_cost(crossing_limit, planes, first, order, triples, cost->counts, found);
     cost->candidates = (uint32_t)found[0];
     cost->rays = found[1];
     cost->words = found[2];
@@ -359,18 +367,18 @@ static inline const void *biv_part(const void *part)
 
 /* The settings as the archive takes them. */
 struct biv_numbers {
-    uint32_t counts[5];
-    float floats[11];
+    uint32_t counts[BIV_SETTING_COUNTS];
+    float floats[BIV_SETTING_FLOATS];
 };
 
 static inline struct biv_numbers biv_numbers_of(const struct biv_settings *settings)
 {
     const struct biv_distance_model *m = &settings->distance_model;
     const struct biv_numbers n = {{settings->max_reflection_order, settings->max_reflections, settings->max_reflection_planes,
-                                   settings->plane_merge ? 1u : 0u, m->curve},
+                                   settings->plane_merge ? 1u : 0u, m->curve, settings->crossing_limit},
                                   {settings->reflection_edge_fade, settings->max_reflection_distance, settings->speed_of_sound, settings->sample_rate,
                                    settings->plane_merge_cos, settings->plane_merge_offset, settings->plane_buried_distance, m->reference_distance,
-                                   m->rolloff_factor, m->min_distance, m->max_distance}};
+                                   m->rolloff_factor, m->min_distance, m->max_distance, settings->probe_radius}};
     return n;
 }
 

@@ -36,9 +36,9 @@ void biv_sort_by_key(const uint64_t *keys, size_t keys_len, uint32_t *index, siz
 /* ---- the scene */
 
 /* placing/specs/Loading.antt. Answers the first refusal of 1 to 6 that applies; or 0, with found[0..3] the triangles kept, the placings
- * made and the whole triples. counts has 5 words: max_reflection_order, max_reflections, max_reflection_planes, plane_merge (0 or not),
- * curve (0 is Inverse). floats has 11: reflection_edge_fade, max_reflection_distance, speed_of_sound, sample_rate, plane_merge_cos,
- * plane_merge_offset, plane_buried_distance, reference_distance, rolloff_factor, min_distance, max_distance. lens has 20: the lengths of
+ * made and the whole triples. counts has 6 words: max_reflection_order, max_reflections, max_reflection_planes, plane_merge (0 or not),
+ * curve (0 is Inverse), crossing_limit. floats has 12: reflection_edge_fade, max_reflection_distance, speed_of_sound, sample_rate, plane_merge_cos,
+ * plane_merge_offset, plane_buried_distance, reference_distance, rolloff_factor, min_distance, max_distance, probe_radius. lens has 20: the lengths of
  * all areas that a query is lent, in the order of docs/AREAS.md, the first two triangles_len and handles_len. found has 3 or more. The
  * lengths of counts, floats, lens and found, and those two, are the caller's to keep; every other length is tested. */
 uint32_t biv_load_scene(const uint32_t *counts, size_t counts_len, const float *floats, size_t floats_len, uint32_t c,
@@ -105,7 +105,8 @@ size_t biv_build_planes(const float *triangles, size_t triangles_len, const uint
  * biv_intersect, with nodes_count above 0 nodes; a row of materials is 16 floats (absorptions, transmissions), and each handle has one, as has
  * handle 0; the triangles' columns have n floats each. A plane is 12 plane_floats (normal, offset, box from, box to, spread, area) and 5
  * plane_words (first and count of its plane_triangles, first and count of its border edges in plane_edges, fitted); an edge is 6 floats, a triangle is
- * below n. counts and setting_floats are the settings as for biv_load_scene, source and listener 3 floats each. The caller keeps all this. */
+ * below n. counts and setting_floats are the settings as for biv_load_scene, with a crossing_limit of at most 32, source and listener 3 floats each. The
+ * caller keeps all this. */
 uint32_t biv_path(const float *padded, size_t padded_len, const uint32_t *nodes, size_t nodes_len, const uint32_t *leaf_order, size_t leaf_order_len,
                   const float *leaves, size_t leaves_len, const uint32_t *handles, size_t handles_len, size_t nodes_count,
                   const float *materials, size_t materials_len, const float *triangles, size_t triangles_len, size_t n,

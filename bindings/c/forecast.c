@@ -19,7 +19,7 @@ int main(void)
     struct biv_cost cost;
     struct biv_answer answer;
     uint8_t out[BIV_OUTPUT_BYTES];
-    uint32_t refusal = biv_forecast(6, 6, settings.max_reflection_order, (uint32_t)triples, &cost);
+    uint32_t refusal = biv_forecast(settings.crossing_limit, 6, 6, settings.max_reflection_order, (uint32_t)triples, &cost);
     if (refusal == BIV_NO_REFUSAL) {
         size_t size = biv_block_size(triples, cost.candidates);
         void *block = calloc(1, size);

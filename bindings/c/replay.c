@@ -3,12 +3,12 @@
  * must not matter. Given two folders it writes each query to the first, as words, and each packet to the second, for the fuzzers.
  *
  *     replay ../../crates/replay/stdin [QUERIES PACKETS]      ends with `N cases, M differ` */
-#include "bivelondry.h"
+#include "recorded.h"
 #include <ctype.h>
 #include <stdio.h>
 #include <stdlib.h>
 
-enum { HEADER = 35, LONGEST = 4096, LINE = 9 * LONGEST };
+enum { LONGEST = 4096, LINE = 9 * LONGEST };
 
 static float as_float(uint32_t word)
 {
@@ -55,17 +55,20 @@ static size_t words_of(const char *text, uint32_t *words)
 /* Runs one query in a block full of a byte; whether all is as recorded. */
 static bool same(const uint32_t *w, size_t n, int fill)
 {
-    const uint32_t *part = w + HEADER, *packet = part + w[0] + w[1] + w[2] + w[3] + w[4], *expected = w + 30;
-    const float source[3] = {as_float(w[24]), as_float(w[25]), as_float(w[26])}, listener[3] = {as_float(w[27]), as_float(w[28]), as_float(w[29])};
-    struct biv_settings s = {w[5], w[6], w[7], as_float(w[10]), as_float(w[11]), as_float(w[12]), as_float(w[13]), as_float(w[14]), w[8] != 0,
-                             as_float(w[15]), as_float(w[16]), {w[9], as_float(w[17]), as_float(w[18]), as_float(w[19]), as_float(w[20])}};
+    const uint32_t *part = w + HEADER, *packet = part + w[0] + w[1] + w[2] + w[3] + w[4], *expected = w + ANSWER;
+    float f[BIV_SETTING_FLOATS], source[3], listener[3];
+    memcpy(f, w + FLOATS, sizeof f);
+    memcpy(source, w + SOURCE, sizeof source);
+    memcpy(listener, w + LISTENER, sizeof listener);
+    const uint32_t *c = w + COUNTS;
+    struct biv_settings s = {c[0], c[1], c[2], f[0], f[1], f[2], f[3], f[4], c[3] != 0, f[5], f[6], {c[4], f[7], f[8], f[9], f[10]}, c[5], f[11]};
     float *transforms = floats(part + w[0], w[1]), *positions = floats(part + w[0] + w[1], w[2]), *materials = floats(packet - w[4], w[4]);
-    struct biv_scene scene = {part, w[0], transforms, w[1], positions, w[2], packet - w[4] - w[3], w[3], materials, w[4], w[22]};
-    size_t size = biv_block_size(biv_triples(&scene), w[21]);
+    struct biv_scene scene = {part, w[0], transforms, w[1], positions, w[2], packet - w[4] - w[3], w[3], materials, w[4], w[ROWS]};
+    size_t size = biv_block_size(biv_triples(&scene), w[ROOM_WORD]);
     uint8_t *block = (uint8_t *)room(size), *out = (uint8_t *)room(BIV_OUTPUT_BYTES);
     struct biv_answer a;
     memset(block, fill, size);
-    uint32_t refusal = biv_trace(&s, w[21], &scene, source, listener, w[23] != 0, block, size, out, BIV_OUTPUT_BYTES, &a);
+    uint32_t refusal = biv_trace(&s, w[ROOM_WORD], &scene, source, listener, w[SEPARATED] != 0, block, size, out, BIV_OUTPUT_BYTES, &a);
     bool held = refusal == expected[0] && a.count == expected[1] && a.images == expected[2] && a.rays == expected[3] && a.bytes == expected[4];
     for (size_t k = 0; held && k < a.bytes; k++)
         held = packet + k / 4 < w + n && out[k] == (packet[k / 4] >> 8 * (k % 4) & 0xff);
@@ -116,8 +119,8 @@ int main(int argc, char **argv)
             printf("%s differs\n", line);
         } else if (argc > 3) {
             keep(argv[2], line, words, n * sizeof *words);
-            if (words[34] > 0)
-                keep(argv[3], line, words + HEADER + words[0] + words[1] + words[2] + words[3] + words[4], words[34]);
+            if (words[HEADER - 1] > 0)
+                keep(argv[3], line, words + HEADER + words[0] + words[1] + words[2] + words[3] + words[4], words[HEADER - 1]);
         }
     }
     fclose(f);

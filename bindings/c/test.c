@@ -1,4 +1,4 @@
-/* The calls of bivelondry.h: case A, every refusal, the block, the packet, the planes, the walls, the forecast. C99 and C++17. Ends with `N checks, 0 failed`. */
+/* The calls of bivelondry.h: case A, every refusal, the block, the packet, the planes, the walls, the probes, the forecast. C99 and C++17. Ends with `N checks, 0 failed`. */
 #include "case_a.h"
 #include <math.h>
 #include <stdio.h>
@@ -93,6 +93,16 @@ static void test_query_refusals(void)
     static const uint32_t handle[3] = {4, 6, 1}, short_mesh[3] = {3, 6, 0};
     struct query q = case_a();
     q.settings.speed_of_sound = 99.0f;
+    CHECK(trace(&q) == BIV_SETTINGS && nothing());
+    q = case_a();
+    q.settings.crossing_limit = 0;
+    CHECK(trace(&q) == BIV_SETTINGS && nothing());
+    q.settings.crossing_limit = BIV_MOST_CROSSINGS + 1;
+    CHECK(trace(&q) == BIV_SETTINGS && nothing());
+    q = case_a();
+    q.settings.probe_radius = NAN;
+    CHECK(trace(&q) == BIV_SETTINGS && nothing());
+    q.settings.probe_radius = 1.00000012f; /* the float after 1 */
     CHECK(trace(&q) == BIV_SETTINGS && nothing());
     q = case_a();
     q.settings.distance_model.curve = 2;
@@ -357,6 +367,77 @@ static void test_tap_walls(void)
     }
 }
 
+/* Case A with so many sheets, which let all through, across the first half of the way from the source to the floor. */
+enum { MOST_SHEETS = 40 };
+
+static struct query curtain(uint32_t sheets, float least_z)
+{
+    static uint32_t meshes[6], indices[6 * (MOST_SHEETS + 1)];
+    static float transforms[32], positions[12 * (MOST_SHEETS + 1)], materials[32];
+    struct query q = case_a();
+    memcpy(meshes, q.scene.meshes, 3 * sizeof *meshes);
+    memcpy(indices, q.scene.indices, 6 * sizeof *indices);
+    memcpy(positions, q.scene.positions, 12 * sizeof *positions);
+    memcpy(materials, q.scene.materials, 16 * sizeof *materials);
+    for (int k = 0; k < 2; k++)
+        memcpy(transforms + 16 * k, q.scene.transforms, 16 * sizeof *transforms);
+    meshes[3] = 4 * sheets;
+    meshes[4] = 6 * sheets;
+    meshes[5] = 1;
+    for (uint32_t s = 0; s < sheets; s++)
+        for (uint32_t k = 0; k < 4; k++) {
+            float *p = positions + 12 * (s + 1) + 3 * k;
+            p[0] = 0.1f + 0.01f * (float)s;
+            p[1] = k < 2 ? 0.5f : 2.5f;
+            p[2] = k == 0 || k == 3 ? least_z : 2.0f;
+        }
+    for (uint32_t s = 0; s < sheets; s++)
+        for (uint32_t k = 0; k < 6; k++)
+            indices[6 * (s + 1) + k] = 4 * s + case_a_indices[k];
+    for (int k = 0; k < 8; k++)
+        materials[24 + k] = 1.0f;
+    q.scene.meshes = meshes;
+    q.scene.meshes_len = 6;
+    q.scene.transforms = transforms;
+    q.scene.transforms_len = 32;
+    q.scene.positions = positions;
+    q.scene.positions_len = 12 * (size_t)(sheets + 1);
+    q.scene.indices = indices;
+    q.scene.indices_len = 6 * (size_t)(sheets + 1);
+    q.scene.materials = materials;
+    q.scene.materials_len = 32;
+    q.scene.rows = 2;
+    q.settings.max_reflection_planes = 1; /* the floor, the largest */
+    q.size = biv_block_size(biv_triples(&q.scene), q.c);
+    return q;
+}
+
+/* As many sheets as the limit pass, one more does not; and a sheet that lets nothing through, 0.05 m beside the way, is met by a bundle that is wide enough. */
+static void test_probes(void)
+{
+    static const uint32_t limits[6] = {1, 2, 8, 9, 31, 32};
+    struct biv_tap taps[BIV_MOST_TAPS];
+    float gain;
+    struct query q;
+    for (int k = 0; k < 6; k++) {
+        uint32_t limit = limits[k];
+        q = curtain(limit, -2.0f);
+        q.settings.crossing_limit = limit;
+        CHECK(trace(&q) == BIV_NO_REFUSAL && answer.count == 1 && answer.images == 1 && answer.rays == 9 * (limit + 4));
+        q = curtain(limit + 1, -2.0f);
+        q.settings.crossing_limit = limit;
+        CHECK(trace(&q) == BIV_NO_REFUSAL && answer.count == 0 && answer.images == 1);
+    }
+    q = curtain(1, 0.05f);
+    memset((void *)(q.scene.materials + 24), 0, 8 * sizeof(float));
+    q.settings.probe_radius = 0.0f;
+    CHECK(trace(&q) == BIV_NO_REFUSAL && answer.count == 1 && answer.rays == 36 && biv_read(out, answer.bytes, taps, &answer) == BIV_NO_REFUSAL);
+    gain = taps[0].gains[0];
+    q.settings.probe_radius = 1.0f;
+    CHECK(trace(&q) == BIV_NO_REFUSAL && answer.count == 1 && biv_read(out, answer.bytes, taps, &answer) == BIV_NO_REFUSAL);
+    CHECK(taps[0].gains[0] < 0.9f * gain && taps[0].gains[0] > 0.3f * gain);
+}
+
 static bool costs_nothing(const struct biv_cost *cost)
 {
     for (int k = 0; k < BIV_MOST_ORDER; k++)
@@ -369,20 +450,22 @@ static bool costs_nothing(const struct biv_cost *cost)
 static void test_forecast(void)
 {
     static const uint32_t six[BIV_MOST_ORDER] = {3, 13, 64, 320, 1600, 8000, 40000, 200000}, many[BIV_MOST_ORDER] = {1, 1, 1, 1, 1, 4, 977, 249014};
-    static const uint32_t refused[6][4] = {{0, 0, 1, 0}, {257, 1, 1, 0}, {2, 2, 0, 0}, {2, 2, 9, 0}, {2, 3, 8, 0}, {2, 2, 8, BIV_MOST_TRIPLES + 1}};
+    static const uint32_t refused[8][5] = {{8, 0, 0, 1, 0}, {8, 257, 1, 1, 0}, {8, 2, 2, 0, 0}, {8, 2, 2, 9, 0}, {8, 2, 3, 8, 0}, {8, 2, 2, 8, BIV_MOST_TRIPLES + 1},
+                                           {0, 2, 2, 8, 0}, {BIV_MOST_CROSSINGS + 1, 2, 2, 8, 0}};
     struct biv_cost cost;
     struct query q = case_a();
     size_t size;
-    for (int k = 0; k < 6; k++) {
+    for (int k = 0; k < 8; k++) {
         memset(&cost, 0x7e, sizeof cost);
-        CHECK(biv_forecast(refused[k][0], refused[k][1], refused[k][2], refused[k][3], &cost) == BIV_FORECAST && costs_nothing(&cost));
+        CHECK(biv_forecast(refused[k][0], refused[k][1], refused[k][2], refused[k][3], refused[k][4], &cost) == BIV_FORECAST && costs_nothing(&cost));
     }
-    CHECK(biv_forecast(6, 6, 8, 12, &cost) == BIV_NO_REFUSAL && memcmp(cost.counts, six, sizeof six) == 0);
+    CHECK(biv_forecast(8, 6, 6, 8, 12, &cost) == BIV_NO_REFUSAL && memcmp(cost.counts, six, sizeof six) == 0);
     CHECK(cost.candidates == BIV_MOST_CANDIDATES && cost.rays == 354375162);
-    CHECK(biv_forecast(BIV_MOST_PLANES, BIV_MOST_PLANES, BIV_MOST_ORDER, BIV_MOST_TRIPLES, &cost) == BIV_NO_REFUSAL && memcmp(cost.counts, many, sizeof many) == 0);
+    CHECK(biv_forecast(BIV_MOST_CROSSINGS, BIV_MOST_PLANES, BIV_MOST_PLANES, BIV_MOST_ORDER, BIV_MOST_TRIPLES, &cost) == BIV_NO_REFUSAL && memcmp(cost.counts, many, sizeof many) == 0);
     size = biv_block_size(BIV_MOST_TRIPLES, cost.candidates);
     CHECK(4 * cost.words <= size && size < 4 * cost.words + 8 * BIV_AREAS_LENT);
-    CHECK(biv_forecast(1, 1, 3, (uint32_t)biv_triples(&q.scene), &cost) == BIV_NO_REFUSAL && cost.candidates == 1 && cost.rays == 324);
+    CHECK(biv_forecast(1, 1, 1, 3, 0, &cost) == BIV_NO_REFUSAL && cost.candidates == 1 && cost.rays == 72);
+    CHECK(biv_forecast(q.settings.crossing_limit, 1, 1, 3, (uint32_t)biv_triples(&q.scene), &cost) == BIV_NO_REFUSAL && cost.candidates == 1 && cost.rays == 324);
     q.c = cost.candidates;
     CHECK(trace(&q) == BIV_NO_REFUSAL && answer.images == cost.candidates && answer.rays <= cost.rays);
 }
@@ -418,6 +501,7 @@ int main(void)
     test_walls();
     test_planes();
     test_tap_walls();
+    test_probes();
     test_forecast();
     test_texts();
     printf("%u checks, %u failed\n", checks, failed);

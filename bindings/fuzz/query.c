@@ -1,10 +1,10 @@
 /* Fuzzes the whole call: libFuzzer, by bindings/harden.sh. An input is the words of a recorded query (crates/replay/src/main.rt), of which anything
  * may be changed. No byte past a part or an area may be touched; after the call the areas, the output and the packet must be as the contract has
  * them, and a second call, in areas that hold something else, must answer the same. */
-#include "bivelondry.h"
+#include "../c/recorded.h"
 #include "guard.h"
 
-enum { HEADER = 35, TRIPLES = 64, ROOM = 64, LONGEST = 4096 };
+enum { TRIPLES = 64, ROOM = 64, LONGEST = 4096 };
 
 static uint32_t word(const uint8_t *data, size_t k)
 {
@@ -38,21 +38,22 @@ static uint32_t changed(const uint8_t *data, size_t k, size_t n, uint32_t *state
  * a few words of transforms, positions, indices, materials, source and listener; now and then a setting, or anything. */
 size_t LLVMFuzzerCustomMutator(uint8_t *data, size_t size, size_t most, unsigned seed)
 {
-    static const uint32_t settings[17] = {3,          16,         32,         1,          0,          0x3dcccccdu, 0x42480000u, 0x43ab8000u, 0x473b8000u,
-                                          0x3f7f069eu, 0x3e800000u, 0x3d4ccccdu, 0x3f800000u, 0x3f800000u, 0x3f800000u, 0x461c4000u, ROOM};
+    static const uint32_t settings[BIV_SETTING_COUNTS + BIV_SETTING_FLOATS + 1] = {
+        3,           16,          32,          1,           0,           8,           0x3dcccccdu, 0x42480000u, 0x43ab8000u, 0x473b8000u,
+        0x3f7f069eu, 0x3e800000u, 0x3d4ccccdu, 0x3f800000u, 0x3f800000u, 0x3f800000u, 0x461c4000u, 0x3d75c28fu, ROOM};
     size_t n = size / 4;
     uint32_t state = seed;
     if (n < HEADER + 1 || next(&state) % 16 == 0)
         return LLVMFuzzerMutate(data, size, most);
     if (next(&state) % 4 == 0) /* the Rust's defaults, in place of settings that may be refused */
-        memcpy(data + 20, settings, sizeof settings);
+        memcpy(data + 4 * COUNTS, settings, sizeof settings);
     for (uint32_t left = 1 + next(&state) % 4; left > 0; left--) {
         uint32_t kind = next(&state) % 16, w;
         size_t meshes = word(data, 0), k = HEADER + (kind < 15 && HEADER + meshes < n ? meshes : 0);
         if (kind == 0)
-            k = 5 + next(&state) % 18; /* a setting, the room, the rows */
+            k = COUNTS + next(&state) % (SEPARATED - COUNTS); /* a setting, the room, the rows */
         else if (kind <= 3)
-            k = 23 + next(&state) % 7; /* separated, source, listener */
+            k = SEPARATED + next(&state) % (ANSWER - SEPARATED); /* separated, source, listener */
         else
             k += next(&state) % (n - k);
         w = changed(data, k, n, &state);
@@ -89,8 +90,8 @@ int LLVMFuzzerTestOneInput(const uint8_t *data, size_t size)
         return -1;
     for (size_t k = 0; k < 5; k++) {
         size_t say = word(data, k);
-        if (k > 0 && word(data, 34) % 8 != 2) /* mostly the lengths that the meshes have */
-            say = lent(k, (const uint32_t *)part[0], lens[0], word(data, 22));
+        if (k > 0 && word(data, HEADER - 1) % 8 != 2) /* mostly the lengths that the meshes have */
+            say = lent(k, (const uint32_t *)part[0], lens[0], word(data, ROWS));
         lens[k] = say <= LONGEST ? say : LONGEST;
         part[k] = area_of(&parts[k], 4 * lens[k]);
         for (size_t j = 0; j < lens[k]; j++) { /* from the front again where the input ends */
@@ -101,16 +102,16 @@ int LLVMFuzzerTestOneInput(const uint8_t *data, size_t size)
     }
     for (size_t m = 0; m + 3 <= lens[0]; m += 3)
         triples += ((const uint32_t *)part[0])[m + 1] / 3;
-    uint32_t counts[5], c = word(data, 21);
-    float floats[11], source[3], listener[3];
-    memcpy(counts, data + 20, sizeof counts);
-    memcpy(floats, data + 40, sizeof floats);
-    memcpy(source, data + 96, sizeof source);
-    memcpy(listener, data + 108, sizeof listener);
+    uint32_t counts[BIV_SETTING_COUNTS], c = word(data, ROOM_WORD);
+    float floats[BIV_SETTING_FLOATS], source[3], listener[3];
+    memcpy(counts, data + 4 * COUNTS, sizeof counts);
+    memcpy(floats, data + 4 * FLOATS, sizeof floats);
+    memcpy(source, data + 4 * SOURCE, sizeof source);
+    memcpy(listener, data + 4 * LISTENER, sizeof listener);
     counts[0] = order(counts[0], triples);
     must(biv_area_lengths(triples <= TRIPLES ? triples : TRIPLES, c <= ROOM ? c : ROOM, room), "lengths for 64 triples");
-    if (word(data, 34) % 16 == 1 && room[word(data, 33) % BIV_AREAS_LENT] > 0) /* now and then an area that is one short */
-        room[word(data, 33) % BIV_AREAS_LENT]--;
+    if (word(data, HEADER - 1) % 16 == 1 && room[word(data, HEADER - 2) % BIV_AREAS_LENT] > 0) /* now and then an area that is one short */
+        room[word(data, HEADER - 2) % BIV_AREAS_LENT]--;
     uint8_t *kept = NULL;
     size_t before[4] = {0, 0, 0, 0};
     uint32_t answered = 0;
@@ -127,7 +128,7 @@ int LLVMFuzzerTestOneInput(const uint8_t *data, size_t size)
             (uint32_t *)area[13], room[13], (float *)area[14], room[14], (uint32_t *)area[15], room[15], (float *)area[16], room[16],
             (uint32_t *)area[17], room[17], (float *)area[18], room[18], out, room[19], found, counts, floats, c, (const uint32_t *)part[0], lens[0],
             (const float *)part[1], lens[1], (const float *)part[2], lens[2], (const uint32_t *)part[3], lens[3], (const float *)part[4], lens[4],
-            word(data, 22), source, listener, (word(data, 23) & 1) != 0);
+            word(data, ROWS), source, listener, (word(data, SEPARATED) & 1) != 0);
         must(refusal <= BIV_CANDIDATES, "a refusal of the query");
         must(counts[4] <= BIV_LINEAR || refusal == BIV_SETTINGS, "another curve refused");
         count(refusal);
@@ -142,7 +143,7 @@ int LLVMFuzzerTestOneInput(const uint8_t *data, size_t size)
             must(found[3] <= room[19] && all_are(out, found[3], room[19], fill), "nothing past the packet");
             must(biv_read(out, found[3], taps, &a) == BIV_NO_REFUSAL, "a packet that the reader takes");
             must(a.count == found[0] && a.images == found[1] && a.rays == found[2], "its counts");
-            must(a.count <= counts[1] && a.images <= 250000 && a.rays <= 162u * (counts[0] + 1) * a.images, "counts within their bounds");
+            must(a.count <= counts[1] && a.images <= 250000 && a.rays <= 18u * (counts[5] + 1) * (counts[0] + 1) * a.images, "counts within their bounds");
         }
         if (turn == 0) {
             kept = (uint8_t *)copied(&first, out, found[3]);

@@ -10,7 +10,7 @@ fn main() -> Result<(), Refusal> {
     let indices = [0, 1, 2, 0, 2, 3, 4, 6, 5, 4, 7, 6, 0, 4, 5, 0, 5, 1, 3, 2, 6, 3, 6, 7, 0, 3, 7, 0, 7, 4, 1, 5, 6, 1, 6, 2];
     scene.add_mesh(&Mesh { positions: &positions, indices: &indices, material: panel, ..Mesh::default() });
     let settings = Settings::default();
-    let cost = query_cost(6, 6, settings.max_reflection_order, scene.triples() as u32)?;
+    let cost = query_cost(settings.crossing_limit, 6, 6, settings.max_reflection_order, scene.triples() as u32)?;
     let mut workspace = Workspace::with_triples(cost.candidates, scene.triples());
     print!("images of each order");
     cost.counts.iter().for_each(|n| print!(" {n}"));

@@ -6,6 +6,10 @@ use crate::Scene;
 pub const AREAS: usize = 20;
 pub const WORK: usize = AREAS - 1;
 
+/// Settings that are whole numbers, and those that are floats.
+pub const COUNTS: usize = 6;
+pub const FLOATS: usize = 12;
+
 /// Words of a tap: order, number, direction, delay, gains.
 pub const TAP_WORDS: usize = 14;
 
@@ -23,7 +27,10 @@ pub const PLANE_AREA: usize = 16;
 
 extern "C" {
     pub fn biv_area_lengths(triples: usize, c: u32, lens: &mut [usize; AREAS]) -> bool;
-    pub fn biv_query_cost(planes: u32, first: u32, order: u32, triples: u32, counts: &mut [u32; ORDERS], found: &mut [u64; 3]) -> u32;
+    #[rustfmt::skip]
+    pub fn biv_query_cost(
+        crossing_limit: u32, planes: u32, first: u32, order: u32, triples: u32, counts: &mut [u32; ORDERS], found: &mut [u64; 3],
+    ) -> u32;
     pub fn biv_packet_read(bytes: *const u8, bytes_len: usize, taps: *mut u32, taps_len: usize, found: &mut [usize; 3]) -> u32;
     #[rustfmt::skip]
     pub fn biv_packet_write(
@@ -41,8 +48,8 @@ extern "C" {
         numbers: *mut u32, numbers_len: usize, adjacency: *mut u32, adjacency_len: usize, queue: *mut u32, queue_len: usize, offsets: *mut u32, offsets_len: usize,
         floats: *mut f32, floats_len: usize, plane_triangles: *mut u32, plane_triangles_len: usize, plane_floats: *mut f32, plane_floats_len: usize,
         plane_words: *mut u32, plane_words_len: usize, plane_edges: *mut f32, plane_edges_len: usize, on: &mut [u8; PLANES],
-        found: &mut [usize; 1], counts: &[u32; 5],
-        setting_floats: &[f32; 11], c: u32, meshes: *const u32, meshes_len: usize,
+        found: &mut [usize; 1], counts: &[u32; COUNTS],
+        setting_floats: &[f32; FLOATS], c: u32, meshes: *const u32, meshes_len: usize,
         transforms: *const f32, transforms_len: usize, positions: *const f32, positions_len: usize,
         indices: *const u32, indices_len: usize, materials: *const f32, materials_len: usize, rows_count: u32,
         source: &[f32; 3],
@@ -55,8 +62,8 @@ extern "C" {
         numbers: *mut u32, numbers_len: usize, adjacency: *mut u32, adjacency_len: usize, queue: *mut u32, queue_len: usize, offsets: *mut u32, offsets_len: usize,
         floats: *mut f32, floats_len: usize, plane_triangles: *mut u32, plane_triangles_len: usize, plane_floats: *mut f32, plane_floats_len: usize,
         plane_words: *mut u32, plane_words_len: usize, plane_edges: *mut f32, plane_edges_len: usize, out: *mut u8, out_len: usize,
-        found: &mut [usize; 4], counts: &[u32; 5],
-        setting_floats: &[f32; 11], c: u32, meshes: *const u32, meshes_len: usize,
+        found: &mut [usize; 4], counts: &[u32; COUNTS],
+        setting_floats: &[f32; FLOATS], c: u32, meshes: *const u32, meshes_len: usize,
         transforms: *const f32, transforms_len: usize, positions: *const f32, positions_len: usize,
         indices: *const u32, indices_len: usize, materials: *const f32, materials_len: usize, rows_count: u32,
         source: &[f32; 3], listener: &[f32; 3], separated: bool,
@@ -70,7 +77,7 @@ extern "C" {
 #[rustfmt::skip]
 #[allow(clippy::too_many_arguments)]
 pub unsafe fn trace(
-    at: impl Fn(usize) -> (*mut u64, usize), out: *mut u8, out_len: usize, found: &mut [usize; 4], counts: &[u32; 5], floats: &[f32; 11], c: u32,
+    at: impl Fn(usize) -> (*mut u64, usize), out: *mut u8, out_len: usize, found: &mut [usize; 4], counts: &[u32; COUNTS], floats: &[f32; FLOATS], c: u32,
     s: &Scene, source: &[f32; 3], listener: &[f32; 3], separated: bool,
 ) -> u32 {
     let (f, w) = (|i| at(i).0.cast::<f32>(), |i| at(i).0.cast::<u32>());
@@ -92,7 +99,7 @@ pub unsafe fn trace(
 #[rustfmt::skip]
 #[allow(clippy::too_many_arguments)]
 pub unsafe fn planes(
-    at: impl Fn(usize) -> (*mut u64, usize), on: &mut [u8; PLANES], found: &mut [usize; 1], counts: &[u32; 5], floats: &[f32; 11], c: u32,
+    at: impl Fn(usize) -> (*mut u64, usize), on: &mut [u8; PLANES], found: &mut [usize; 1], counts: &[u32; COUNTS], floats: &[f32; FLOATS], c: u32,
     s: &Scene, source: &[f32; 3],
 ) -> u32 {
     let (f, w) = (|i| at(i).0.cast::<f32>(), |i| at(i).0.cast::<u32>());

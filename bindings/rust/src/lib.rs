@@ -44,6 +44,8 @@ pub const MOST_CANDIDATES: u32 = 250_000;
 pub const MOST_PLANES: usize = ffi::PLANES;
 /// Planes of an image's sequence, at most.
 pub const MOST_ORDER: u32 = ffi::ORDERS as u32;
+/// The crossing limit, at most.
+pub const MOST_CROSSINGS: u32 = 32;
 /// Images of a query, at most: the first in the order of a dictionary over planes, which goes deep before it goes on. A query that has more stops there
 /// ([`Packet::stopped_at_limit`]): all are visited up to 63 planes at order 3, 22 at 4, 12 at 5, 8 at 6, 6 at 7 and 5 at 8.
 pub const MOST_IMAGES: u32 = 250_000;
@@ -79,7 +81,7 @@ pub enum Refusal {
     Order,
     /// 13: no image has the number, or order or planes are out of range.
     NoImage = 13,
-    /// 14: the planes, first planes, order or triples of a forecast lie outside their limits.
+    /// 14: the crossing limit, planes, first planes, order or triples of a forecast lie outside their limits.
     Forecast = 14,
 }
 
@@ -118,7 +120,7 @@ impl fmt::Display for Refusal {
             Refusal::Numbers => "a float of the packet is not finite, or a delay or a gain not above 0",
             Refusal::Order => "an image number comes twice, or the taps do not fall in squared-gain sum",
             Refusal::NoImage => "no image has the number, or order or planes are out of range",
-            Refusal::Forecast => "the planes, first planes, order or triples of a forecast lie outside their limits",
+            Refusal::Forecast => "the crossing limit, planes, first planes, order or triples of a forecast lie outside their limits",
         })
     }
 }
@@ -172,6 +174,10 @@ pub struct Settings {
     /// Metres, finite. 0 or below: not tested.
     pub plane_buried_distance: f32,
     pub distance_model: DistanceModel,
+    /// 1 to 32: surfaces that half a segment may pass through; the next one counts as opaque.
+    pub crossing_limit: u32,
+    /// Metres, 0 to 1: how far around the middle of a segment the bundle of nine rays goes.
+    pub probe_radius: f32,
 }
 
 impl Default for Settings {
@@ -189,20 +195,23 @@ impl Default for Settings {
             plane_merge_offset: 0.25,
             plane_buried_distance: 0.05,
             distance_model: DistanceModel { curve: Curve::Inverse, reference_distance: 1.0, rolloff_factor: 1.0, min_distance: 1.0, max_distance: 10_000.0 },
+            crossing_limit: 8,
+            probe_radius: 0.06,
         }
     }
 }
 
 impl Settings {
-    fn counts(&self) -> [u32; 5] {
-        [self.max_reflection_order, self.max_reflections, self.max_reflection_planes, self.plane_merge as u32, (self.distance_model.curve == Curve::Linear) as u32]
+    fn counts(&self) -> [u32; ffi::COUNTS] {
+        let linear = self.distance_model.curve == Curve::Linear;
+        [self.max_reflection_order, self.max_reflections, self.max_reflection_planes, self.plane_merge as u32, linear as u32, self.crossing_limit]
     }
 
-    fn floats(&self) -> [f32; 11] {
+    fn floats(&self) -> [f32; ffi::FLOATS] {
         let m = &self.distance_model;
         [
             self.reflection_edge_fade, self.max_reflection_distance, self.speed_of_sound, self.sample_rate, self.plane_merge_cos, self.plane_merge_offset,
-            self.plane_buried_distance, m.reference_distance, m.rolloff_factor, m.min_distance, m.max_distance,
+            self.plane_buried_distance, m.reference_distance, m.rolloff_factor, m.min_distance, m.max_distance, self.probe_radius,
         ]
     }
 }
@@ -345,21 +354,21 @@ pub struct Cost {
     pub words: u64,
 }
 
-/// What a query over so many planes (1 to 256), of which `first` may come first, of an order (1 to 8, as used: a query uses more than 8 as 8) and so many whole
+/// What a query under a crossing limit (1 to 32) over so many planes (1 to 256), of which `first` may come first, of an order (1 to 8, as used: a query uses more than 8 as 8) and so many whole
 /// triples (at most 4,096) will cost; [`Refusal::Forecast`] for others.
 ///
 /// ```
 /// use bivelondry::{query_cost, Refusal};
-/// let cost = query_cost(6, 6, 3, 12)?;
+/// let cost = query_cost(8, 6, 6, 3, 12)?;
 /// assert_eq!(cost.counts, [6, 30, 150, 0, 0, 0, 0, 0]);
 /// assert_eq!((cost.candidates, cost.rays), (186, 113_724));
-/// assert_eq!(query_cost(6, 7, 3, 12), Err(Refusal::Forecast));
+/// assert_eq!(query_cost(8, 6, 7, 3, 12), Err(Refusal::Forecast));
 /// # Ok::<(), Refusal>(())
 /// ```
-pub fn query_cost(planes: u32, first: u32, order: u32, triples: u32) -> Result<Cost, Refusal> {
+pub fn query_cost(crossing_limit: u32, planes: u32, first: u32, order: u32, triples: u32) -> Result<Cost, Refusal> {
     let (mut counts, mut found) = ([0; ffi::ORDERS], [0; 3]);
     // SAFETY: it asks nothing.
-    Refusal::check(unsafe { ffi::biv_query_cost(planes, first, order, triples, &mut counts, &mut found) })?;
+    Refusal::check(unsafe { ffi::biv_query_cost(crossing_limit, planes, first, order, triples, &mut counts, &mut found) })?;
     let [candidates, rays, words] = found;
     Ok(Cost { counts, candidates: candidates as u32, rays, words })
 }

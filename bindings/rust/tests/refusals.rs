@@ -1,5 +1,5 @@
 //! Every refusal that the crate can reach, what stays usable after one, and the round trip of a packet.
-use bivelondry::{trace_early_reflections, trace_packet, Material, Mesh, Packet, Refusal, Scene, Settings, Tap, Workspace, MOST_CANDIDATES, MOST_TAPS, MOST_TRIPLES};
+use bivelondry::{trace_early_reflections, trace_packet, Material, Mesh, Packet, Refusal, Scene, Settings, Tap, Workspace, MOST_CANDIDATES, MOST_CROSSINGS, MOST_TAPS, MOST_TRIPLES};
 
 const FLOOR: [[f32; 3]; 4] = [[-4.0, 0.0, -4.0], [4.0, 0.0, -4.0], [4.0, 0.0, 4.0], [-4.0, 0.0, 4.0]];
 const SOURCE: [f32; 3] = [0.0, 2.0, 0.0];
@@ -34,7 +34,11 @@ fn case_a() {
 
 #[test]
 fn settings_are_refused() {
-    let changes: [fn(&mut Settings); 3] = [|s| s.max_reflection_planes = 257, |s| s.speed_of_sound = f32::NAN, |s| s.distance_model.rolloff_factor = -1.0];
+    #[rustfmt::skip]
+    let changes: [fn(&mut Settings); 7] = [
+        |s| s.max_reflection_planes = 257, |s| s.speed_of_sound = f32::NAN, |s| s.distance_model.rolloff_factor = -1.0, |s| s.crossing_limit = 0,
+        |s| s.crossing_limit = MOST_CROSSINGS + 1, |s| s.probe_radius = 1f32.next_up(), |s| s.probe_radius = f32::NAN,
+    ];
     for change in changes {
         assert_eq!(asked(|s, _| change(s), 1), Err(Refusal::Settings));
     }

@@ -1,9 +1,18 @@
 //! The recorded queries of crates/replay (its src/main.rt says what stands in a line), one workspace for each candidate room: refusal, counts and every byte of the
 //! packet are those that the Rust answered.
-use bivelondry::{trace_packet, Curve, DistanceModel, Packet, Scene, Settings, Workspace};
+use bivelondry::{ffi, trace_packet, Curve, DistanceModel, Packet, Scene, Settings, Workspace};
 
 const RECORDED: &str = include_str!("../../../crates/replay/stdin");
-const HEADER: usize = 35;
+// Where things stand in the words of a line.
+const COUNTS: usize = 5;
+const FLOATS: usize = COUNTS + ffi::COUNTS;
+const ROOM: usize = FLOATS + ffi::FLOATS;
+const ROWS: usize = ROOM + 1;
+const SEPARATED: usize = ROWS + 1;
+const SOURCE: usize = SEPARATED + 1;
+const LISTENER: usize = SOURCE + 3;
+const ANSWER: usize = LISTENER + 3;
+const HEADER: usize = ANSWER + 5;
 
 /// A query, and what was answered: refusal, taps, images, rays and the packet.
 struct Recorded {
@@ -21,7 +30,8 @@ fn recorded(line: &str) -> (&str, Recorded) {
     let (name, rest) = line.split_once(' ').expect("a name");
     let digits: String = rest.split(' ').collect();
     let words: Vec<u32> = (0..digits.len() / 8).map(|k| u32::from_str_radix(&digits[8 * k..][..8], 16).expect("hexadecimal")).collect();
-    let f = |k: usize| f32::from_bits(words[k]);
+    let (c, f) = (&words[COUNTS..FLOATS], |k: usize| f32::from_bits(words[FLOATS + k]));
+    let point = |k: usize| [words[k], words[k + 1], words[k + 2]].map(f32::from_bits);
     let mut rest = &words[HEADER..];
     let mut part = |k: usize| {
         let (now, then) = rest.split_at(words[k] as usize);
@@ -29,25 +39,27 @@ fn recorded(line: &str) -> (&str, Recorded) {
         now.to_vec()
     };
     let floats = |v: Vec<u32>| v.into_iter().map(f32::from_bits).collect::<Vec<f32>>();
-    let scene = Scene { meshes: part(0), transforms: floats(part(1)), positions: floats(part(2)), indices: part(3), materials: floats(part(4)), rows: words[22] };
-    let curve = if words[9] == 0 { Curve::Inverse } else { Curve::Linear };
+    let scene = Scene { meshes: part(0), transforms: floats(part(1)), positions: floats(part(2)), indices: part(3), materials: floats(part(4)), rows: words[ROWS] };
+    let curve = if c[4] == 0 { Curve::Inverse } else { Curve::Linear };
     let settings = Settings {
-        max_reflection_order: words[5],
-        max_reflections: words[6],
-        max_reflection_planes: words[7],
-        plane_merge: words[8] != 0,
-        reflection_edge_fade: f(10),
-        max_reflection_distance: f(11),
-        speed_of_sound: f(12),
-        sample_rate: f(13),
-        plane_merge_cos: f(14),
-        plane_merge_offset: f(15),
-        plane_buried_distance: f(16),
-        distance_model: DistanceModel { curve, reference_distance: f(17), rolloff_factor: f(18), min_distance: f(19), max_distance: f(20) },
+        max_reflection_order: c[0],
+        max_reflections: c[1],
+        max_reflection_planes: c[2],
+        plane_merge: c[3] != 0,
+        reflection_edge_fade: f(0),
+        max_reflection_distance: f(1),
+        speed_of_sound: f(2),
+        sample_rate: f(3),
+        plane_merge_cos: f(4),
+        plane_merge_offset: f(5),
+        plane_buried_distance: f(6),
+        distance_model: DistanceModel { curve, reference_distance: f(7), rolloff_factor: f(8), min_distance: f(9), max_distance: f(10) },
+        crossing_limit: c[5],
+        probe_radius: f(11),
     };
-    let packet = rest.iter().flat_map(|w| w.to_le_bytes()).take(words[34] as usize).collect();
-    let answer = words[30..HEADER].try_into().expect("five");
-    (name, Recorded { settings, scene, source: [f(24), f(25), f(26)], listener: [f(27), f(28), f(29)], separated: words[23] != 0, room: words[21], answer, packet })
+    let packet = rest.iter().flat_map(|w| w.to_le_bytes()).take(words[HEADER - 1] as usize).collect();
+    let answer = words[ANSWER..HEADER].try_into().expect("five");
+    (name, Recorded { settings, scene, source: point(SOURCE), listener: point(LISTENER), separated: words[SEPARATED] != 0, room: words[ROOM], answer, packet })
 }
 
 #[test]
@@ -68,5 +80,5 @@ fn recorded_queries() {
         }
         cases += 1;
     }
-    assert_eq!(cases, 135);
+    assert_eq!(cases, 149);
 }

@@ -6,6 +6,7 @@ use mathlib.Core.List.{List}
 use lib.Ieee.{Float}
 use Rattle.vector.specs.declared.Vec3.{Vec3}
 use Rattle.scene.specs.declared.Settings.{Settings}
+use Rattle.scene.specs.Limits.{mostCrossings}
 use Rattle.scene.specs.Scene.{Scene}
 use Rattle.placing.specs.Corners.{triangles}
 use Rattle.ranked.specs.Areas.{TrianglesLent}
@@ -40,6 +41,7 @@ pub record Heard
   pub for-tree : TreeRoom n tree nodes leaf-order
   pub for-planes : PlanesRoom n keys low-keys words scratch index numbers adjacency queue offsets plane-triangles plane-words plane-floats floats plane-edges
   pub few : st .«max_reflection_planes» ≤ mostPlanes
+  pub crossings : st .«crossing_limit» ≤ mostCrossings
   pub for-found : Rows room floats numbers
 
 -- the search's end is that over the triangles of the scene that was loaded
@@ -69,6 +71,7 @@ pub record Ready
   pub for-tree : TreeRoom n tree nodes leaf-order
   pub for-planes : PlanesRoom n keys low-keys words scratch index numbers adjacency queue offsets plane-triangles plane-words plane-floats floats plane-edges
   pub few : st .«max_reflection_planes» ≤ mostPlanes
+  pub crossings : st .«crossing_limit» ≤ mostCrossings
   pub for-found : Rows room floats numbers
   pub sane : Sane st
   pub for-list : SendRoom room (limitOf st) keys queue words scratch out

@@ -1,5 +1,5 @@
--- Settings as two lists: counts (order, reflections, planes, merge, curve) and floats (fade, distance, speed, rate, cosine, offset, buried
--- distance, and the distance model's four).
+-- Settings as two lists: counts (order, reflections, planes, merge, curve, crossing limit) and floats (fade, distance, speed, rate, cosine, offset,
+-- buried distance, the distance model's four, and the probe radius).
 use Prim.Native.Nat.{ℕ}
 use lib.Ieee.{Float, nan}
 use lib.ListN.{getD}
@@ -24,4 +24,6 @@ settingsFrom counts floats =
       «plane_merge_offset» = getD floats 5 nan;
       «plane_buried_distance» = getD floats 6 nan;
       «distance_model» = modelOf (getD counts 4 0) (getD floats 7 nan) (getD floats 8 nan) (getD floats 9 nan) (getD floats 10 nan);
+      «crossing_limit» = getD counts 5 0;
+      «probe_radius» = getD floats 11 nan;
     }

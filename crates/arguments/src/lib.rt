@@ -17,11 +17,11 @@ pub fn curve_of(number: u32) -> bands::DistanceCurve
     bands::DistanceCurve::Linear
 }
 
-// `counts` are max_reflection_order, max_reflections, max_reflection_planes, plane_merge (0 or not) and the curve (0 is Inverse).
+// `counts` are max_reflection_order, max_reflections, max_reflection_planes, plane_merge (0 or not), the curve (0 is Inverse) and crossing_limit.
 // `floats` are reflection_edge_fade, max_reflection_distance, speed_of_sound, sample_rate, plane_merge_cos, plane_merge_offset,
-// plane_buried_distance, and the distance model's reference_distance, rolloff_factor, min_distance and max_distance.
+// plane_buried_distance, the distance model's reference_distance, rolloff_factor, min_distance and max_distance, and probe_radius.
 pub fn settings_from(counts: &[u32], floats: &[f32]) -> Settings
-    requires { ⌜ (length (now counts) ≡ 5) × (length (now floats) ≡ 11) ⌝ }
+    requires { ⌜ (length (now counts) ≡ 6) × (length (now floats) ≡ 12) ⌝ }
     ensures { λ r. ⌜ r ≡ settingsFrom (now (counts .entry)) (now (floats .entry)) ⌝ }
 {
     let curve = curve_of(counts[4]);
@@ -46,6 +46,8 @@ pub fn settings_from(counts: &[u32], floats: &[f32]) -> Settings
         plane_merge_offset: floats[5],
         plane_buried_distance: floats[6],
         distance_model,
+        crossing_limit: counts[5],
+        probe_radius: floats[11],
     }
 }
 

@@ -130,16 +130,16 @@ pub fn fresh_on() -> [u8; 256]
     [0u8; 256]
 }
 
-pub fn fresh_case_words() -> [u32; 11]
-    ensures { λ r. ⌜ length r ≡ 11 ⌝ }
+pub fn fresh_case_words() -> [u32; 12]
+    ensures { λ r. ⌜ length r ≡ 12 ⌝ }
 {
-    [0u32; 11]
+    [0u32; 12]
 }
 
-pub fn fresh_case_floats() -> [f32; 17]
-    ensures { λ r. ⌜ length r ≡ 17 ⌝ }
+pub fn fresh_case_floats() -> [f32; 18]
+    ensures { λ r. ⌜ length r ≡ 18 ⌝ }
 {
-    [0.0; 17]
+    [0.0; 18]
 }
 
 pub fn fresh_case_rows() -> [f32; 1024]

@@ -23,7 +23,7 @@ pub fn print_forecast(w: &[u32]) {
     let triples = casefile::word(w, 10) / 3;
     let planes = lesser(casefile::word(w, 2), triples);
     let order = lesser(casefile::word(w, 0), MAX_IMAGE_ORDER as u32);
-    let r = cost::query_cost(planes, planes, order, triples);
+    let r = cost::query_cost(casefile::word(w, 11), planes, planes, order, triples);
     if r.refusal != 0 {
         return;
     }

@@ -63,6 +63,8 @@ fn settings_of(w: &[u32], f: &[f32]) -> Settings {
         plane_merge_offset: real(f, 5),
         plane_buried_distance: real(f, 6),
         distance_model,
+        crossing_limit: casefile::word(w, 11),
+        probe_radius: real(f, 17),
     }
 }
 

@@ -1,9 +1,12 @@
 // Reads a case: settings, materials, meshes and positions in the text of reference/FORMAT.md, with remarks, and floats as decimals or by their
 // bits. Proved: every text is read safely and to an end, nothing is stored outside the areas, and their lengths stay.
 //
-// A case is stored in seven areas. `w`, of 11 words: the four counts, merge, curve, separated, rows of the material table, meshes, and all meshes'
-// vertices and indices. `f`, of 17 floats: the seven of the settings, the four of the curve, source, listener. Then materials, mesh rows, transforms,
+// A case is stored in seven areas. `w`, of 12 words: the four counts, merge, curve, separated, rows of the material table, meshes, all meshes' vertices
+// and indices, and the crossing limit. `f`, of 18 floats: the seven of the settings, the four of the curve, source, listener, and the probe radius. Then materials, mesh rows, transforms,
 // positions and indices as `scene` takes them.
+use scene::OCCLUSION_MAX_CROSSINGS;
+use scene::REFLECTION_VISIBILITY_RADIUS;
+
 // The room that the areas of a case have.
 const MOST_MATERIALS: u32 = 64;
 
@@ -27,6 +30,11 @@ const MESH_COUNT: usize = 8;
 const VERTEX_COUNT: usize = 9;
 
 const INDEX_COUNT: usize = 10;
+
+const CROSSING_LIMIT: usize = 11;
+
+// A place in `f`.
+const PROBE_RADIUS: usize = 17;
 
 // What can be expected where the text goes wrong; `booth` has the words for each number.
 const A_NAME: u32 = 1;
@@ -312,9 +320,22 @@ fn read_model(s: &[u8], c: Cursor, w: &mut [u32], f: &mut [f32]) -> Cursor {
     read_floats(s, e, f, 7, 4)
 }
 
+// The line `probes`, which may be left out: then the Rust's constants, and `materials` follows.
+fn read_probes(s: &[u8], c: Cursor, w: &mut [u32], f: &mut [f32]) -> Cursor {
+    let a = keyword(s, c, b"probes", MATERIAL_WORD);
+    if a.wrong != 0 {
+        set_word(w, CROSSING_LIMIT, OCCLUSION_MAX_CROSSINGS);
+        set_float(f, PROBE_RADIUS, REFLECTION_VISIBILITY_RADIUS);
+        return c;
+    }
+    let b = read_word(s, a, w, CROSSING_LIMIT);
+    read_float(s, b, f, PROBE_RADIUS)
+}
+
 fn read_settings(s: &[u8], c: Cursor, w: &mut [u32], f: &mut [f32]) -> Cursor {
     let a = read_counts(s, c, w, f);
-    read_model(s, a, w, f)
+    let b = read_model(s, a, w, f);
+    read_probes(s, b, w, f)
 }
 
 fn read_places(s: &[u8], c: Cursor, f: &mut [f32]) -> Cursor {

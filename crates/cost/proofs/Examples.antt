@@ -1,4 +1,4 @@
--- Forecasts of some numbers of planes, first planes, order and triples, each computed by the definition; the sums are document 01's table.
+-- Forecasts of some crossing limits, numbers of planes, first planes, order and triples, each computed by the definition; the sums are document 01's table.
 use Prim.Native.Nat.{ℕ}
 use mathlib.Core.Path.{_≡_, refl}
 use mathlib.Core.List.{List, [], _∷_}
@@ -83,3 +83,20 @@ more-first = refl
 too-many-triples : costOf 8 6 6 8 4097 ≡ none
 unfolding costOf takes within
 too-many-triples = refl
+
+-- the crossing limit: 1 and 32 are taken, 0 and 33 are not
+one-crossing : costOf 1 1 1 8 2 ≡ answer (1 ∷ 0 ∷ 0 ∷ 0 ∷ 0 ∷ 0 ∷ 0 ∷ 0 ∷ []) 1 72 518
+unfolding costOf takes within levelsOf levels series raysOver wordsIn
+one-crossing = refl
+
+most-rays : costOf 32 256 256 8 4096 ≡ answer (1 ∷ 1 ∷ 1 ∷ 1 ∷ 1 ∷ 4 ∷ 977 ∷ 249014 ∷ []) 250000 1335900060 6511714
+unfolding costOf takes within levelsOf levels series raysOver wordsIn
+most-rays = refl
+
+no-crossings : costOf 0 6 6 8 12 ≡ none
+unfolding costOf takes within
+no-crossings = refl
+
+too-many-crossings : costOf 33 6 6 8 12 ≡ none
+unfolding costOf takes within
+too-many-crossings = refl

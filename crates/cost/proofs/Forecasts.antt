@@ -11,7 +11,7 @@ use Rattle.sequences.specs.Allowed.{visited, most, mostOrder, mostPlanes}
 use Rattle.sequences.specs.Count.{series, firsts, images}
 use Rattle.sequences.specs.Members.{In}
 use Rattle.sequences.proofs.Counting.{count-law}
-use Rattle.scene.specs.Limits.{mostTriples}
+use Rattle.scene.specs.Limits.{mostCrossings, mostTriples}
 use Rattle.scene.specs.Areas.{workWords}
 use Rattle.cost.specs.Cost.{levels, levelsOf, countsOf, toEight, raysOver, within, takes, turnedAway, costOf}
 use Rattle.cost.specs.Forecast.{ofLength, mostRays, total, Counts, Forecast}
@@ -34,7 +34,8 @@ within-both : (x most : ℕ) → within x most ≡ true → (1 ≤ x) × (x ≤ 
 unfolding within
 within-both x most e = let b = both (leb 1 x) (leb x most) e in (leb-true 1 x (b .one), leb-true x most (b .two))
 
-pub record Taken (planes first order triples : ℕ) : Type 0 where
+pub record Taken (limit planes first order triples : ℕ) : Type 0 where
+  pub crossed : limit ≤ 32
   pub some : 1 ≤ planes
   pub few : planes ≤ 256
   pub deep : 1 ≤ order
@@ -42,15 +43,17 @@ pub record Taken (planes first order triples : ℕ) : Type 0 where
   pub firsts : first ≤ planes
   pub scene : triples ≤ 4096
 
-pub taken : (planes first order triples : ℕ) → takes planes first order triples ≡ true → Taken planes first order triples
+pub taken : (limit planes first order triples : ℕ) → takes limit planes first order triples ≡ true → Taken limit planes first order triples
 unfolding takes
-taken planes first order triples e =
-    let a = both (within planes mostPlanes) (within order mostOrder && (leb first planes && leb triples mostTriples)) e in
+taken limit planes first order triples e =
+    let l = both (within limit mostCrossings) (within planes mostPlanes && (within order mostOrder && (leb first planes && leb triples mostTriples))) e in
+    let a = both (within planes mostPlanes) (within order mostOrder && (leb first planes && leb triples mostTriples)) (l .two) in
     let b = both (within order mostOrder) (leb first planes && leb triples mostTriples) (a .two) in
     let d = both (leb first planes) (leb triples mostTriples) (b .two) in
     let p = within-both planes mostPlanes (a .one) in
     let o = within-both order mostOrder (b .one) in
     record {
+      crossed = within-both limit mostCrossings (l .one) .1;
       some = p .0;
       few = p .1;
       deep = o .0;
@@ -62,7 +65,7 @@ taken planes first order triples e =
 -- ---- the answers
 
 pub accepted :
-    (limit planes first order triples : ℕ) → takes planes first order triples ≡ true →
+    (limit planes first order triples : ℕ) → takes limit planes first order triples ≡ true →
     costOf limit planes first order triples
     ≡ record {
       refusal = 0;
@@ -75,7 +78,7 @@ unfolding costOf
 accepted limit planes first order triples e = rw e
 
 pub refused :
-    (limit planes first order triples : ℕ) → takes planes first order triples ≡ false →
+    (limit planes first order triples : ℕ) → takes limit planes first order triples ≡ false →
     costOf limit planes first order triples ≡ record { refusal = turnedAway; counts = replicate mostOrder 0; candidates = 0; rays = 0; words = 0 }
 unfolding costOf
 refused limit planes first order triples e = rw e
@@ -105,13 +108,13 @@ eight-sums limit on order h =
     (λ q i. let f = visited-few on order h q i in (f .0, subst (λ (k : ℕ). length q < 1 + k) (sym n) (f .1)))
 
 counts-true :
-    (limit planes first order triples : ℕ) → takes planes first order triples ≡ true → (on : List ℕ) → length on ≡ planes → firsts on ≡ first →
+    (limit planes first order triples : ℕ) → takes limit planes first order triples ≡ true → (on : List ℕ) → length on ≡ planes → firsts on ≡ first →
     Counts limit triples (visited on order) (costOf limit planes first order triples)
 counts-true limit planes first order triples ok on hn he =
     let s : Summed limit (toEight order (countsOf planes first order)) (visited on order) =
     subst (λ (n : ℕ). Summed limit (toEight order (countsOf n first order)) (visited on order)) hn
     (subst (λ (e : ℕ). Summed limit (toEight order (countsOf (length on) e order)) (visited on order)) he
-    (eight-sums limit on order (taken planes first order triples ok .shallow)))
+    (eight-sums limit on order (taken limit planes first order triples ok .shallow)))
     in
     let many : images planes first order ≡ length (visited on order) = sym (count-law on planes first order hn he) in
     subst (Counts limit triples (visited on order)) (sym (accepted limit planes first order triples ok))
@@ -132,20 +135,20 @@ forecast limit planes first order triples r e =
 
 -- figures that the functions of the crate give, from numbers that are as wide as the call's
 pub told :
-    (limit planes first order triples : ℕ) → takes planes first order triples ≡ true →
-    (wide-planes wide-first seen : ℕ) (counts : List ℕ) (rays words : ℕ) → wide-planes ≡ planes → wide-first ≡ first →
+    (limit planes first order triples : ℕ) → takes limit planes first order triples ≡ true →
+    (wide-limit wide-planes wide-first seen : ℕ) (counts : List ℕ) (rays words : ℕ) → wide-limit ≡ limit → wide-planes ≡ planes → wide-first ≡ first →
     seen ≡ min most (wide-first * series (wide-planes - 1) order) → counts ≡ toEight order (levelsOf (wide-planes - 1) order seen) →
-    rays ≡ raysOver limit 1 counts → words ≡ workWords triples seen →
+    rays ≡ raysOver wide-limit 1 counts → words ≡ workWords triples seen →
     Forecast limit planes first order triples (record { refusal = 0; counts = counts; candidates = seen; rays = rays; words = words })
-told limit planes first order triples ok wide-planes wide-first seen counts rays words hp hf hs hc hr hw =
+told limit planes first order triples ok wide-limit wide-planes wide-first seen counts rays words hl hp hf hs hc hr hw =
     let seen-is : seen ≡ images planes first order = hs ∙ ap₂ (λ (n e : ℕ). min most (e * series (n - 1) order)) hp hf in
     let counts-is : counts ≡ toEight order (countsOf planes first order) = hc ∙ ap₂ (λ (n i : ℕ). toEight order (levelsOf (n - 1) order i)) hp seen-is in
-    let rays-is : rays ≡ raysOver limit 1 (toEight order (countsOf planes first order)) = hr ∙ ap (raysOver limit 1) counts-is in
+    let rays-is : rays ≡ raysOver limit 1 (toEight order (countsOf planes first order)) = hr ∙ ap₂ (λ (k : ℕ) (ks : List ℕ). raysOver k 1 ks) hl counts-is in
     let words-is : words ≡ workWords triples (images planes first order) = hw ∙ ap (workWords triples) seen-is in
     forecast limit planes first order triples _ (rw (accepted limit planes first order triples ok, counts-is, seen-is, rays-is, words-is))
 
 -- and the refusal
 pub turned :
-    (limit planes first order triples : ℕ) → takes planes first order triples ≡ false →
+    (limit planes first order triples : ℕ) → takes limit planes first order triples ≡ false →
     Forecast limit planes first order triples (record { refusal = turnedAway; counts = replicate mostOrder 0; candidates = 0; rays = 0; words = 0 })
 turned limit planes first order triples ok = forecast limit planes first order triples _ (sym (refused limit planes first order triples ok))

@@ -1,4 +1,4 @@
--- Document 02, Note 8: the figures of a forecast, worked out from planes, first planes allowed, order and triples.
+-- Document 02, Notes 8 and 12: the figures of a forecast, worked out from crossing limit, planes, first planes allowed, order and triples.
 use Prim.Native.Nat.{ℕ, zero, suc, _+_, _-_, _*_, _/_, _%_, min}
 use mathlib.Core.Bool.{Bool, cond, not, _&&_}
 use mathlib.Core.List.{List, [], _∷_, _++_}
@@ -6,7 +6,7 @@ use lib.ListN.{replicate}
 use lib.Dec.{leb}
 use Rattle.sequences.specs.Allowed.{mostOrder, mostPlanes}
 use Rattle.sequences.specs.Count.{series, images}
-use Rattle.scene.specs.Limits.{mostTriples}
+use Rattle.scene.specs.Limits.{mostCrossings, mostTriples}
 use Rattle.scene.specs.Areas.{workWords}
 use Rattle.cost.specs.declared.Cost.{Cost}
 
@@ -30,7 +30,7 @@ countsOf n e order = levelsOf (n - 1) order (images n e order)
 abbrev pub toEight : ℕ → List ℕ → List ℕ
 toEight order counts = counts ++ replicate (mostOrder - order) 0
 
--- "An image of order n costs at most" so many rays where a half segment has at most `limit` crossings: 162 × (n + 1) for 8
+-- "An image of order n then costs at most 18 × (limit + 1) × (n + 1) rays"
 abbrev pub raysAt : ℕ → ℕ → ℕ
 raysAt limit n = 18 * (limit + 1) * (n + 1)
 
@@ -43,10 +43,10 @@ raysOver limit n (k ∷ ks) = raysAt limit n * k + raysOver limit (suc n) ks
 unfoldable pub within : ℕ → ℕ → Bool
 within x most = leb 1 x && leb x most
 
--- what is not turned away with 14: "planes or order outside those limits, more first planes than planes, or over 4,096 triples"
-unfoldable pub takes : ℕ → ℕ → ℕ → ℕ → Bool
-takes planes first order triples =
-    within planes mostPlanes && (within order mostOrder && (leb first planes && leb triples mostTriples))
+-- what is not turned away with 14: "planes or order outside those limits, more first planes than planes, or over 4,096 triples", and "a limit outside 1 to 32"
+unfoldable pub takes : ℕ → ℕ → ℕ → ℕ → ℕ → Bool
+takes limit planes first order triples =
+    within limit mostCrossings && (within planes mostPlanes && (within order mostOrder && (leb first planes && leb triples mostTriples)))
 
 abbrev pub turnedAway : ℕ
 turnedAway = 14
@@ -55,7 +55,7 @@ turnedAway = 14
 unfoldable pub costOf : ℕ → ℕ → ℕ → ℕ → ℕ → Cost
 costOf limit planes first order triples =
     let counts = toEight order (countsOf planes first order) in
-    cond (takes planes first order triples)
+    cond (takes limit planes first order triples)
     (record {
       refusal = 0;
       counts = counts;

@@ -43,4 +43,4 @@ pub record Forecast (limit planes first order triples : ℕ) (r : Cost) : Type 0
   pub answer : r ≡ costOf limit planes first order triples
   -- and what it says where it is not 14: `on` has a byte for each plane, 0 where it may come first
   pub counts :
-      takes planes first order triples ≡ true → (on : List ℕ) → length on ≡ planes → firsts on ≡ first → Counts limit triples (visited on order) r
+      takes limit planes first order triples ≡ true → (on : List ℕ) → length on ≡ planes → firsts on ≡ first → Counts limit triples (visited on order) r

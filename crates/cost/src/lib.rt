@@ -7,7 +7,6 @@ use scene::CANDIDATES;
 use scene::MORE;
 use scene::MOST_TRIPLES;
 use scene::TRIPLES;
-use segments::OCCLUSION_MAX_CROSSINGS;
 use sequences::MAX_IMAGE_NODES;
 use sequences::MAX_IMAGE_ORDER;
 use sequences::MAX_PLANES;
@@ -15,14 +14,12 @@ ghost use mathlib.Core.Path.{_≡_};
 ghost use Prim.Native.Nat.{_+_, _-_, _*_, _≤_, _<_, min};
 ghost use Rattle.sequences.specs.Allowed.{most, mostOrder, mostPlanes};
 ghost use Rattle.sequences.specs.Count as count;
-ghost use Rattle.scene.specs.Limits.{mostTriples};
+ghost use Rattle.scene.specs.Limits.{mostCrossings, mostTriples};
 ghost use Rattle.scene.specs.Areas.{workWords};
-ghost use Rattle.segments.specs.Segment.{maxCrossings};
 ghost use Rattle.cost.specs.Cost as spec;
 ghost use Rattle.cost.specs.Forecast.{Forecast};
 
-// The crossings of a half segment, at most.
-const MAX_CROSSINGS: u64 = OCCLUSION_MAX_CROSSINGS as u64;
+const MOST_CROSSINGS: usize = scene::MOST_CROSSINGS as usize;
 
 // The refusal of a forecast.
 pub const TURNED_AWAY: u32 = 14;
@@ -78,13 +75,15 @@ fn within(x: u32, most: usize) -> bool
 }
 
 // What is not turned away.
-fn takes(planes: u32, first: u32, order: u32, triples: u32) -> bool
-    ensures { λ r. ⌜ r ≡ spec.takes planes first order triples ⌝ }
+fn takes(crossing_limit: u32, planes: u32, first: u32, order: u32, triples: u32) -> bool
+    ensures { λ r. ⌜ r ≡ spec.takes «crossing_limit» planes first order triples ⌝ }
 {
-    if within(planes, MAX_PLANES) {
-        if within(order, MAX_IMAGE_ORDER) {
-            if first <= planes {
-                return triples as usize <= MOST_TRIPLES;
+    if within(crossing_limit, MOST_CROSSINGS) {
+        if within(planes, MAX_PLANES) {
+            if within(order, MAX_IMAGE_ORDER) {
+                if first <= planes {
+                    return triples as usize <= MOST_TRIPLES;
+                }
             }
         }
     }
@@ -157,7 +156,7 @@ fn counts_of(m: u64, order: usize, images: u64) -> [u32; MAX_IMAGE_ORDER]
 
 // The rays of so many images of each order.
 fn rays_of(limit: u64, counts: [u32; MAX_IMAGE_ORDER]) -> u64
-    requires { ⌜ limit ≤ 32 ⌝ }
+    requires { ⌜ limit ≤ mostCrossings ⌝ }
     ensures { λ r. ⌜ r ≡ spec.raysOver limit 1 counts ⌝ }
 {
     let mut rays = 0;
@@ -183,17 +182,18 @@ fn words_of(t: usize, c: usize) -> usize
     words
 }
 
-// The forecast for so many planes of which `first` may come first, sequences of at most `order` planes, and so many whole triples. Refuses planes
-// outside 1 to 256, an order outside 1 to 8, more first planes than planes and more than 4,096 triples.
-pub fn query_cost(planes: u32, first: u32, order: u32, triples: u32) -> Cost
-    ensures { λ r. ⌜ Forecast maxCrossings planes first order triples r ⌝ }
+// The forecast for so many crossings of a half segment, so many planes of which `first` may come first, sequences of at most `order` planes, and so many
+// whole triples. Refuses a crossing limit outside 1 to 32, planes outside 1 to 256, an order outside 1 to 8, more first planes than planes and more than
+// 4,096 triples.
+pub fn query_cost(crossing_limit: u32, planes: u32, first: u32, order: u32, triples: u32) -> Cost
+    ensures { λ r. ⌜ Forecast «crossing_limit» planes first order triples r ⌝ }
 {
-    if takes(planes, first, order, triples) {
+    if takes(crossing_limit, planes, first, order, triples) {
         let m = wide(planes) - 1;
         let all = allowed(m, wide(first), order as usize);
         let images = visited(all);
         let counts = counts_of(m, order as usize, images);
-        let rays = rays_of(MAX_CROSSINGS, counts);
+        let rays = rays_of(wide(crossing_limit), counts);
         let words = words_of(triples as usize, images as usize);
         return Cost {
             refusal: 0,

@@ -15,6 +15,9 @@ const RECORDS: usize = MAX_IMAGE_NODES * RECORD;
 // The most planes that are compared.
 const PLANES: usize = 6;
 
+// The Rust's crossing limit.
+const CROSSINGS: u32 = 8;
+
 // How many counts were compared, and how many of them differ.
 struct Tally {
     counts: u32,
@@ -48,13 +51,14 @@ fn print_counts(counts: [u32; MAX_IMAGE_ORDER]) {
 }
 
 // A line with what is asked, and one with the answer.
-fn show(planes: u32, first: u32, order: u32, triples: u32) {
-    print(b"planes, first, order, triples");
+fn show(crossing_limit: u32, planes: u32, first: u32, order: u32, triples: u32) {
+    print(b"crossings, planes, first, order, triples");
+    print_number(crossing_limit as u64);
     print_number(planes as u64);
     print_number(first as u64);
     print_number(order as u64);
     print_number(triples as u64);
-    let r = cost::query_cost(planes, first, order, triples);
+    let r = cost::query_cost(crossing_limit, planes, first, order, triples);
     print_answer(r);
 }
 
@@ -74,29 +78,37 @@ fn print_answer(r: Cost) {
 }
 
 fn show_answers() {
-    show(6, 6, 8, 12);
-    show(32, 32, 4, 64);
-    show(256, 256, 8, 4096);
-    show(2, 2, 8, 4);
-    show(1, 1, 8, 2);
-    show(6, 5, 3, 12);
-    show(6, 6, 3, 12);
-    show(6, 6, 7, 12);
-    show(32, 32, 3, 64);
-    show(6, 0, 8, 12);
+    show(CROSSINGS, 6, 6, 8, 12);
+    show(CROSSINGS, 32, 32, 4, 64);
+    show(CROSSINGS, 256, 256, 8, 4096);
+    show(CROSSINGS, 2, 2, 8, 4);
+    show(CROSSINGS, 1, 1, 8, 2);
+    show(CROSSINGS, 6, 5, 3, 12);
+    show(CROSSINGS, 6, 6, 3, 12);
+    show(CROSSINGS, 6, 6, 7, 12);
+    show(CROSSINGS, 32, 32, 3, 64);
+    show(CROSSINGS, 6, 0, 8, 12);
+    show(1, 6, 6, 8, 12);
+    show(9, 6, 6, 8, 12);
+    show(32, 6, 6, 8, 12);
+    show(32, 256, 256, 8, 4096);
 }
 
 // On either side of each limit.
 fn show_limits() {
-    show(0, 0, 1, 0);
-    show(1, 0, 1, 0);
-    show(256, 1, 1, 0);
-    show(257, 1, 1, 0);
-    show(2, 2, 0, 0);
-    show(2, 2, 9, 0);
-    show(2, 3, 8, 0);
-    show(2, 2, 8, 4096);
-    show(2, 2, 8, 4097);
+    show(0, 2, 2, 8, 4);
+    show(1, 2, 2, 8, 4);
+    show(32, 2, 2, 8, 4);
+    show(33, 2, 2, 8, 4);
+    show(CROSSINGS, 0, 0, 1, 0);
+    show(CROSSINGS, 1, 0, 1, 0);
+    show(CROSSINGS, 256, 1, 1, 0);
+    show(CROSSINGS, 257, 1, 1, 0);
+    show(CROSSINGS, 2, 2, 0, 0);
+    show(CROSSINGS, 2, 2, 9, 0);
+    show(CROSSINGS, 2, 3, 8, 0);
+    show(CROSSINGS, 2, 2, 8, 4096);
+    show(CROSSINGS, 2, 2, 8, 4097);
 }
 
 // A byte for each plane, 0 for the first ones.
@@ -178,7 +190,7 @@ fn compare_counts(counts: [u32; MAX_IMAGE_ORDER], records: &[u8], total: usize) 
 fn compare_order(on: &[u8], first: usize, order: usize, records: &mut [u8]) -> Tally {
     match sequences::enumerate(on, order, records) {
         Enumeration::Images(total) => {
-            let r = cost::query_cost(narrow(on.len()), narrow(first), narrow(order), 0);
+            let r = cost::query_cost(CROSSINGS, narrow(on.len()), narrow(first), narrow(order), 0);
             let counts = r.counts;
             compare_counts(counts, records, total)
         }

@@ -15,7 +15,6 @@ ghost use Rattle.packet.specs.Writer.{writeAnswer, writeOut, writeRefusal, writ
 ghost use Rattle.numbering.specs.Walls.{answerOf};
 ghost use Rattle.scene.specs.Scene.{scene};
 ghost use Rattle.scene.specs.Limits.{mostTriples};
-ghost use Rattle.segments.specs.Segment.{maxCrossings};
 ghost use Rattle.cost.specs.Forecast.{Forecast};
 ghost use Rattle.arguments.specs.Point.{pointFrom};
 ghost use Rattle.mirror.specs.Rows.{planeFloats, planeWords, planesIn};
@@ -143,10 +142,11 @@ pub extern "C" fn biv_area_lengths(triples: usize, c: u32, lens: &mut [usize; sc
 
 // ---- the forecast
 
-// `cost::query_cost`: what a query will cost. Answers the refusal, or 0. `counts` gets the images of each order from 1 to 8, `found` the candidates, rays
-// and words of work area, all zero after a refusal.
+// `cost::query_cost`: what a query with this crossing limit will cost. Answers the refusal, or 0. `counts` gets the images of each order from 1 to 8,
+// `found` the candidates, rays and words of work area, all zero after a refusal.
 #[no_mangle]
 pub extern "C" fn biv_query_cost(
+    crossing_limit: u32,
     planes: u32,
     first: u32,
     order: u32,
@@ -154,9 +154,9 @@ pub extern "C" fn biv_query_cost(
     counts: &mut [u32; 8],
     found: &mut [u64; 3],
 ) -> u32
-    ensures { λ r. ⌜ Forecast maxCrossings planes first order triples (costFrom r (now (counts .exit)) (now (found .exit))) ⌝ }
+    ensures { λ r. ⌜ Forecast «crossing_limit» planes first order triples (costFrom r (now (counts .exit)) (now (found .exit))) ⌝ }
 {
-    let c = cost::query_cost(planes, first, order, triples);
+    let c = cost::query_cost(crossing_limit, planes, first, order, triples);
     let images = c.counts;
     *counts = images;
     *found = [c.candidates as u64, c.rays, c.words];
@@ -199,8 +199,8 @@ pub extern "C" fn biv_trace_early_reflections(
     plane_edges: &mut [f32],
     out: &mut [u8],
     found: &mut [usize; 4],
-    counts: &[u32; 5],
-    setting_floats: &[f32; 11],
+    counts: &[u32; 6],
+    setting_floats: &[f32; 12],
     c: u32,
     meshes: &[u32],
     transforms: &[f32],
@@ -306,8 +306,8 @@ pub extern "C" fn biv_planes(
     plane_edges: &mut [f32],
     on: &mut [u8; sequences::MAX_PLANES],
     found: &mut [usize; 1],
-    counts: &[u32; 5],
-    setting_floats: &[f32; 11],
+    counts: &[u32; 6],
+    setting_floats: &[f32; 12],
     c: u32,
     meshes: &[u32],
     transforms: &[f32],

@@ -23,8 +23,9 @@ use Rattle.mirror.specs.Plane.{planeAt}
 use Rattle.mirror.specs.Mirror as mirror
 use Rattle.mirror.specs.Border.{nearestOf, pointSegmentDistanceOf, nearerOf, borderDistanceOf, smoothOf, weightOf}
 use Rattle.mirror.specs.Locate as locate
+use Rattle.scene.specs.Limits.{maxCrossings, visibilityRadius}
 use Rattle.segments.specs.Materials.{bandsIn, transmissionOf, coefficientOf, coefficientsOf, reflectionOf}
-use Rattle.segments.specs.Segment.{maxCrossings, visibilityRadius, transmission, segmentRayOf, walkOf, segmentTransmissionOf, offsetOf, midOf, addPartOf, probeOf, probesOf, segmentSoftTransmissionOf}
+use Rattle.segments.specs.Segment.{transmission, segmentRayOf, walkOf, segmentTransmissionOf, offsetOf, midOf, addPartOf, probeOf, probesOf, segmentSoftTransmissionOf}
 use Rattle.segments.specs.Areas.{traceIn}
 use Rattle.bounces.specs.Image.{imageOf}
 use Rattle.bounces.specs.Bounces.{bounceOf, made, backOf, bouncesOf}

@@ -9,6 +9,7 @@ use Rattle.vector.specs.Vector.{vec}
 use Rattle.bands.specs.declared.DistanceCurve.the-variants.{Inverse}
 use Rattle.bands.specs.Band8.{splatOf}
 use Rattle.scene.specs.declared.Settings.{Settings}
+use Rattle.scene.specs.Limits.{maxCrossings, visibilityRadius}
 use Rattle.scene.specs.Scene.{Scene, scene}
 use Rattle.scene.specs.Areas.{areaTable, leastOf}
 use Rattle.ranking.specs.declared.Candidate.{Candidate}
@@ -51,6 +52,8 @@ settings =
         «min_distance» = whole 1;
         «max_distance» = whole 10000;
       };
+      «crossing_limit» = maxCrossings;
+      «probe_radius» = visibilityRadius;
     }
 
 -- "C 1"

@@ -1,4 +1,4 @@
--- How many rays a path takes, over any limit: 'an image of order n costs at most 162 × (n + 1)' (document 01), 18 × (limit + 1) × (n + 1) in general.
+-- How many rays a path takes, over any limit: 'an image of order n then costs at most 18 × (limit + 1) × (n + 1) rays' (document 02, note 12).
 use mathlib.Core.Path.{_≡_}
 use mathlib.Core.List.{List, [], _∷_}
 use mathlib.Core.Bool.{Bool, true, false, cond}
@@ -15,7 +15,7 @@ use Rattle.scene.specs.declared.Settings.{Settings}
 use Rattle.mirror.specs.Plane.{Plane}
 use Rattle.segments.specs.declared.Transmission.{Transmission}
 use Rattle.segments.specs.Materials.{transmissionOf}
-use Rattle.segments.specs.Segment.{maxCrossings, visibilityRadius, segmentSoftTransmissionOf}
+use Rattle.segments.specs.Segment.{segmentSoftTransmissionOf}
 use Rattle.segments.specs.Areas.{traceIn}
 use Rattle.segments.proofs.Laws.{soft-bound}
 use Rattle.bounces.specs.declared.Bounce.{Bounce}
@@ -100,7 +100,7 @@ module _ (s : Settings) (planes : List Plane) (tri : ℕ → Triangle) (t : Tree
         bounced-bound soft (18 * (limit + 1)) (λ a b. soft-bound (traceIn tri t) (transmissionOf materials) limit radius a b) s materials tri (length seq) source listener found long
     picked false = omega arith
 
-  -- with the Rust's limit
-  pub path-rays : pathOf s planes tri t materials source listener seq .rays ≤ 162 * (length seq + 1)
+  -- with the limit of the settings
+  pub path-rays : pathOf s planes tri t materials source listener seq .rays ≤ 18 * (s .«crossing_limit» + 1) * (length seq + 1)
   unfolding pathOf
-  path-rays = path-bound maxCrossings visibilityRadius
+  path-rays = path-bound (s .«crossing_limit») (s .«probe_radius»)

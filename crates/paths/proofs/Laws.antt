@@ -2,7 +2,8 @@
 use mathlib.Core.Path.{_≡_, refl, sym, ap, _∙_}
 use mathlib.Core.Bool.{Bool, true, false}
 use mathlib.Core.List.{List, [], _∷_, foldl}
-use Prim.Native.Nat.{ℕ, suc, _+_, _-_, _<_, _≤_}
+use Prim.Native.Nat.{ℕ, suc, _+_, _-_, _*_, _^_, _<_, _≤_}
+use native.Mathlib.Nat.{mul-le-mul}
 use native.Mathlib.Numerals.{add-one}
 use native.Mathlib.Omega.{arith}
 use lib.Ieee.{Float, le}
@@ -18,7 +19,7 @@ use Rattle.mirror.specs.Plane.{Plane, noPoint, planeAt}
 use Rattle.segments.specs.declared.Transmission.{Transmission}
 use Rattle.bounces.specs.Image.{imageOf, imageAt}
 use Rattle.bounces.specs.Bounces.{Bounces, notCrossed, offSurface, made, backOf, planeOn, bouncesOf}
-use Rattle.bounces.specs.Areas.{fateOf}
+use Rattle.bounces.specs.Areas.{maxOrder, fateOf}
 use Rattle.bounces.proofs.Laws.{back-ext}
 use Rattle.paths.specs.declared.Way.{Way}
 use Rattle.paths.specs.declared.Fate.the-variants.{TooFar, NotCrossed, OffSurface}
@@ -49,6 +50,23 @@ go-step soft w points k n low high fits = rw (slice-down points noPoint k n low 
 pub go-none : (soft : Vec3 → Vec3 → Transmission) (w : Way) (points : List Vec3) (n : ℕ) → goAllOf soft w (slice n n points) ≡ w
 unfolding goAllOf
 go-none soft w points n = rw (slice-empty n points)
+
+-- the rays of the segments from k on, of at most m each, b before them
+pub ways-more : (m b d d′ n r : ℕ) → n ≤ b + m * d → r ≤ n + m → d′ ≡ d + 1 → r ≤ b + m * d′
+ways-more m b d d′ n r h l e = rw e (let f : r ≤ b + m * (d + 1) = omega arith in f)
+
+pub ways-fit : (m order k b n : ℕ) → n ≤ b + m * (order - k) → b ≡ 0 → order ≤ maxOrder → m * (maxOrder + 1) < 2 ^ 32 → n + m < 2 ^ 32
+ways-fit m order k b n h z few fits =
+    let same : m ≤ m = omega arith in
+    let less : order - k ≤ maxOrder = omega arith in
+    let a : m * (order - k) ≤ m * maxOrder = mul-le-mul same less in
+    omega arith
+
+pub ways-all : (m order k b n r : ℕ) → n ≤ b + m * (order - k) → b ≡ 0 → k ≡ 0 → r ≤ n + m → r ≤ m * (order + 1)
+ways-all m order k b n r h z end l =
+    let e : order - k ≡ order = omega arith in
+    let a : n ≤ b + m * order = rw e at h in
+    omega arith
 
 -- a fold over a part of an array
 module _ {B : Type 0} (f : B → ℕ → B) (g : B) (l : List ℕ) (k n : ℕ) where
@@ -90,7 +108,7 @@ module _ (s : Settings) (planes : List Plane) (tri : ℕ → Triangle) (t : Tree
 
   pub path-near :
       le (distance3Of listener (image n)) (s .«max_reflection_distance») ≡ true →
-      bouncedOf (softIn tri t materials) s materials tri n source listener
+      bouncedOf (softIn (s .«crossing_limit») (s .«probe_radius») tri t materials) s materials tri n source listener
       (backOf tri (s .«reflection_edge_fade») (planeOn planes seq) image n listener one32 [] [])
       ≡ pathOf s planes tri t materials source listener (take n seq)
   unfolding pathOf pathWith
@@ -107,7 +125,7 @@ module _ (s : Settings) (planes : List Plane) (tri : ℕ → Triangle) (t : Tree
   path-lost {A} f x far uncrossed off ne = by (le (distance3Of listener (image n)) (s .«max_reflection_distance»)) refl where
     bounced :
         (b : Bounces) → (fateOf b ≡ 0 → ⊥) →
-        f (bouncedOf (softIn tri t materials) s materials tri n source listener b) ≡ x
+        f (bouncedOf (softIn (s .«crossing_limit») (s .«probe_radius») tri t materials) s materials tri n source listener b) ≡ x
     bounced notCrossed k = uncrossed
     bounced offSurface k = off
     bounced (made points tris weight) k = absurd (k refl)

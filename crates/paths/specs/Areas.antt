@@ -7,13 +7,13 @@ use Rattle.build.specs.Tree.{Tree}
 use Rattle.vector.specs.declared.Vec3.{Vec3}
 use Rattle.segments.specs.declared.Transmission.{Transmission}
 use Rattle.segments.specs.Materials.{transmissionOf}
-use Rattle.segments.specs.Segment.{maxCrossings, visibilityRadius, segmentSoftTransmissionOf}
+use Rattle.segments.specs.Segment.{segmentSoftTransmissionOf}
 use Rattle.segments.specs.Areas.{traceIn, TreeReads, Traceable}
 use Rattle.bounces.specs.Areas.{PlanesLent, PlanesRead}
 
--- what is left along a segment of the scene
-abbrev pub softIn : (ℕ → Triangle) → Tree → List Float → Vec3 → Vec3 → Transmission
-softIn tri t materials = segmentSoftTransmissionOf (traceIn tri t) (transmissionOf materials) maxCrossings visibilityRadius
+-- what is left along a segment of the scene, with so many crossings of a half segment, and probes so far out
+abbrev pub softIn : ℕ → Float → (ℕ → Triangle) → Tree → List Float → Vec3 → Vec3 → Transmission
+softIn limit radius tri t materials = segmentSoftTransmissionOf (traceIn tri t) (transmissionOf materials) limit radius
 
 -- a tree of `nodes-count` nodes with its materials, columns of n triples, and `count` planes
 pub record Lent (padded : List Float) (nodes perm : List ℕ) (rows : List Float) (handles : List ℕ) (nodes-count : ℕ) (materials columns : List Float) (n : ℕ) (floats : List Float) (words members : List ℕ) (edges : List Float) (count : ℕ) : Type 0 where

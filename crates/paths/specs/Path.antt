@@ -13,7 +13,7 @@ use Rattle.scene.specs.declared.Settings.{Settings}
 use Rattle.mirror.specs.Plane.{Plane, noPoint}
 use Rattle.segments.specs.declared.Transmission.{Transmission}
 use Rattle.segments.specs.Materials.{transmissionOf}
-use Rattle.segments.specs.Segment.{maxCrossings, visibilityRadius, segmentSoftTransmissionOf}
+use Rattle.segments.specs.Segment.{segmentSoftTransmissionOf}
 use Rattle.segments.specs.Areas.{traceIn}
 use Rattle.bounces.specs.Image.{imageOf}
 use Rattle.bounces.specs.Bounces.{Bounces, notCrossed, offSurface, made, bouncesOf}
@@ -55,9 +55,9 @@ pathWith limit radius s planes tri t materials source listener seq =
     (bouncesOf tri (s .«reflection_edge_fade») planes source listener seq))
     (verdict TooFar 0)
 
--- the path of a sequence: which test failed first, or its candidate; and the rays traced for it
+-- the path of a sequence, by the crossing limit and the probe radius of the settings: which test failed first, or its candidate; and the rays traced for it
 unfoldable pub pathOf : Settings → List Plane → (ℕ → Triangle) → Tree → List Float → Vec3 → Vec3 → List ℕ → Verdict
-pathOf s planes tri t materials source listener seq = pathWith maxCrossings visibilityRadius s planes tri t materials source listener seq
+pathOf s planes tri t materials source listener seq = pathWith (s .«crossing_limit») (s .«probe_radius») s planes tri t materials source listener seq
 
 -- the number of a fate: 0 for a candidate, else the place of the test that failed first in the Rust's order
 unfoldable pub fateNumber : Fate → ℕ

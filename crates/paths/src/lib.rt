@@ -10,10 +10,10 @@ ghost use Prim.Native.Nat.{ℕ, _+_, _*_, _^_, _<_, _≤_};
 ghost use lib.ListN.{length, getD, take};
 ghost use Rattle.geometry.specs.declared.Triangle.{Triangle};
 ghost use Rattle.build.specs.Tree.{Tree};
+ghost use Rattle.scene.specs.Limits.{mostCrossings};
 ghost use Rattle.mirror.specs.Plane.{noPoint};
 ghost use Rattle.mirror.specs.Rows.{planesIn};
 ghost use Rattle.segments.specs.Materials.{materialFloats};
-ghost use Rattle.segments.specs.Segment.{maxCrossings};
 ghost use Rattle.segments.specs.Areas.{TreeReads, Traceable};
 ghost use Rattle.bounces.specs.Image.{imageOf};
 ghost use Rattle.bounces.specs.Areas.{maxOrder, madeFate, trailOf, Going};
@@ -84,16 +84,18 @@ fn go(
     handles: &[u32],
     nodes_count: usize,
     materials: &[f32],
+    crossing_limit: u32,
+    probe_radius: f32,
     to: Vec3,
     w: Way,
 ) -> Way
     requires { ⌜ Traceable (now padded) (now nodes) (now «leaf_order») (now leaves) (now handles) «nodes_count» (now materials) ⌝ }
-    requires { ⌜ w .rays + 18 * (maxCrossings + 1) < 2 ^ 32 ⌝ }
+    requires { ⌜ w .rays + 18 * («crossing_limit» + 1) < 2 ^ 32 ⌝ }
     ensures { λ r.
         ⌜ ((tri : ℕ → Triangle) (t : Tree) →
         TreeReads (now (padded .entry)) (now (nodes .entry)) (now («leaf_order» .entry)) (now (leaves .entry)) (now (handles .entry)) tri t →
-        r ≡ goOf (softIn tri t (now (materials .entry))) to w) ⌝ }
-    ensures { λ r. ⌜ r .rays ≤ w .rays + 18 * (maxCrossings + 1) ⌝ }
+        r ≡ goOf (softIn «crossing_limit» «probe_radius» tri t (now (materials .entry))) to w) ⌝ }
+    ensures { λ r. ⌜ r .rays ≤ w .rays + 18 * («crossing_limit» + 1) ⌝ }
 {
     let g = segments::segment_soft_transmission(
         padded,
@@ -103,6 +105,8 @@ fn go(
         handles,
         nodes_count,
         materials,
+        crossing_limit,
+        probe_radius,
         w.from,
         to,
     );
@@ -123,6 +127,8 @@ fn go_all(
     handles: &[u32],
     nodes_count: usize,
     materials: &[f32],
+    crossing_limit: u32,
+    probe_radius: f32,
     points: [Vec3; 8],
     order: usize,
     source: Vec3,
@@ -130,11 +136,12 @@ fn go_all(
 ) -> Way
     requires { ⌜ Traceable (now padded) (now nodes) (now «leaf_order») (now leaves) (now handles) «nodes_count» (now materials) ⌝ }
     requires { ⌜ (order ≤ maxOrder) × (length points ≡ maxOrder) ⌝ }
+    requires { ⌜ 18 * («crossing_limit» + 1) * (maxOrder + 1) < 2 ^ 32 ⌝ }
     ensures { λ r.
         ⌜ ((tri : ℕ → Triangle) (t : Tree) →
         TreeReads (now (padded .entry)) (now (nodes .entry)) (now («leaf_order» .entry)) (now (leaves .entry)) (now (handles .entry)) tri t →
-        r ≡ wayOf (softIn tri t (now (materials .entry))) listener source (take order points)) ⌝ }
-    ensures { λ r. ⌜ r .rays ≤ 18 * (maxCrossings + 1) * (order + 1) ⌝ }
+        r ≡ wayOf (softIn «crossing_limit» «probe_radius» tri t (now (materials .entry))) listener source (take order points)) ⌝ }
+    ensures { λ r. ⌜ r .rays ≤ 18 * («crossing_limit» + 1) * (order + 1) ⌝ }
 {
     let mut w = begin(listener);
     let mut k = order;
@@ -149,6 +156,8 @@ fn go_all(
             handles,
             nodes_count,
             materials,
+            crossing_limit,
+            probe_radius,
             to,
             w,
         );
@@ -161,6 +170,8 @@ fn go_all(
         handles,
         nodes_count,
         materials,
+        crossing_limit,
+        probe_radius,
         source,
         w,
     )
@@ -291,13 +302,13 @@ fn judge(
     listener: Vec3,
 ) -> Verdict
     requires { ⌜ Traceable (now padded) (now nodes) (now «leaf_order») (now leaves) (now handles) «nodes_count» (now materials) ⌝ }
-    requires { ⌜ (0 < order) × (order ≤ maxOrder) ⌝ }
+    requires { ⌜ (0 < order) × (order ≤ maxOrder) × (s .«crossing_limit» ≤ mostCrossings) ⌝ }
     requires { ⌜ (trail .fate ≡ madeFate → Going trail) ⌝ }
     ensures { λ r.
         ⌜ ((tri : ℕ → Triangle) (t : Tree) →
         TreeReads (now (padded .entry)) (now (nodes .entry)) (now («leaf_order» .entry)) (now (leaves .entry)) (now (handles .entry)) tri t →
-        r ≡ bouncedOf (softIn tri t (now (materials .entry))) s (now (materials .entry)) tri order source listener (trailOf trail order)) ⌝ }
-    ensures { λ r. ⌜ r .rays ≤ 18 * (maxCrossings + 1) * (order + 1) ⌝ }
+        r ≡ bouncedOf (softIn (s .«crossing_limit») (s .«probe_radius») tri t (now (materials .entry))) s (now (materials .entry)) tri order source listener (trailOf trail order)) ⌝ }
+    ensures { λ r. ⌜ r .rays ≤ 18 * (s .«crossing_limit» + 1) * (order + 1) ⌝ }
 {
     let fate = trail.fate;
     if fate == 0 {
@@ -311,6 +322,8 @@ fn judge(
             handles,
             nodes_count,
             materials,
+            s.crossing_limit,
+            s.probe_radius,
             points,
             order,
             source,
@@ -362,7 +375,7 @@ pub fn validate_image_path(
 ) -> Verdict
     requires { ⌜ Lent (now padded) (now nodes) (now «leaf_order») (now leaves) (now handles) «nodes_count» (now materials) (now triangles) n (now «plane_floats»)
         (now «plane_words») (now «plane_triangles») (now «plane_edges») count ⌝ }
-    requires { ⌜ (0 < order) × (order ≤ maxOrder) × (length seq ≡ maxOrder) ⌝ }
+    requires { ⌜ (0 < order) × (order ≤ maxOrder) × (length seq ≡ maxOrder) × (s .«crossing_limit» ≤ mostCrossings) ⌝ }
     requires { ⌜ ((j : ℕ) → j < order → getD seq j 0 < count) ⌝ }
     requires { ⌜ ((j : ℕ) → j ≤ order → getD images j noPoint ≡
         imageOf (planesIn (now «plane_floats») (now «plane_words») (now «plane_triangles») (now «plane_edges») count) source (take j seq)) ⌝ }
@@ -372,7 +385,7 @@ pub fn validate_image_path(
         (now («plane_floats» .entry)) (now («plane_words» .entry)) (now («plane_triangles» .entry)) count tri t → r ≡
         pathOf s (planesIn (now («plane_floats» .entry)) (now («plane_words» .entry)) (now («plane_triangles» .entry)) (now («plane_edges» .entry)) count) tri
         t (now (materials .entry)) source listener (take order seq)) ⌝ }
-    ensures { λ r. ⌜ r .rays ≤ 18 * (maxCrossings + 1) * (order + 1) ⌝ }
+    ensures { λ r. ⌜ r .rays ≤ 18 * (s .«crossing_limit» + 1) * (order + 1) ⌝ }
 {
     let image = images[order];
     if vector::distance3(listener, image) <= s.max_reflection_distance {

@@ -9,13 +9,14 @@ use borrow.Author.Tests.{ne-eqb, ltb-false}
 use lib.Dec.{T, eqb, ltb}
 use lib.ListN.{length}
 use lib.Ieee.{Float}
+use Rattle.float.specs.Literals.{zero32, one32}
 use Rattle.vector.specs.declared.Vec3.{Vec3}
 use Rattle.geometry.specs.declared.Triangle.{Triangle}
 use Rattle.build.specs.Tree.{Tree}
 use Rattle.mirror.specs.Plane.{Plane}
 use Rattle.patches.specs.Triangles.{triangleAt}
 use Rattle.scene.specs.declared.Settings.{Settings}
-use Rattle.scene.specs.Limits.{mostCandidates, countsOf, ratesOf, mergesOf, modelNumbersOf, settingsOf}
+use Rattle.scene.specs.Limits.{mostCandidates, leastCrossings, mostCrossings, betweenOf, countsOf, ratesOf, mergesOf, modelNumbersOf, probesOf, settingsOf}
 use Rattle.scene.specs.Scene.{Scene}
 use Rattle.scene.specs.Refusals.{refusal1, refusal2, refusal3, refusal4, refusal5, first}
 use Rattle.placing.specs.Corners.{triangles, placings, refusal6}
@@ -25,7 +26,6 @@ use Rattle.placing.specs.declared.Loaded.the-variants.{Triangles}
 use Rattle.bounces.specs.Areas.{maxOrder}
 use Rattle.packet.specs.Limits.{mostTaps}
 use Rattle.sequences.specs.Allowed.{mostPlanes, visited}
-use Rattle.segments.specs.Segment.{maxCrossings}
 use Rattle.cost.specs.Forecast.{mostRays}
 use Rattle.paths.specs.Path.{pathOf}
 use Rattle.paths.specs.declared.Fate.{Fate}
@@ -110,6 +110,7 @@ pub record Within (st : Settings) (c : ℕ) : Type 0 where
   pub room : c ≤ mostCandidates
   pub rates : T (ratesOf (st .«max_reflection_distance») (st .«speed_of_sound») (st .«sample_rate»))
   pub model : T (modelNumbersOf (st .«distance_model»))
+  pub crossings : st .«crossing_limit» ≤ mostCrossings
 
 pub record Both (a b : Bool) : Type 0 where
   pub one : a ≡ true
@@ -125,20 +126,27 @@ negated true e = absurd (subst T (sym e) tt)
 negated false e = refl
 
 pub within : (st : Settings) (c : ℕ) → settingsOf st c ≡ true → Within st c
-unfolding settingsOf countsOf
+unfolding settingsOf countsOf probesOf
 within st c e =
     let m = st .«distance_model» in
     let rest = ratesOf (st .«max_reflection_distance») (st .«speed_of_sound») (st .«sample_rate») in
     let merged = mergesOf (st .«plane_merge_cos») (st .«reflection_edge_fade») (st .«plane_merge_offset») (st .«plane_buried_distance») in
-    let a = both (not (ltb mostPlanes (st .«max_reflection_planes»)) && not (ltb mostCandidates c)) (rest && (merged && modelNumbersOf m)) e in
+    let limit = st .«crossing_limit» in
+    let wide = betweenOf (st .«probe_radius») zero32 one32 in
+    let probed = not (ltb limit leastCrossings) && (not (ltb mostCrossings limit) && wide) in
+    let a = both (not (ltb mostPlanes (st .«max_reflection_planes»)) && not (ltb mostCandidates c)) (rest && (merged && (modelNumbersOf m && probed))) e in
     let counts = both (not (ltb mostPlanes (st .«max_reflection_planes»))) (not (ltb mostCandidates c)) (a .one) in
-    let b = both rest (merged && modelNumbersOf m) (a .two) in
-    let d = both merged (modelNumbersOf m) (b .two) in
+    let b = both rest (merged && (modelNumbersOf m && probed)) (a .two) in
+    let d = both merged (modelNumbersOf m && probed) (b .two) in
+    let f = both (modelNumbersOf m) probed (d .two) in
+    let g = both (not (ltb limit leastCrossings)) (not (ltb mostCrossings limit) && wide) (f .two) in
+    let h = both (not (ltb mostCrossings limit)) wide (g .two) in
     record {
       planes = ltb-false mostPlanes (st .«max_reflection_planes») (negated (ltb mostPlanes (st .«max_reflection_planes»)) (counts .one));
       room = ltb-false mostCandidates c (negated (ltb mostCandidates c) (counts .two));
       rates = subst T (sym (b .one)) tt;
-      model = subst T (sym (d .two)) tt;
+      model = subst T (sym (f .one)) tt;
+      crossings = ltb-false mostCrossings limit (negated (ltb mostCrossings limit) (h .one));
     }
 
 -- ---- the answer
@@ -204,14 +212,14 @@ fate-rays Faint q = refl
 fate-rays (Passed c) q = refl
 
 module _ (st : Settings) (planes : List Plane) (tri : ℕ → Triangle) (t : Tree) (materials : List Float) (source listener : Vec3) where
-  outcome-rays : (seq : List ℕ) → raysOf (outcomesOf st planes tri t materials source listener seq) ≤ 162 * (length seq + 1)
+  outcome-rays : (seq : List ℕ) → raysOf (outcomesOf st planes tri t materials source listener seq) ≤ 18 * (st .«crossing_limit» + 1) * (length seq + 1)
   unfolding outcomeOf
   outcome-rays seq =
-      subst (λ (n : ℕ). n ≤ 162 * (length seq + 1))
+      subst (λ (n : ℕ). n ≤ 18 * (st .«crossing_limit» + 1) * (length seq + 1))
       (sym (fate-rays (pathOf st planes tri t materials source listener seq .fate) (pathOf st planes tri t materials source listener seq .rays)))
       (path-rays st planes tri t materials source listener seq)
 
-  all-rays : (seqs : List (List ℕ)) → raysFor (outcomesOf st planes tri t materials source listener) seqs ≤ mostRays maxCrossings seqs
+  all-rays : (seqs : List (List ℕ)) → raysFor (outcomesOf st planes tri t materials source listener) seqs ≤ mostRays (st .«crossing_limit») seqs
   unfolding raysFor mostRays
   all-rays [] = omega arith
   all-rays (q ∷ qs) = let h = outcome-rays q in let i = all-rays qs in add-le-add h i
@@ -250,7 +258,7 @@ traced st c s source listener separated r out out′ found left h w =
           given-rays (onOf (planesFor st (triangles s)) source) (orderOf st s source listener separated) (st .«speed_of_sound») (st .«sample_rate») (limitOf st) c
           (pathFor st (triangles s) (s .materials) source listener) a (g .1)
           in
-          subst (λ (n : ℕ). n ≤ mostRays maxCrossings (visited (onOf (planesFor st (triangles s)) source) (orderOf st s source listener separated))) (sym same)
+          subst (λ (n : ℕ). n ≤ mostRays (st .«crossing_limit») (visited (onOf (planesFor st (triangles s)) source) (orderOf st s source listener separated))) (sym same)
           (all-rays st (planesFor st (triangles s)) (triangleAt (triangles s)) (treeOf (triangles s)) (s .materials) source listener
           (visited (onOf (planesFor st (triangles s)) source) (orderOf st s source listener separated)));
     }

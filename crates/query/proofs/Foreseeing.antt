@@ -24,7 +24,6 @@ use Rattle.bounces.specs.Image.{liesOnOf}
 use Rattle.sequences.specs.Allowed.{most, allowed, visited}
 use Rattle.sequences.specs.Count.{firsts}
 use Rattle.sequences.proofs.Counting.{order-zero}
-use Rattle.segments.specs.Segment.{maxCrossings}
 use Rattle.cost.specs.Cost.{takes, costOf}
 use Rattle.cost.specs.Forecast.{mostRays, Counts, Forecast}
 use Rattle.cost.specs.declared.Cost.{Cost}
@@ -123,10 +122,10 @@ no-rays : (limit : ℕ) → mostRays limit [] ≡ 0
 unfolding mostRays
 no-rays limit = refl
 
-not-turned : (limit planes first order triples : ℕ) → costOf limit planes first order triples .refusal ≡ 0 → takes planes first order triples ≡ true
-not-turned limit planes first order triples e = go (takes planes first order triples) refl
+not-turned : (limit planes first order triples : ℕ) → costOf limit planes first order triples .refusal ≡ 0 → takes limit planes first order triples ≡ true
+not-turned limit planes first order triples e = go (takes limit planes first order triples) refl
   where
-    go : (b : Bool) → takes planes first order triples ≡ b → takes planes first order triples ≡ true
+    go : (b : Bool) → takes limit planes first order triples ≡ b → takes limit planes first order triples ≡ true
     go true f = f
     go false f = absurd (let z : _≡_ {A = ℕ} 14 0 = sym (ap (λ (r : Cost). r .refusal) (turned-away limit planes first order triples f)) ∙ e in omega arith)
 
@@ -137,12 +136,13 @@ on-length st s source = length-map (planesFor st (triangles s)) (λ (plane : Pla
 -- what is forecast of the images that a call visits
 counts-seen :
     (st : Settings) (s : Scene) (source : Vec3) (triples : ℕ) → forecastOf st s source triples .refusal ≡ 0 →
-    Counts maxCrossings triples (visited (onOf (planesFor st (triangles s)) source) (min (st .«max_reflection_order») maxOrder)) (forecastOf st s source triples)
+    Counts (st .«crossing_limit») triples (visited (onOf (planesFor st (triangles s)) source) (min (st .«max_reflection_order») maxOrder)) (forecastOf st s source triples)
 counts-seen st s source triples e =
     let n = length (planesFor st (triangles s)) in
     let f = firsts (onOf (planesFor st (triangles s)) source) in
     let o = min (st .«max_reflection_order») maxOrder in
-    forecast maxCrossings n f o triples (costOf maxCrossings n f o triples) refl .counts (not-turned maxCrossings n f o triples e)
+    let limit = st .«crossing_limit» in
+    forecast limit n f o triples (costOf limit n f o triples) refl .counts (not-turned limit n f o triples e)
     (onOf (planesFor st (triangles s)) source) (on-length st s source) refl
 
 -- ---- what is answered
@@ -172,8 +172,9 @@ foreseen st c s source listener separated r out out′ areas left triples t e =
     let few : length (seenOf st s source listener separated) ≤ forecastOf st s source triples .candidates =
     subst (λ (n : ℕ). length (seenOf st s source listener separated) ≤ n) (sym (k .candidates)) (used-less length refl on silent order)
     in
-    let cheap : mostRays maxCrossings (seenOf st s source listener separated) ≤ forecastOf st s source triples .rays =
-    subst (λ (n : ℕ). mostRays maxCrossings (seenOf st s source listener separated) ≤ n) (sym (k .rays)) (used-less (mostRays maxCrossings) (no-rays maxCrossings) on silent order)
+    let limit = st .«crossing_limit» in
+    let cheap : mostRays limit (seenOf st s source listener separated) ≤ forecastOf st s source triples .rays =
+    subst (λ (n : ℕ). mostRays limit (seenOf st s source listener separated) ≤ n) (sym (k .rays)) (used-less (mostRays limit) (no-rays limit) on silent order)
     in
     let call = callOf st c s source listener separated areas out in
     subst (Foreseen c (forecastOf st s source triples)) (sym (t .answer))

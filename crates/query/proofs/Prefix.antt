@@ -25,7 +25,7 @@ use Rattle.scene.specs.Limits.{settingsOf}
 use Rattle.scene.specs.Refusals.{refusal1}
 use Rattle.segments.specs.declared.Transmission.{Transmission}
 use Rattle.segments.specs.Materials.{transmissionOf}
-use Rattle.segments.specs.Segment.{maxCrossings, visibilityRadius, segmentSoftTransmissionOf}
+use Rattle.segments.specs.Segment.{segmentSoftTransmissionOf}
 use Rattle.segments.specs.Areas.{traceIn}
 use Rattle.bounces.specs.Image.{imageOf}
 use Rattle.bounces.specs.Bounces.{Bounces, notCrossed, offSurface, made, bouncesOf}
@@ -70,7 +70,7 @@ module _ (st : Settings) (a b : ℕ) where
   unfolding pathOf pathWith
   path-same planes tri t materials source listener seq =
       ap (λ (v : Verdict). cond (le (distance3Of listener (imageOf planes source seq)) (st .«max_reflection_distance»)) v (verdict TooFar 0))
-      (bounced-same (segmentSoftTransmissionOf (traceIn tri t) (transmissionOf materials) maxCrossings visibilityRadius) materials tri (length seq) source listener
+      (bounced-same (segmentSoftTransmissionOf (traceIn tri t) (transmissionOf materials) (st .«crossing_limit») (st .«probe_radius»)) materials tri (length seq) source listener
       (bouncesOf tri (st .«reflection_edge_fade») planes source listener seq))
 
   planes-same : (ts : List Triangle) → planesFor (withList st a) ts ≡ planesFor (withList st b) ts

@@ -26,6 +26,8 @@ withList st k =
       «plane_merge_offset» = st .«plane_merge_offset»;
       «plane_buried_distance» = st .«plane_buried_distance»;
       «distance_model» = st .«distance_model»;
+      «crossing_limit» = st .«crossing_limit»;
+      «probe_radius» = st .«probe_radius»;
     }
 
 -- "the taps for a are the first a of the taps for b, or all where there are fewer, zeros of either sign alike, with equal images and rays": of two answers,

@@ -12,7 +12,6 @@ use Rattle.placing.specs.Corners.{triangles}
 use Rattle.placing.specs.Loading.{firstRefusal}
 use Rattle.bounces.specs.Areas.{maxOrder}
 use Rattle.sequences.specs.Allowed.{visited}
-use Rattle.segments.specs.Segment.{maxCrossings}
 use Rattle.cost.specs.Forecast.{mostRays}
 use Rattle.claim.specs.Answer.{Answer}
 use Rattle.claim.specs.Complete.{Complete}
@@ -60,7 +59,7 @@ pub record Traced
       (a : Answer) → callOf st c s source listener separated found out ≡ given a →
       Complete (onOf (planesFor st (triangles s)) source) (orderOf st s source listener separated) (st .«speed_of_sound») (st .«sample_rate») (limitOf st)
       (pathFor st (triangles s) (s .materials) source listener) a
-  -- "An image of order n costs at most 162 × (n + 1)"
+  -- "An image of order n then costs at most 18 × (limit + 1) × (n + 1) rays"
   pub rays :
       (a : Answer) → callOf st c s source listener separated found out ≡ given a →
-      a .rays ≤ mostRays maxCrossings (visited (onOf (planesFor st (triangles s)) source) (orderOf st s source listener separated))
+      a .rays ≤ mostRays (st .«crossing_limit») (visited (onOf (planesFor st (triangles s)) source) (orderOf st s source listener separated))

@@ -41,6 +41,20 @@ mostRate = ofBits binary32 0x483b_8000
 abbrev pub mostModelNumber : Float
 mostModelNumber = ofBits binary32 0x4974_2400
 
+-- the crossings of a half segment, 1 to 32
+abbrev pub leastCrossings : ℕ
+leastCrossings = 1
+
+abbrev pub mostCrossings : ℕ
+mostCrossings = 32
+
+-- `OCCLUSION_MAX_CROSSINGS` and `REFLECTION_VISIBILITY_RADIUS`, 0.06: the Rust's crossing limit and probe radius
+abbrev pub maxCrossings : ℕ
+maxCrossings = 8
+
+abbrev pub visibilityRadius : Float
+visibilityRadius = ofBits binary32 0x3d75_c28f
+
 -- from `low` to `high`
 unfoldable pub betweenOf : Float → Float → Float → Bool
 betweenOf x low high = le low x && le x high
@@ -70,9 +84,14 @@ modelNumbersOf m =
     modelNumberOf (m .«reference_distance»)
     && (modelNumberOf (m .«rolloff_factor») && (modelNumberOf (m .«min_distance») && modelNumberOf (m .«max_distance»)))
 
+-- the crossing limit within its limits, the probe radius 0 to 1
+unfoldable pub probesOf : ℕ → Float → Bool
+probesOf limit radius = not (ltb limit leastCrossings) && (not (ltb mostCrossings limit) && betweenOf radius zero32 one32)
+
 -- every setting, and the candidate room c, within its limits; order and `max_reflections` may be any
 unfoldable pub settingsOf : Settings → ℕ → Bool
 settingsOf s c =
     countsOf (s .«max_reflection_planes») c
     && (ratesOf (s .«max_reflection_distance») (s .«speed_of_sound») (s .«sample_rate»)
-    && (mergesOf (s .«plane_merge_cos») (s .«reflection_edge_fade») (s .«plane_merge_offset») (s .«plane_buried_distance») && modelNumbersOf (s .«distance_model»)))
+    && (mergesOf (s .«plane_merge_cos») (s .«reflection_edge_fade») (s .«plane_merge_offset») (s .«plane_buried_distance»)
+    && (modelNumbersOf (s .«distance_model») && probesOf (s .«crossing_limit») (s .«probe_radius»))))

@@ -4,12 +4,13 @@ use bands::DistanceModel;
 ghost use mathlib.Core.Path.{_≡_};
 ghost use Prim.Native.Nat.{_+_, _≤_, _<_, min};
 ghost use lib.ListN.{length};
-ghost use Rattle.scene.specs.Limits.{mostTriples, betweenOf, aboveZeroOf, countsOf, ratesOf, mergesOf, modelNumberOf, modelNumbersOf, settingsOf};
+ghost use Rattle.scene.specs.Limits.{mostTriples, betweenOf, aboveZeroOf, countsOf, ratesOf, mergesOf, modelNumberOf, modelNumbersOf, probesOf, settingsOf};
 ghost use Rattle.scene.specs.Scene.{scene, headers, tripleSum};
 ghost use Rattle.scene.specs.Areas.{shortOf};
 ghost use Rattle.scene.specs.Refusals.{meshesWhole, transformsRight, positionsRight, indicesRight, materialsRight, lengthsRightOf, unknownHandle, checkOf};
 
-// The settings of a query, by the Rust's names. `plane_merge_angle_deg` is its cosine, and whether it is above 0.
+// The settings of a query, by the Rust's names. `plane_merge_angle_deg` is its cosine, and whether it is above 0. `crossing_limit` and `probe_radius` are
+// the Rust's constants `OCCLUSION_MAX_CROSSINGS` and `REFLECTION_VISIBILITY_RADIUS`.
 pub struct Settings {
     pub max_reflection_order: u32,
     pub max_reflections: u32,
@@ -23,6 +24,8 @@ pub struct Settings {
     pub plane_merge_offset: f32,
     pub plane_buried_distance: f32,
     pub distance_model: DistanceModel,
+    pub crossing_limit: u32,
+    pub probe_radius: f32,
 }
 
 // The first refusal of 1 to 5 that applies, or how many whole triples the scene has.
@@ -34,6 +37,15 @@ pub enum Checked {
 const MOST_PLANES: u32 = 256;
 
 const MOST_CANDIDATES: u32 = 250_000;
+
+const LEAST_CROSSINGS: u32 = 1;
+
+pub const MOST_CROSSINGS: u32 = 32;
+
+// The Rust's values of the last two settings.
+pub const OCCLUSION_MAX_CROSSINGS: u32 = 8;
+
+pub const REFLECTION_VISIBILITY_RADIUS: f32 = 0.06;
 
 pub const MOST_TRIPLES: usize = 4096;
 
@@ -184,6 +196,19 @@ fn model_numbers(m: DistanceModel) -> bool
     false
 }
 
+// The crossing limit and the probe radius.
+fn probes(limit: u32, radius: f32) -> bool
+    ensures { λ r. ⌜ r ≡ probesOf limit radius ⌝ }
+{
+    if limit < LEAST_CROSSINGS {
+        return false;
+    }
+    if limit > MOST_CROSSINGS {
+        return false;
+    }
+    between(radius, 0.0, 1.0)
+}
+
 fn within_limits(s: Settings, c: u32) -> bool
     ensures { λ r. ⌜ r ≡ settingsOf s c ⌝ }
 {
@@ -195,7 +220,9 @@ fn within_limits(s: Settings, c: u32) -> bool
                 s.plane_merge_offset,
                 s.plane_buried_distance,
             ) {
-                return model_numbers(s.distance_model);
+                if model_numbers(s.distance_model) {
+                    return probes(s.crossing_limit, s.probe_radius);
+                }
             }
         }
     }

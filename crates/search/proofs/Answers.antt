@@ -19,7 +19,6 @@ use Rattle.order.proofs.Runs.{In, in-upTo}
 use Rattle.scene.specs.declared.Settings.{Settings}
 use Rattle.scene.specs.Limits.{ratesOf}
 use Rattle.mirror.specs.Plane.{Plane}
-use Rattle.segments.specs.Segment.{maxCrossings, visibilityRadius}
 use Rattle.sequences.specs.Allowed.{visited}
 use Rattle.sequences.specs.Members.{IsAllowed}
 use Rattle.sequences.proofs.Numbers.{is-visited}
@@ -74,7 +73,7 @@ module _ (s : Settings) (planes : List Plane) (tri : ℕ → Triangle) (t : Tree
   unfolding outcomeOf pathOf
   paths-proper on order seq r f a e =
       by-fate (pathOf s planes tri t materials source listener seq .fate) (pathOf s planes tri t materials source listener seq .rays) r f
-      (path-numbers maxCrossings visibilityRadius s planes tri t materials source listener seq within (a .some)) e
+      (path-numbers (s .«crossing_limit») (s .«probe_radius») s planes tri t materials source listener seq within (a .some)) e
 
 -- ---- rows
 

@@ -1,9 +1,10 @@
 -- Laws on the definitions: planes that may come first, candidates in rows, one visit.
-use Prim.Native.Nat.{ℕ, zero, suc, _+_, _≤_, _<_}
+use Prim.Native.Nat.{ℕ, zero, suc, _+_, _*_, _≤_, _<_}
 use mathlib.Core.Path.{_≡_, refl, sym, ap, _∙_}
 use mathlib.Core.Bool.{Bool, true, false, not, cond}
 use mathlib.Core.Logic.{inl, inr}
 use mathlib.Core.List.{List, [], _∷_, _++_}
+use native.Mathlib.Nat.{mul-le-mul}
 use native.Mathlib.Omega.{arith}
 use lib.ListN.{length, getD, take, length-map, length-append}
 use lib.Dec.{eqb, ltb}
@@ -12,9 +13,11 @@ use borrow.Author.Tests.{lt-ltb, le-ltb}
 use Rattle.vector.specs.declared.Vec3.{Vec3}
 use Rattle.vector.specs.Vector.{length3Of, distance3Of}
 use Rattle.order.specs.Runs.{upTo}
+use Rattle.scene.specs.Limits.{mostCrossings}
 use Rattle.mirror.specs.Plane.{Plane, planeAt}
 use Rattle.mirror.specs.Rows.{planeIn, planesIn}
 use Rattle.bounces.specs.Image.{liesOnOf}
+use Rattle.bounces.specs.Areas.{maxOrder}
 use Rattle.sequences.specs.Allowed.{may}
 use Rattle.sequences.proofs.Laws.{may-first}
 use Rattle.ranking.specs.declared.Candidate.{Candidate}
@@ -29,12 +32,22 @@ use Rattle.paths.proofs.Fate as fate
 use denote.Enum.Declared.{tagOf}
 use types.Run.{OneOf}
 use Rattle.search.specs.Outcome.{onOf, foundOf, byFate}
-use Rattle.search.specs.Contract.{squareOf, Beyond}
+use Rattle.search.specs.Contract.{squareOf, Beyond, mostRays}
 
 upTo-length : (n : ℕ) → length (upTo n) ≡ n
 unfolding upTo
 upTo-length zero = refl
 upTo-length (suc n) = let e = upTo-length n in length-append (upTo n) (n ∷ []) ∙ (let f : length (upTo n) + 1 ≡ suc n = omega arith in f)
+
+-- ---- rays
+
+-- a path within its bound takes no more than any path may
+pub path-most : (limit len n : ℕ) → n ≤ 18 * (limit + 1) * (len + 1) → limit ≤ mostCrossings → len ≤ maxOrder → n ≤ mostRays
+path-most limit len n h few short =
+    let one : 18 * (limit + 1) ≤ 18 * (mostCrossings + 1) = omega arith in
+    let two : len + 1 ≤ maxOrder + 1 = omega arith in
+    let a : 18 * (limit + 1) * (len + 1) ≤ mostRays = mul-le-mul one two in
+    omega arith
 
 -- ---- planes
 

@@ -68,6 +68,7 @@ module _ (S : Scene) (q : Task) where
       some = omega arith;
       within = omega (arith, r .deep, r .within);
       under = omega (arith, room, r .bound);
+      crossings = r .crossings;
       far = r .far;
       lent = r .lent;
       room = r .room;
@@ -114,6 +115,7 @@ module _ (S : Scene) (q : Task) where
     within = k .within;
     small = k .small;
     bound = k .bound;
+    crossings = k .crossings;
     far = k .far;
     lent = k .lent;
     room = record { few = k .room .few; floats = rw e (k .room .floats); words = rw f (k .room .words) };

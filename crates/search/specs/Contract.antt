@@ -11,6 +11,7 @@ use Rattle.build.specs.Tree.{Tree}
 use Rattle.float.specs.Sqrt.{sqrtOf}
 use Rattle.vector.specs.declared.Vec3.{Vec3}
 use Rattle.vector.specs.Vector.{sub3Of, dot3Of}
+use Rattle.scene.specs.Limits.{mostCrossings}
 use Rattle.mirror.specs.Plane.{Plane}
 use Rattle.mirror.specs.Rows.{planesIn}
 use Rattle.float.specs.Literals.{one32}
@@ -88,9 +89,9 @@ Lost columns n floats words members edges count seq images len listener =
     (tri : ℕ → Triangle) (fade : Float) → PlanesRead tri columns n floats words members count →
     fateOf (backOf tri fade (planeOn (planesIn floats words members edges count) seq) (pointIn images) len listener one32 [] []) ≡ madeFate → ⊥
 
--- what a path takes at most: 162 × 9 rays
+-- no path takes more rays, by any limit and order that are allowed: what keeps the count of rays from wrapping
 abbrev pub mostRays : ℕ
-mostRays = 1458
+mostRays = 18 * (mostCrossings + 1) * (maxOrder + 1)
 
 module _ (S : Scene) (q : Task) where
   -- the planes, what is asked of the areas, and what they read as
@@ -128,6 +129,7 @@ module _ (S : Scene) (q : Task) where
     pub within : q .order ≤ maxOrder
     pub small : q .count ≤ mostPlanes
     pub bound : q .limit ≤ most
+    pub crossings : q .settings .«crossing_limit» ≤ mostCrossings
     pub far : Beyond (q .settings .«max_reflection_distance») (q .beyond)
     pub lent : LentAs
     pub room : Rows (q .room) fs ws
@@ -138,6 +140,7 @@ module _ (S : Scene) (q : Task) where
     pub some : 0 < len
     pub within : len ≤ maxOrder
     pub under : s .nodes < most
+    pub crossings : q .settings .«crossing_limit» ≤ mostCrossings
     pub far : Beyond (q .settings .«max_reflection_distance») (q .beyond)
     pub lent : LentAs
     pub room : Rows (q .room) fs ws

@@ -13,6 +13,7 @@ ghost use lib.ListN.{length, getD, take, set};
 ghost use lib.Ieee.{Float, lt};
 ghost use Rattle.geometry.specs.declared.Triangle.{Triangle};
 ghost use Rattle.build.specs.Tree.{Tree};
+ghost use Rattle.scene.specs.Limits.{mostCrossings};
 ghost use Rattle.mirror.specs.Plane.{noPoint, planeAt};
 ghost use Rattle.mirror.specs.Mirror.{mirrorOf};
 ghost use Rattle.mirror.specs.Rows.{planeFloats, planeWords, planesIn};
@@ -723,7 +724,7 @@ pub fn search_images(
 ) -> Found
     requires { ⌜ Lent (now padded) (now nodes) (now «leaf_order») (now leaves) (now handles) «nodes_count» (now materials) (now triangles) n (now «plane_floats»)
         (now «plane_words») (now «plane_triangles») (now «plane_edges») count ⌝ }
-    requires { ⌜ (order ≤ maxOrder) × (count ≤ spec.mostPlanes) ⌝ }
+    requires { ⌜ (order ≤ maxOrder) × (count ≤ spec.mostPlanes) × (settings .«crossing_limit» ≤ mostCrossings) ⌝ }
     requires { ⌜ Rows room (now «candidate_floats») (now «candidate_words») ⌝ }
     ensures { λ r.
         ⌜ ((tri : ℕ → Triangle) (t : Tree) →

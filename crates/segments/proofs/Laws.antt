@@ -3,7 +3,8 @@
 use mathlib.Core.Path.{_≡_, refl}
 use mathlib.Core.Bool.{Bool, true, false, cond}
 use lib.Dec.{eqb}
-use Prim.Native.Nat.{ℕ, zero, suc, _+_, _-_, _*_, _≤_}
+use Prim.Native.Nat.{ℕ, zero, suc, _+_, _-_, _*_, _^_, _≤_, _<_}
+use native.Mathlib.Nat.{mul-le-mul}
 use native.Mathlib.Omega.{arith}
 use lib.Ieee.{Float, binary32, sub, mul, lt}
 use Rattle.float.specs.Literals.{zero32, one32}
@@ -127,3 +128,15 @@ module _ (trace : Ray → Hit) (pass : ℕ → Band8) where
         let r : probesOf trace pass limit radius from to (probeBasisOf (normalize3Of (sub3Of to from))) probeCount .rays ≤ (probeCount + 1) * (2 * (limit + 1)) =
         probes-bound (probeBasisOf (normalize3Of (sub3Of to from))) probeCount in
         omega arith
+
+-- ---- the sums of the loop over the probes around the middle
+
+pub probes-fit : (limit k n : ℕ) → n ≤ 2 * (limit + 1) * (k + 1) → k < probeCount → 18 * (limit + 1) < 2 ^ 32 → n + 2 * (limit + 1) < 2 ^ 32
+probes-fit limit k n h l f =
+    let same : 2 * (limit + 1) ≤ 2 * (limit + 1) = omega arith in
+    let few : k + 1 ≤ probeCount = omega arith in
+    let a : 2 * (limit + 1) * (k + 1) ≤ 2 * (limit + 1) * probeCount = mul-le-mul same few in
+    omega arith
+
+pub probes-all : (limit k n : ℕ) → n ≤ 2 * (limit + 1) * (k + 1) → k ≡ probeCount → n ≤ 18 * (limit + 1)
+probes-all limit k n h e = let a : n ≤ 2 * (limit + 1) * (probeCount + 1) = rw e at h in omega arith

@@ -1,6 +1,6 @@
 -- `segment_transmission` and `segment_soft_transmission`, each with the traces that it makes: document 01's 'rays counts each trace of the tree'.
 -- `trace` says what a ray hits, `pass` what a surface of a handle lets through, `limit` how many crossings of a half segment count, and
--- `radius` how wide the probes are set.
+-- `radius` how wide the probes are set: the Rust's `OCCLUSION_MAX_CROSSINGS` and `REFLECTION_VISIBILITY_RADIUS`.
 use Prim.Native.Nat.{ℕ, zero, suc, _+_}
 use lib.Ieee.{Float, binary32, add, sub, mul, div, lt, ofBits}
 use mathlib.Core.Bool.{cond}
@@ -19,17 +19,9 @@ use Rattle.trace.specs.declared.Hit.{Hit}
 use Rattle.trace.specs.declared.Hit.the-variants.{Nothing, At}
 use Rattle.segments.specs.declared.Transmission.{Transmission}
 
--- `OCCLUSION_MAX_CROSSINGS`
-abbrev pub maxCrossings : ℕ
-maxCrossings = 8
-
 -- `OCCLUSION_EPS`, 1e-3
 abbrev pub occlusionEps : Float
 occlusionEps = ofBits binary32 0x3a83_126f
-
--- `REFLECTION_VISIBILITY_RADIUS`, 0.06
-abbrev pub visibilityRadius : Float
-visibilityRadius = ofBits binary32 0x3d75_c28f
 
 -- `REFLECTION_VISIBILITY_RAYS`, 9: one in the middle and eight around it
 abbrev pub visibilityRays : Float

@@ -1,5 +1,5 @@
 // What is left of a sound along a segment: the product of what each surface on the way lets through, averaged over a bundle of nine probes.
-// Each answer counts the traces made for it.
+// Each answer counts the traces made for it. A half segment counts `crossing_limit` crossings, and the probes are set `probe_radius` from the middle.
 use bands::Band8;
 use trace::Hit;
 use vector::Angle;
@@ -13,15 +13,11 @@ ghost use Rattle.vector.specs.Vector.{length3Of, normalize3Of};
 ghost use Rattle.geometry.specs.declared.Triangle.{Triangle};
 ghost use Rattle.build.specs.Tree.{Tree};
 ghost use Rattle.segments.specs.Materials.{materialFloats, bandsIn, clampedOf, transmissionOf, coefficientOf, coefficientsOf, reflectionOf};
-ghost use Rattle.segments.specs.Segment.{maxCrossings, visibilityRadius, transmission, segmentRayOf, walkOf};
+ghost use Rattle.segments.specs.Segment.{transmission, segmentRayOf, walkOf};
 ghost use Rattle.segments.specs.Segment.{segmentTransmissionOf, offsetOf, midOf, addPartOf, probeOf, segmentSoftTransmissionOf};
 ghost use Rattle.segments.specs.Areas.{traceIn, TreeReads, Traceable};
 
 const OCCLUSION_EPS: f32 = 1e-3;
-
-pub const OCCLUSION_MAX_CROSSINGS: usize = 8;
-
-const REFLECTION_VISIBILITY_RADIUS: f32 = 0.06;
 
 // One probe in the middle and eight around it.
 const REFLECTION_VISIBILITY_RAYS: f32 = 9.0;
@@ -140,7 +136,7 @@ fn walk(
     count: usize,
     materials: &[f32],
     dir: Vec3,
-    left: usize,
+    left: u32,
     origin: Vec3,
     remaining: f32,
     product: Band8,
@@ -215,15 +211,17 @@ fn segment_transmission(
     handles: &[u32],
     count: usize,
     materials: &[f32],
+    crossing_limit: u32,
     from: Vec3,
     to: Vec3,
 ) -> Transmission
     requires { ⌜ Traceable (now padded) (now nodes) (now «leaf_order») (now leaves) (now handles) count (now materials) ⌝ }
+    requires { ⌜ «crossing_limit» + 1 < 2 ^ 32 ⌝ }
     ensures { λ r.
         ⌜ ((tri : ℕ → Triangle) (t : Tree) →
         TreeReads (now (padded .entry)) (now (nodes .entry)) (now («leaf_order» .entry)) (now (leaves .entry)) (now (handles .entry)) tri t →
-        r ≡ segmentTransmissionOf (traceIn tri t) (transmissionOf (now (materials .entry))) maxCrossings from to) ⌝ }
-    ensures { λ r. ⌜ r .rays ≤ maxCrossings + 1 ⌝ }
+        r ≡ segmentTransmissionOf (traceIn tri t) (transmissionOf (now (materials .entry))) «crossing_limit» from to) ⌝ }
+    ensures { λ r. ⌜ r .rays ≤ «crossing_limit» + 1 ⌝ }
 {
     let v = vector::sub3(to, from);
     let total = vector::length3(v);
@@ -237,7 +235,7 @@ fn segment_transmission(
         count,
         materials,
         dir,
-        OCCLUSION_MAX_CROSSINGS,
+        crossing_limit,
         from,
         total,
         bands::splat(1.0),
@@ -247,13 +245,13 @@ fn segment_transmission(
 
 // ---- the bundle
 
-fn offset(b: Basis, a: Angle) -> Vec3
-    ensures { λ r. ⌜ r ≡ offsetOf visibilityRadius b a ⌝ }
+fn offset(radius: f32, b: Basis, a: Angle) -> Vec3
+    ensures { λ r. ⌜ r ≡ offsetOf radius b a ⌝ }
 {
     Vec3 {
-        x: REFLECTION_VISIBILITY_RADIUS * (b.u.x * a.cos + b.w.x * a.sin),
-        y: REFLECTION_VISIBILITY_RADIUS * (b.u.y * a.cos + b.w.y * a.sin),
-        z: REFLECTION_VISIBILITY_RADIUS * (b.u.z * a.cos + b.w.z * a.sin),
+        x: radius * (b.u.x * a.cos + b.w.x * a.sin),
+        y: radius * (b.u.y * a.cos + b.w.y * a.sin),
+        z: radius * (b.u.z * a.cos + b.w.z * a.sin),
     }
 }
 
@@ -291,18 +289,19 @@ fn probe(
     handles: &[u32],
     count: usize,
     materials: &[f32],
+    crossing_limit: u32,
     from: Vec3,
     via: Vec3,
     to: Vec3,
     sum: Transmission,
 ) -> Transmission
     requires { ⌜ Traceable (now padded) (now nodes) (now «leaf_order») (now leaves) (now handles) count (now materials) ⌝ }
-    requires { ⌜ sum .rays + 2 * (maxCrossings + 1) < 2 ^ 32 ⌝ }
+    requires { ⌜ sum .rays + 2 * («crossing_limit» + 1) < 2 ^ 32 ⌝ }
     ensures { λ r.
         ⌜ ((tri : ℕ → Triangle) (t : Tree) →
         TreeReads (now (padded .entry)) (now (nodes .entry)) (now («leaf_order» .entry)) (now (leaves .entry)) (now (handles .entry)) tri t →
-        r ≡ probeOf (traceIn tri t) (transmissionOf (now (materials .entry))) maxCrossings from via to sum) ⌝ }
-    ensures { λ r. ⌜ r .rays ≤ sum .rays + 2 * (maxCrossings + 1) ⌝ }
+        r ≡ probeOf (traceIn tri t) (transmissionOf (now (materials .entry))) «crossing_limit» from via to sum) ⌝ }
+    ensures { λ r. ⌜ r .rays ≤ sum .rays + 2 * («crossing_limit» + 1) ⌝ }
 {
     let a = segment_transmission(
         padded,
@@ -312,6 +311,7 @@ fn probe(
         handles,
         count,
         materials,
+        crossing_limit,
         from,
         via,
     );
@@ -323,6 +323,7 @@ fn probe(
         handles,
         count,
         materials,
+        crossing_limit,
         via,
         to,
     );
@@ -332,7 +333,7 @@ fn probe(
     }
 }
 
-// The bundle along a segment: at most 162 traces.
+// The bundle along a segment: nine probes of two halves each.
 pub fn segment_soft_transmission(
     padded: &[f32],
     nodes: &[u32],
@@ -341,15 +342,18 @@ pub fn segment_soft_transmission(
     handles: &[u32],
     count: usize,
     materials: &[f32],
+    crossing_limit: u32,
+    probe_radius: f32,
     from: Vec3,
     to: Vec3,
 ) -> Transmission
     requires { ⌜ Traceable (now padded) (now nodes) (now «leaf_order») (now leaves) (now handles) count (now materials) ⌝ }
+    requires { ⌜ 18 * («crossing_limit» + 1) < 2 ^ 32 ⌝ }
     ensures { λ r.
         ⌜ ((tri : ℕ → Triangle) (t : Tree) →
         TreeReads (now (padded .entry)) (now (nodes .entry)) (now («leaf_order» .entry)) (now (leaves .entry)) (now (handles .entry)) tri t →
-        r ≡ segmentSoftTransmissionOf (traceIn tri t) (transmissionOf (now (materials .entry))) maxCrossings visibilityRadius from to) ⌝ }
-    ensures { λ r. ⌜ r .rays ≤ 18 * (maxCrossings + 1) ⌝ }
+        r ≡ segmentSoftTransmissionOf (traceIn tri t) (transmissionOf (now (materials .entry))) «crossing_limit» «probe_radius» from to) ⌝ }
+    ensures { λ r. ⌜ r .rays ≤ 18 * («crossing_limit» + 1) ⌝ }
 {
     let b = vector::probe_basis(vector::normalize3(vector::sub3(to, from)));
     let still = Vec3 {
@@ -367,13 +371,14 @@ pub fn segment_soft_transmission(
         handles,
         count,
         materials,
+        crossing_limit,
         from,
         at,
         to,
         none,
     );
     for k in 0..PROBES {
-        let via = mid(from, to, offset(b, vector::probe_angle(k)));
+        let via = mid(from, to, offset(probe_radius, b, vector::probe_angle(k)));
         sum = probe(
             padded,
             nodes,
@@ -382,6 +387,7 @@ pub fn segment_soft_transmission(
             handles,
             count,
             materials,
+            crossing_limit,
             from,
             via,
             to,

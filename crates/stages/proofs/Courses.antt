@@ -1,4 +1,4 @@
--- Laws on a course of planes: none, one plane more, all of them; and the number of a path.
+-- Laws on a course of planes: none, one plane more, all of them; and the number of a path. And the crossing limit that C hands over.
 use mathlib.Core.Path.{_≡_, refl, sym, ap, subst, _∙_}
 use mathlib.Core.Bool.{Bool, true, false, cond}
 use mathlib.Core.List.{List, [], _∷_, _++_}
@@ -12,6 +12,9 @@ use lib.Seq.{sets, take-suc, take-suc-set, take-all, getD-take}
 use Rattle.float.proofs.Numbers.{by-order}
 use borrow.Author.Tests.{ne-eqb}
 use Rattle.vector.specs.declared.Vec3.{Vec3}
+use Rattle.scene.specs.declared.Settings.{Settings}
+use Rattle.scene.specs.Limits.{mostCrossings}
+use Rattle.arguments.specs.Settings.{settingsFrom}
 use Rattle.mirror.specs.Plane.{noPoint, planeAt}
 use Rattle.mirror.specs.Mirror.{mirrorOf}
 use Rattle.mirror.specs.Rows.{planesIn}
@@ -157,3 +160,8 @@ points-more l all k room low are j h =
     ∙ put-same l (pointFloats * k) (getD all k noPoint) (omega arith)
     ∙ ap (λ (i : ℕ). getD all i noPoint) (sym z))
     (λ b. put-other l (pointFloats * k) (getD all k noPoint) (pointFloats * j) (omega arith) ∙ are j b)
+
+-- the crossing limit is the sixth count
+pub crossings-within : (counts : List ℕ) (floats : List Float) (s : Settings) → s ≡ settingsFrom counts floats → getD counts 5 0 ≤ mostCrossings → s .«crossing_limit» ≤ mostCrossings
+unfolding settingsFrom
+crossings-within counts floats s e h = subst (λ (t : Settings). t .«crossing_limit» ≤ mostCrossings) (sym e) h

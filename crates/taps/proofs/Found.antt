@@ -21,7 +21,6 @@ use Rattle.build.specs.Tree.{Tree}
 use Rattle.scene.specs.declared.Settings.{Settings}
 use Rattle.scene.specs.Limits.{ratesOf, modelNumbersOf}
 use Rattle.mirror.specs.Plane.{Plane}
-use Rattle.segments.specs.Segment.{maxCrossings, visibilityRadius}
 use Rattle.sequences.specs.Allowed.{visited}
 use Rattle.sequences.specs.Members.{IsAllowed, IsVisited}
 use Rattle.sequences.proofs.Numbers.{is-visited}
@@ -130,8 +129,8 @@ module _ (s : Settings) (planes : List Plane) (tri : ℕ → Triangle) (t : Tree
   unfolding outcomeOf pathOf
   path-sound seq n r f some few e =
       by-fate (pathOf s planes tri t materials source listener seq .fate) (pathOf s planes tri t materials source listener seq .rays) r f n seq
-      (path-numbers maxCrossings visibilityRadius s planes tri t materials source listener seq within some)
-      (path-finite maxCrossings visibilityRadius s planes tri t materials source listener seq within model fit some few) e
+      (path-numbers (s .«crossing_limit») (s .«probe_radius») s planes tri t materials source listener seq within some)
+      (path-finite (s .«crossing_limit») (s .«probe_radius») s planes tri t materials source listener seq within model fit some few) e
 
 -- ---- the rows
 

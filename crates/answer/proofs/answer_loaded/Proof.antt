@@ -34,6 +34,7 @@ find-requires c κs = let s = c .before .before .before .before .before .before 
       for-tree = h .for-tree;
       for-planes = h .for-planes;
       few = h .few;
+      crossings = h .crossings;
       for-found = h .for-found;
     }
 

@@ -63,7 +63,7 @@ search-images-requires c κs = let h = c .before .before .before .before .before
     let w = scene-tree-from-zero (d .scene) (a .triangles .now) (a .handles .now) (a .n) (a .m) (b .last .1 .0) (take (a .m) (b .last .1 .1 .0)) (b .last .0) (b .result .nodes) (b .ensures .tree-stands (d .scene) (d .found) (d .loaded) (d .cleared)) in (
       search-lent (d .scene) (a .triangles .now) (a .handles .now) (a .n) (a .m) (take (12 * a .m - 0) (drop 0 (b .last .0))) (b .last .1 .0) (take (a .m) (b .last .1 .1 .0)) (rowsIn (a .m) (b .last .0)) (b .result .nodes) (b .last .1 .1 .1 .1 .1 .1 .1 .1 .1 .1 .1 .1 .1 .1 .0) (b .last .1 .1 .1 .1 .1 .1 .1 .1 .1 .1 .1 .1 .1 .1 .1 .0) (b .last .1 .1 .1 .1 .1 .1 .1 .1 .1 .1 .1 .1 .1 .0) (b .last .1 .1 .1 .1 .1 .1 .1 .1 .1 .1 .1 .1 .1 .1 .1 .1 .0) (b .result .planes) w (p .held) (a .materials .now) (d .same) (t .columns) (t .some),
       (
-        (omega (arith, c .before .before .before .before .before .before .before .before .before .before .before .before .before .before .before .before .before .before .before .before .before .before .before .before .before .before .before .before .before .before .before .before .before .before .before .before .before .before .before .before .before .before .before .before .before .before .before .before .before .before .before .before .before .before .before .before .before .before .before .before .before .before .before .search-order .ensures), omega (arith, p .most, h .few)),
+        (omega (arith, c .before .before .before .before .before .before .before .before .before .before .before .before .before .before .before .before .before .before .before .before .before .before .before .before .before .before .before .before .before .before .before .before .before .before .before .before .before .before .before .before .before .before .before .before .before .before .before .before .before .before .before .before .before .before .before .before .before .before .before .before .before .before .before .search-order .ensures), omega (arith, p .most, h .few), h .crossings),
         record { few = rr .few; floats = omega (arith, b .kept .1 .1 .1 .1 .1 .1 .1 .1 .1 .1 .1 .1 .0, rr .floats); words = omega (arith, b .kept .1 .1 .1 .1 .1 .1 .1 .1 .0, rr .words) },
       ),
     )

@@ -25,5 +25,7 @@ settings-from-spec =
     (λ c. search needs)
     (λ c. search needs)
     (λ c. search needs)
+    (λ c. search needs)
+    (λ c. search needs)
     (λ c. rw
-    (← c .before .before .before .before .before .before .before .before .before .before .before .before .before .before .before .curve-of .ensures)))
+    (← c .before .before .before .before .before .before .before .before .before .before .before .before .before .before .before .before .before .curve-of .ensures)))

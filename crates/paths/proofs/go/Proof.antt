@@ -5,10 +5,10 @@ use Rattle.paths.proofs.go.Statement.{statement}
 use Rattle.paths.proofs.go.Tie as tie
 
 segment-soft-transmission-requires : tie.Need-segment-soft-transmission-requires
-segment-soft-transmission-requires c κs = c .before .before .before .before .before .before .pre .0
+segment-soft-transmission-requires c κs = (c .before .before .before .before .before .before .pre .0, omega (arith, c .before .before .before .before .before .before .pre .1))
 
-add-t14 : tie.Need-add-t14
-add-t14 c = omega (arith, c .before .before .before .before .before .segment-soft-transmission .ensures .1, c .before .before .before .before .before .before .before .before .before .before .before .before .pre .1)
+add-t16 : tie.Need-add-t16
+add-t16 c = omega (arith, c .before .before .before .before .before .segment-soft-transmission .ensures .1, c .before .before .before .before .before .before .before .before .before .before .before .before .pre .1)
 
 returns : tie.Need-returns
 unfolding goOf
@@ -22,5 +22,5 @@ go-spec =
     segment-soft-transmission-requires
     (λ c κs. tt)
     (λ c κs. tt)
-    add-t14
+    add-t16
     returns)

@@ -1,15 +1,21 @@
 -- `paths::judge` meets its contract, by the trail's fate and the tests of the way.
+use mathlib.Core.Path.{_≡_}
 use Prim.Native.Nat.{_-_}
 use native.Mathlib.Omega.{arith}
 use borrow.Author.Tests.{eq-eqb, ne-eqb}
+use lib.ListN.{take}
 use Rattle.bounces.specs.Areas.{trailOf}
+use Rattle.paths.specs.Visibility.{wayOf}
 use Rattle.paths.specs.Path.{bouncedOf}
+use Rattle.paths.specs.Areas.{softIn}
 use Rattle.paths.proofs.Laws.{last-taken}
 use Rattle.paths.proofs.judge.Statement.{statement}
 use Rattle.paths.proofs.judge.Tie as tie
 
 go-all-requires : tie.Need-go-all-requires
-go-all-requires c κs = (c .before .before .before .before .before .before .before .before .before .pre .0, (c .before .before .before .before .before .before .before .before .before .pre .1 .0 .1, c .before .before .before .before .before .before .before .before .before .pre .1 .1 (c .before .before .if1 .taken) .points-room))
+go-all-requires c κs =
+    let h = c .before .before .before .before .before .before .before .before .before .pre in
+    (h .0, ((h .1 .0 .1, h .1 .1 (c .before .before .if1 .taken) .points-room), omega (arith, h .1 .0 .2)))
 
 sub-last : tie.Need-sub-last
 sub-last c = omega (arith, c .before .before .before .before .before .before .before .before .before .before .before .before .pre .1 .0)
@@ -28,9 +34,10 @@ unfolding bouncedOf trailOf
 returns c =
     let a = c .before .before .before .before .before .before .before .before .before .before .before .before .before .before .before .before .before .args in (
       λ tri t h.
+          let way : c .before .before .before .before .before .before .before .go-all .result ≡ wayOf (softIn (a .s .«crossing_limit») (a .s .«probe_radius») tri t (a .materials .now)) (a .listener) (a .source) (take (a .order) (a .trail .points)) = c .before .before .before .before .before .before .before .go-all .ensures .0 tri t h in
           rw (
             eq-eqb _ _ (c .before .before .before .before .before .before .before .before .before .before .if1 .taken),
-            ← c .before .before .before .before .before .before .before .go-all .ensures .0 tri t h,
+            ← way,
             ← c .before .before .before .before .before .before .usable .ensures,
             c .before .before .before .before .before .if2 .taken,
             ← c .before .before .before .reflected .ensures tri (h .handles-of),

@@ -85,6 +85,7 @@ answer-loaded-requires c κs = let model = c .before .before .before .before .be
               plane-edges-room = omega (arith, room .plane-edges-room);
             };
             few = inside .planes;
+            crossings = inside .crossings;
             for-found = record { few = omega (arith, inside .room); floats = omega (arith, room .floats-room); words = omega (arith, room .numbers-room) };
             sane = record {
               rates = inside .rates;

@@ -8,7 +8,7 @@ use lib.Seq.{length-take-le}
 use Rattle.mirror.specs.Plane.{noPoint}
 use Rattle.claim.specs.Query.{visitPath}
 use Rattle.search.specs.Outcome.{outcomeOf}
-use Rattle.search.proofs.Laws.{judged-fails, judged-passes, not-passed, passed}
+use Rattle.search.proofs.Laws.{path-most, judged-fails, judged-passes, not-passed, passed}
 use Rattle.search.proofs.judge.Statement.{statement}
 use Rattle.search.proofs.judge.Tie as tie
 
@@ -22,13 +22,19 @@ all-points-requires c κs = c .before .before .before .before .before .before .b
 
 validate-image-path-requires : tie.Need-validate-image-path-requires
 validate-image-path-requires c κs = let pre = c .before .before .before .before .before .before .before .before .before .before .before .before .before .before .before .before .before .pre in let k = pre .sound in
-    (pre .lent, ((pre .some, pre .within, ap length (c .before .all-planes .ensures) ∙ k .seq-room), (rw (c .before .all-planes .ensures) (k .planes), rw (c .before .all-planes .ensures) (λ j h. c .all-points .ensures j (omega (arith, h, pre .within)) ∙ k .are j h))))
+    (pre .lent, ((pre .some, pre .within, ap length (c .before .all-planes .ensures) ∙ k .seq-room, pre .crossings), (rw (c .before .all-planes .ensures) (k .planes), rw (c .before .all-planes .ensures) (λ j h. c .all-points .ensures j (omega (arith, h, pre .within)) ∙ k .are j h))))
 
 enum-known-fate : tie.Need-enum-known-fate
 enum-known-fate c = c .match .keys1
 
 counted-requires : tie.Need-counted-requires
-counted-requires c κs = let k = c .before .before .before .before .before .before .before .before .before .before .before .before .before .before .before .before .before .before .before .pre .sound .cost in let m = c .before .before .before .before .before .before .before .before .before .before .before .before .before .before .before .before .before .before .before .pre .under in let l = c .before .before .before .before .before .before .before .before .before .before .before .before .before .before .before .before .before .before .before .pre .within in let b = c .before .validate-image-path .ensures .1 in (omega (arith, m), omega (arith, k, m, l, b))
+counted-requires c κs =
+    let pre = c .before .before .before .before .before .before .before .before .before .before .before .before .before .before .before .before .before .before .before .pre in
+    let a = c .before .before .before .before .before .before .before .before .before .before .before .before .before .before .before .before .before .before .before .args in
+    let k = pre .sound .cost in
+    let m = pre .under in
+    let b = path-most (a .q .settings .«crossing_limit») (a .len) (c .before .validate-image-path .result .rays) (c .before .validate-image-path .ensures .1) (pre .crossings) (pre .within) in
+    (omega (arith, m), omega (arith, k, m, b))
 
 returns : tie.Need-returns
 unfolding visitPath outcomeOf
@@ -38,7 +44,7 @@ returns c = let a = c .before .before .before .before .before .before .before .b
     rw (c .counted .ensures)
     (record {
       counted = refl;
-      cost = let b = v .ensures .1 in omega (arith, b, pre .within);
+      cost = let b = path-most (a .q .settings .«crossing_limit») (a .len) (v .result .rays) (v .ensures .1) (pre .crossings) (pre .within) in omega (arith, b);
       few = pre .sound .few;
       seen =
           λ tri t h.
@@ -47,7 +53,14 @@ returns c = let a = c .before .before .before .before .before .before .before .b
     })
 
 keep-requires : tie.Need-keep-requires
-keep-requires c κs = let pre = c .before .before .before .before .before .before .before .before .before .before .before .before .before .before .before .before .before .before .before .before .before .before .before .pre in let k = pre .sound .cost in let m = pre .under in let l = pre .within in let b = c .before .before .before .before .before .validate-image-path .ensures .1 in ((l, pre .sound .few), ((omega (arith, m), omega (arith, k, m, l, b)), pre .room))
+keep-requires c κs =
+    let pre = c .before .before .before .before .before .before .before .before .before .before .before .before .before .before .before .before .before .before .before .before .before .before .before .pre in
+    let a = c .before .before .before .before .before .before .before .before .before .before .before .before .before .before .before .before .before .before .before .before .before .before .before .args in
+    let k = pre .sound .cost in
+    let m = pre .under in
+    let v = c .before .before .before .before .before .validate-image-path in
+    let b = path-most (a .q .settings .«crossing_limit») (a .len) (v .result .rays) (v .ensures .1) (pre .crossings) (pre .within) in
+    ((pre .within, pre .sound .few), ((omega (arith, m), omega (arith, k, m, b)), pre .room))
 
 same-length : tie.Need-same-length
 same-length c = c .before .before .before .before .keep .kept .1 .1 .1 .1 .1 .0
@@ -64,7 +77,7 @@ returns-2 c = let a = c .before .before .before .before .before .before .before 
     let long : length (take (a .len) (a .seq .now)) ≡ a .len = length-take-le (a .len) (a .seq .now) (omega (arith, pre .sound .seq-room, pre .within)) in
     record {
       counted = k .counted;
-      cost = let b = v .ensures .1 in let e = k .traced in omega (arith, b, e, pre .within);
+      cost = let b = path-most (a .q .settings .«crossing_limit») (a .len) (v .result .rays) (v .ensures .1) (pre .crossings) (pre .within) in let e = k .traced in omega (arith, b, e);
       few = k .few;
       seen =
           λ tri t h.

@@ -26,7 +26,7 @@ expand-images-requires c κs = let a = c .before .before .before .before .before
     let s : State = (state (0 ∷ 0 ∷ 0 ∷ 0 ∷ 0 ∷ 0 ∷ 0 ∷ 0 ∷ []) (c .before .before .before .before .first-images .result) (record { nodes = 0; rays = 0; found = 0; over = 0 })) in
     let new : Fresh q s = record { seq-room = refl; images-room = b .1; image = b .0; no-nodes = refl; no-rays = refl; no-found = refl; not-over = refl } in
     let some = pos-of-ne-zero (c .before .before .before .before .before .before .if1 .left) in
-    record { deep = omega (arith, some); within = pre .1 .0 .0; small = pre .1 .0 .1; bound = omega arith; far = c .before .before .before .before .before .square-beyond .ensures; lent = pre .0; room = pre .1 .1; sound = sound-fresh (scene (a .padded .now) (a .nodes .now) (a .leaf-order .now) (a .leaves .now) (a .handles .now) (a .materials .now) (a .triangles .now) (a .plane-floats .now) (a .plane-words .now) (a .plane-triangles .now) (a .plane-edges .now)) q s new }
+    record { deep = omega (arith, some); within = pre .1 .0 .0; small = pre .1 .0 .1; bound = omega arith; crossings = pre .1 .0 .2; far = c .before .before .before .before .before .square-beyond .ensures; lent = pre .0; room = pre .1 .1; sound = sound-fresh (scene (a .padded .now) (a .nodes .now) (a .leaf-order .now) (a .leaves .now) (a .handles .now) (a .materials .now) (a .triangles .now) (a .plane-floats .now) (a .plane-words .now) (a .plane-triangles .now) (a .plane-edges .now)) q s new }
 
 same-length : tie.Need-same-length
 same-length c = c .before .before .before .before .before .before .before .expand-images .kept .1 .1 .1 .1 .1 .1 .1 .1 .1 .1 .1 .1 .1 .1 .1 .1 .0

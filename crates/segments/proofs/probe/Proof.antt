@@ -5,16 +5,16 @@ use Rattle.segments.proofs.probe.Statement.{statement}
 use Rattle.segments.proofs.probe.Tie as tie
 
 segment-transmission-requires : tie.Need-segment-transmission-requires
-segment-transmission-requires c κs = c .before .before .before .before .before .before .pre .0
+segment-transmission-requires c κs = (c .before .before .before .before .before .before .pre .0, omega (arith, c .before .before .before .before .before .before .pre .1))
 
 segment-transmission-requires-2 : tie.Need-segment-transmission-requires-2
-segment-transmission-requires-2 c κs = c .before .before .before .before .before .before .before .pre .0
-
-add-t16 : tie.Need-add-t16
-add-t16 c = omega (arith, c .before .before .before .before .before .segment-transmission .ensures .1, c .before .before .before .before .before .before .before .before .before .before .before .before .pre .1)
+segment-transmission-requires-2 c κs = (c .before .before .before .before .before .before .before .pre .0, omega (arith, c .before .before .before .before .before .before .before .pre .1))
 
 add-t17 : tie.Need-add-t17
-add-t17 c = omega (arith, c .before .before .before .before .before .segment-transmission2 .ensures .1, c .before .before .before .before .before .before .segment-transmission .ensures .1, c .before .before .before .before .before .before .before .before .before .before .before .before .before .pre .1)
+add-t17 c = omega (arith, c .before .before .before .before .before .segment-transmission .ensures .1, c .before .before .before .before .before .before .before .before .before .before .before .before .pre .1)
+
+add-t18 : tie.Need-add-t18
+add-t18 c = omega (arith, c .before .before .before .before .before .segment-transmission2 .ensures .1, c .before .before .before .before .before .before .segment-transmission .ensures .1, c .before .before .before .before .before .before .before .before .before .before .before .before .before .pre .1)
 
 returns : tie.Need-returns
 unfolding probeOf
@@ -31,6 +31,6 @@ probe-spec =
     segment-transmission-requires-2
     (λ c κs. tt)
     (λ c κs. tt)
-    add-t16
     add-t17
+    add-t18
     returns)

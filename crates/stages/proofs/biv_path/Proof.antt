@@ -1,7 +1,7 @@
 -- `exports::biv_path` meets its contract: by that of `validate_image_path`, on the course of the sequence.
 use native.Mathlib.Omega.{arith}
 use borrow.Author.Needs.{needs}
-use Rattle.stages.proofs.Courses.{whole, planes-below, walked-passed, walked-not}
+use Rattle.stages.proofs.Courses.{whole, planes-below, crossings-within, walked-passed, walked-not}
 use Rattle.stages.proofs.biv_path.Statement.{statement}
 use Rattle.stages.proofs.biv_path.Tie as tie
 
@@ -24,7 +24,7 @@ validate-image-path-requires c κs =
     let is = c .before .before .course-of .ensures in
     let a = c .before .before .before .before .before .before .before .before .before .before .before .before .before .before .before .before .before .before .before .before .before .before .before .before .args in
     let l = c .before .before .course-of .result .seq in
-    (c .before .before .before .before .before .before .before .before .before .before .before .before .before .before .before .before .before .before .before .before .before .before .before .before .pre .0, ((c .before .before .before .before .before .before .before .before .before .before .before .before .before .before .before .before .before .before .before .before .before .before .before .before .pre .1 .1 .0 .0, c .before .before .before .before .before .before .before .before .before .before .before .before .before .before .before .before .before .before .before .before .before .before .before .before .pre .1 .1 .0 .1, is .seq-room), (planes-below (a .seq .now) l (a .count) (whole (a .seq .now) l (is .planes)) (c .before .before .before .before .before .before .before .before .before .before .before .before .before .before .before .before .before .before .before .before .before .before .before .before .pre .1 .1 .1 .0), is .mirrored (a .plane-triangles .now) (a .plane-edges .now))))
+    (c .before .before .before .before .before .before .before .before .before .before .before .before .before .before .before .before .before .before .before .before .before .before .before .before .pre .0, ((c .before .before .before .before .before .before .before .before .before .before .before .before .before .before .before .before .before .before .before .before .before .before .before .before .pre .1 .1 .0 .0, c .before .before .before .before .before .before .before .before .before .before .before .before .before .before .before .before .before .before .before .before .before .before .before .before .pre .1 .1 .0 .1, is .seq-room, crossings-within (a .counts .now) (a .setting-floats .now) (c .before .before .before .before .before .settings-from .result) (c .before .before .before .before .before .settings-from .ensures) (c .before .before .before .before .before .before .before .before .before .before .before .before .before .before .before .before .before .before .before .before .before .before .before .before .pre .1 .1 .0 .2)), (planes-below (a .seq .now) l (a .count) (whole (a .seq .now) l (is .planes)) (c .before .before .before .before .before .before .before .before .before .before .before .before .before .before .before .before .before .before .before .before .before .before .before .before .pre .1 .1 .1 .0), is .mirrored (a .plane-triangles .now) (a .plane-edges .now))))
 
 slice-write-rays : tie.Need-slice-write-rays
 slice-write-rays c = omega (arith, c .before .before .before .before .before .before .before .before .before .before .before .before .before .before .before .before .before .before .before .before .before .before .before .before .before .before .pre .1 .1 .1 .1 .3)

@@ -3,8 +3,7 @@ use native.Mathlib.Omega.{arith}
 use borrow.Author.Needs.{needs}
 use lib.ListN.{length-set}
 use Rattle.stages.proofs.Three.{three}
-use Rattle.stages.proofs.biv_search_images.Statement.{statement}
-use Rattle.stages.proofs.biv_search_images.Tie as tie
+use Rattle.stages.proofs.Courses.{crossings-within}
 use Rattle.stages.proofs.biv_search_images.Statement.{statement}
 use Rattle.stages.proofs.biv_search_images.Tie as tie
 
@@ -20,7 +19,11 @@ point-from-requires-2 : tie.Need-point-from-requires-2
 point-from-requires-2 c κs = c .before .before .before .before .before .before .before .before .before .before .before .before .before .before .before .before .before .before .before .before .pre .1 .1 .0 .1
 
 search-images-requires : tie.Need-search-images-requires
-search-images-requires c κs = let p = c .before .before .before .before .before .before .before .before .before .before .before .before .before .before .before .before .before .before .before .before .before .before .before .pre in (p .0, (p .1 .1 .1 .0, p .1 .1 .1 .1))
+search-images-requires c κs =
+    let p = c .before .before .before .before .before .before .before .before .before .before .before .before .before .before .before .before .before .before .before .before .before .before .before .pre in
+    let a = c .before .before .before .before .before .before .before .before .before .before .before .before .before .before .before .before .before .before .before .before .before .before .before .args in
+    let q = p .1 .1 .1 .0 in
+    (p .0, ((q .0, q .1, crossings-within (a .counts .now) (a .setting-floats .now) (c .before .before .before .before .settings-from .result) (c .before .before .before .before .settings-from .ensures) (q .2)), p .1 .1 .1 .1))
 
 slice-write-found : tie.Need-slice-write-found
 slice-write-found c = let h = c .before .before .before .before .before .before .before .before .before .before .before .before .before .before .before .before .before .before .before .before .before .before .before .before .before .before .before .before .before .pre .1 .1 .0 .2 in omega arith

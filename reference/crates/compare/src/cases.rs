@@ -42,6 +42,7 @@ impl Coverage {
         all.fates.iter_mut().zip(w.fates).for_each(|(a, b)| *a += b);
         all.orders.iter_mut().zip(w.orders).for_each(|(a, b)| *a += b);
         all.rays += w.rays;
+        all.most += w.most;
         all.dimmed += w.dimmed;
         all.bounces += w.bounces;
     }
@@ -99,7 +100,7 @@ impl Coverage {
         println!("    of order 7 and more: {}; at most {} images and {} taps in a result", w.deep, w.most_images, w.most_taps);
         println!("    packets: {}, {} of them with the bytes of the Rust's taps; refusals 1 to 7: {:?}; {} cases left out", w.packets, w.bytes, &w.refusals[1..], w.left_out);
         let w = &self.walked;
-        println!("  paths: {}, {} rays", w.fates.iter().sum::<u64>(), w.rays);
+        println!("  paths: {}, {} rays; {} with as many as may be", w.fates.iter().sum::<u64>(), w.rays, w.most);
         for (name, n) in FATES.iter().zip(w.fates) {
             println!("    {name}: {n}");
         }
@@ -253,7 +254,7 @@ pub fn generated(count: u64, seed: u64) {
     let mut cover = Coverage::default();
     for k in 0..count {
         let kind = KINDS[k as usize % KINDS.len()];
-        check(&scenes::case(kind, seed.wrapping_mul(1_000_003) + k), &mut cover);
+        check(&scenes::probed(kind, seed.wrapping_mul(1_000_003) + k), &mut cover);
         *cover.kinds.entry(kind).or_default() += 1;
         if (k + 1) % (count / 4).max(1) == 0 {
             println!("{} of {count} cases equal, {:.1} s", k + 1, start.elapsed().as_secs_f32());
@@ -283,7 +284,7 @@ pub fn files(names: &[&str]) {
 pub fn slips(count: u64, seed: u64) {
     let (mut planted, mut missed) = (0, 0);
     for k in 0..count {
-        let c = scenes::case(KINDS[k as usize % KINDS.len()], seed.wrapping_mul(1_000_003) + k);
+        let c = scenes::probed(KINDS[k as usize % KINDS.len()], seed.wrapping_mul(1_000_003) + k);
         for s in 0..SLIPS {
             match stages(&c, Damage::None, Some(s)) {
                 Some(Err(_)) => planted += 1,

@@ -239,7 +239,7 @@ fn refused() -> Vec<Row> {
 /// Case A with one setting just past its limit; those for which the two answer alike are in one row.
 fn settings() -> Vec<Row> {
     const MILLION: f32 = 1_000_000.0;
-    let heard: [fn(&mut oracle::Settings); 19] = [
+    let heard: [fn(&mut oracle::Settings); 23] = [
         |s| s.planes = 257,
         |s| s.room = 250_001,
         |s| s.max_distance = 1000f32.next_up(),
@@ -259,6 +259,10 @@ fn settings() -> Vec<Row> {
         |s| s.min_distance = f32::NAN,
         |s| s.min_distance = 0f32.next_down(),
         |s| s.far_distance = f32::INFINITY,
+        |s| s.crossing_limit = 0,
+        |s| s.crossing_limit = 33,
+        |s| s.probe_radius = 1f32.next_up(),
+        |s| s.probe_radius = f32::NAN,
     ];
     let silent: [fn(&mut oracle::Settings); 3] = [|s| s.max_distance = 0.0, |s| s.max_distance = f32::NAN, |s| s.fade = f32::INFINITY];
     let one = |changes: &[fn(&mut oracle::Settings)], place, input| {
@@ -273,7 +277,7 @@ fn settings() -> Vec<Row> {
         one(
             &heard,
             "a setting past its limit",
-            "case A with 257 planes, or C 250,001; distance, speed, rate, cosine or a number of the distance model one float past an end; fade, merge offset or buried distance NaN or infinite",
+            "case A with 257 planes, or C 250,001; distance, speed, rate, cosine or a number of the distance model one float past an end; fade, merge offset or buried distance NaN or infinite; crossing limit 0 or 33; probe radius past 1 or NaN",
         ),
         one(&silent, "the same, nothing heard", "case A with distance 0 or NaN, or fade infinite"),
     ]

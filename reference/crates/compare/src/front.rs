@@ -34,10 +34,11 @@ pub const DAMAGES: [Damage; 1 + 2 * PARTS + AREAS] = {
 pub fn lent(c: &Case) -> Lent {
     let s = &c.settings;
     Lent {
-        counts: [s.order, s.max_reflections, s.planes, s.merge_on as u32, s.linear as u32],
+        counts: [s.order, s.max_reflections, s.planes, s.merge_on as u32, s.linear as u32, s.crossing_limit],
         #[rustfmt::skip]
         floats: [
             s.fade, s.max_distance, s.speed, s.rate, s.merge_cos, s.merge_offset, s.buried, s.reference, s.rolloff, s.min_distance, s.far_distance,
+            s.probe_radius,
         ],
         room: s.room,
         meshes: c.meshes.iter().flat_map(|m| [m.positions.len() as u32, m.indices.len() as u32, m.handle]).collect(),

@@ -25,6 +25,8 @@ pub struct Walked {
     /// Candidates that a surface was in the way of, for some of their traces.
     pub dimmed: u64,
     pub orders: [u64; ORDER],
+    /// Paths for which as many rays were traced as may be.
+    pub most: u64,
 }
 
 /// Planted slips of this stage: another fate, a ray more, a gain's last bit, the last bit of a bounce.
@@ -154,6 +156,7 @@ impl Sides<'_> {
         self.out.bounces += theirs.points.len() as u64;
         self.out.fates[theirs.fate.min(7) as usize] += 1;
         self.out.rays += theirs.rays;
+        self.out.most += (theirs.rays == 18 * (c.settings.crossing_limit as u64 + 1) * (seq.len() as u64 + 1)) as u64;
         if theirs.fate == 0 {
             self.out.orders[seq.len() - 1] += 1;
             self.out.dimmed += (theirs.rays > 18 * (seq.len() as u64 + 1)) as u64;

@@ -1,7 +1,7 @@
 //! A sample of the Rust's answers for the program `replay` of the port, which runs it where there is no Rust. The port has no part in it.
 use crate::front;
-use crate::scenes::{self, KINDS};
-use oracle::{Case, Output};
+use crate::scenes::{self, Kind, KINDS};
+use oracle::{Case, Output, Settings};
 use std::fmt::Write;
 
 /// What the areas and lines of `replay` hold.
@@ -9,8 +9,8 @@ const TRIPLES: usize = 64;
 const ROOM: u32 = 64;
 const WORDS: usize = 2048;
 
-/// At most so many words for a generated case, and so many images, so that the sample stays small and quick.
-const SHORT: usize = 420;
+/// At most so many words for a generated case beside its settings, and so many images, so that the sample stays small and quick.
+const SHORT: usize = 404;
 const IMAGES: u32 = 20_000;
 
 /// The room that a case has where it says nothing.
@@ -97,8 +97,66 @@ fn words(c: &Case, o: &Output) -> usize {
     parts(c, o).iter().map(Vec::len).sum()
 }
 
-/// Writes `stdin` and `stdout` to the folder of the program: the cases of the files that fit, then `count` of each kind. Of a kind the cases differ in
-/// what they come to, as far as the seeds give it: every refusal at most twice, no tap at most twice, the rest with taps; one refusal 7 a kind.
+/// Adds `count` cases of a kind. They differ in what they come to, as far as the seeds give it: every refusal at most twice, no tap at most twice, the
+/// rest with taps; one refusal 7.
+fn add_kind(all: &mut Sample, kind: Kind, count: usize) {
+    let (mut taken, mut seen, mut refusals) = (0, [0; 8], 0);
+    for seed in 0..TRIES {
+        if taken == count {
+            break;
+        }
+        // room for one less, once a kind
+        let short = taken + 1 == count && seen[7] == 0;
+        let Some((mut c, o)) = answered(&scenes::case(kind, seed), short) else { continue };
+        if short && seed + TRIES / 8 < TRIES && o.refusal != 7 {
+            continue;
+        }
+        let sort = if o.refusal == 0 && o.taps.is_empty() { 0 } else { o.refusal as usize };
+        let few = (o.refusal != 0 || o.taps.is_empty()) && seen[sort] >= 2;
+        if words(&c, &o) > SHORT + port::COUNTS + port::FLOATS || few {
+            continue;
+        }
+        if o.refusal != 0 || o.taps.is_empty() {
+            seen[sort] += 1;
+        }
+        refusals += (o.refusal != 0) as u32;
+        if short && o.refusal == 7 {
+            c.name.push_str("-short");
+        }
+        all.add(&c, &o);
+        taken += 1;
+    }
+    println!("{kind:?}: {taken} cases, {refusals} refused");
+}
+
+/// Adds `count` cases of a kind whose probe settings change the answer, or refuse it.
+fn add_probed(all: &mut Sample, kind: Kind, count: usize) {
+    let (mut taken, mut limits) = (0, Vec::new());
+    for seed in 0..TRIES {
+        let c = scenes::probed(kind, seed);
+        if taken == count || limits.contains(&c.settings.crossing_limit) {
+            continue;
+        }
+        let Some((mut c, o)) = answered(&c, false) else { continue };
+        let plain = {
+            let d = Settings::default();
+            let mut plain = c.clone();
+            (plain.settings.crossing_limit, plain.settings.probe_radius) = (d.crossing_limit, d.probe_radius);
+            oracle::run(&plain, false)
+        };
+        let differs = plain.refusal != o.refusal || o.refusal == 0 && plain.packet() != o.packet();
+        if words(&c, &o) <= WORDS && differs {
+            c.name.push_str("-probed");
+            limits.push(c.settings.crossing_limit);
+            all.add(&c, &o);
+            taken += 1;
+        }
+    }
+    println!("{kind:?} with probe settings: {taken} cases");
+}
+
+/// Writes `stdin` and `stdout` to the folder of the program: the cases of the files that fit, then `count` of each kind, then `count` each of curtains
+/// and of limits with probe settings.
 pub fn run(folder: &str, count: usize, files: &[&str]) {
     let mut all = Sample::default();
     for name in files {
@@ -114,35 +172,8 @@ pub fn run(folder: &str, count: usize, files: &[&str]) {
         }
     }
     println!("{} cases of {} files", all.cases, files.len());
-    for kind in KINDS {
-        let (mut taken, mut seen, mut refusals) = (0, [0; 8], 0);
-        for seed in 0..TRIES {
-            if taken == count {
-                break;
-            }
-            // room for one less, once a kind
-            let short = taken + 1 == count && seen[7] == 0;
-            let Some((mut c, o)) = answered(&scenes::case(kind, seed), short) else { continue };
-            if short && seed + TRIES / 8 < TRIES && o.refusal != 7 {
-                continue;
-            }
-            let sort = if o.refusal == 0 && o.taps.is_empty() { 0 } else { o.refusal as usize };
-            let few = (o.refusal != 0 || o.taps.is_empty()) && seen[sort] >= 2;
-            if words(&c, &o) > SHORT || few {
-                continue;
-            }
-            if o.refusal != 0 || o.taps.is_empty() {
-                seen[sort] += 1;
-            }
-            refusals += (o.refusal != 0) as u32;
-            if short && o.refusal == 7 {
-                c.name.push_str("-short");
-            }
-            all.add(&c, &o);
-            taken += 1;
-        }
-        println!("{kind:?}: {taken} cases, {refusals} refused");
-    }
+    KINDS.into_iter().for_each(|kind| add_kind(&mut all, kind, count));
+    [Kind::Curtains, Kind::Limits].into_iter().for_each(|kind| add_probed(&mut all, kind, count));
     writeln!(all.printed, "{} cases, 0 differ", all.cases).unwrap();
     let head = "# The Rust's answers, recorded by `compare record`; crates/replay/src/main.rt says what stands in a line.\n";
     println!("{} cases, {} bytes", all.cases, head.len() + all.lines.len());

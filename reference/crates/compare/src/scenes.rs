@@ -29,7 +29,7 @@ pub enum Kind {
     Materials,
     /// Source and listener on planes, equal, huge or not finite.
     Positions,
-    /// More than eight sheets between source and listener.
+    /// More sheets between source and listener than a segment may cross.
     Curtains,
     /// Every setting at and around its limits.
     Limits,
@@ -318,6 +318,42 @@ fn limits(c: &mut Case, r: &mut Random) {
         _ => c.meshes[0].handle = [c.materials.len() as u32, u32::MAX][r.below(2)],
     }
     c.settings.linear = r.chance(2);
+}
+
+/// Sheets across the way by the floor, about as many as half a segment may cross: in its first half, or in all four, so that every ray is traced that
+/// may be.
+fn thick(c: &mut Case, r: &mut Random) {
+    let mut m = mesh(0);
+    let (halves, more) = if r.chance(4) { (4, 1) } else { (1, r.below(3)) };
+    let sheets = c.settings.crossing_limit as usize + more - (halves == 1) as usize;
+    for k in 0..halves * sheets {
+        let (from, to) = [(-1.9, -1.1), (-0.9, -0.1), (0.1, 1.4), (1.6, 2.9)][k / sheets];
+        let x = from + (to - from) * (k % sheets) as f32 / sheets as f32;
+        triangle(&mut m, [x, 0.0, -6.0], [x, 0.0, 6.0], [x, 8.0, 0.0]);
+    }
+    c.meshes.push(m);
+    c.materials[0].transmission = [r.from(0.95, 1.0); 8];
+}
+
+/// The case of a kind and a seed with probe settings, of numbers of their own, so that the scene stays what it is: half of the curtains are as
+/// thick as the limit, and some limits and radii are those that are refused.
+pub fn probed(kind: Kind, seed: u64) -> Case {
+    let (mut c, mut r) = (case(kind, seed), Random::new(seed.wrapping_mul(64) + 32 + kind as u64));
+    if r.chance(2) {
+        let radius = Settings::default().probe_radius;
+        c.settings.crossing_limit = [1, 2, 8, 9, 31, 32][r.below(6)];
+        c.settings.probe_radius = [0.0, -0.0, f32::from_bits(1), radius.next_down(), radius.next_up(), 1f32.next_down(), 1.0, r.from(0.0, 1.0)][r.below(8)];
+    }
+    if kind == Kind::Curtains && r.chance(2) {
+        thick(&mut c, &mut r);
+    }
+    if kind == Kind::Limits && r.chance(4) {
+        match r.below(2) {
+            0 => c.settings.crossing_limit = [0, 1, 32, 33, u32::MAX][r.below(5)],
+            _ => c.settings.probe_radius = { let x = [0.0, 1.0][r.below(2)]; around(&mut r, x) },
+        }
+    }
+    c
 }
 
 /// The case of a kind and a seed.

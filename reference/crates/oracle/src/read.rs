@@ -82,6 +82,16 @@ impl<'a> Reader<'a> {
         Err(format!("line {}: expected {expected}", self.line))
     }
 
+    /// Whether the next token is this word, which is then read.
+    fn reads(&mut self, word: &str) -> bool {
+        let (at, line) = (self.at, self.line);
+        let found = self.token() == word.as_bytes();
+        if !found {
+            (self.at, self.line) = (at, line);
+        }
+        found
+    }
+
     fn word(&mut self, word: &str) -> Read<()> {
         if self.token() == word.as_bytes() { Ok(()) } else { self.fault(&format!("`{word}`")) }
     }
@@ -132,10 +142,22 @@ impl<'a> Reader<'a> {
         self.word("curve")?;
         let linear = self.linear()?;
         let [reference, rolloff, min_distance, far_distance] = self.floats()?;
+        let (crossing_limit, probe_radius) = self.probes()?;
         Ok(Settings {
             order, max_reflections, planes, fade, max_distance, speed, rate, merge_cos, merge_on, merge_offset, buried, linear, reference, rolloff,
-            min_distance, far_distance, room,
+            min_distance, far_distance, crossing_limit, probe_radius, room,
         })
+    }
+
+    /// The line `probes` may be left out: the Rust's constants.
+    fn probes(&mut self) -> Read<(u32, f32)> {
+        if !self.reads("probes") {
+            let s = Settings::default();
+            return Ok((s.crossing_limit, s.probe_radius));
+        }
+        let limit = self.whole()?;
+        let [radius] = self.floats()?;
+        Ok((limit, radius))
     }
 
     fn row(&mut self) -> Read<Row> {

@@ -159,8 +159,16 @@ fn curves_by_name() {
 }
 
 #[test]
+fn probes_may_be_left_out() {
+    let c = one(FLOOR.as_bytes());
+    assert_eq!((c.settings.crossing_limit, c.settings.probe_radius.to_bits()), (8, 0x3d75_c28f));
+    let d = one(FLOOR.replace("materials 1", "probes 32 0.5 # many sheets\nmaterials 1").as_bytes());
+    assert_eq!((d.settings.crossing_limit, d.settings.probe_radius), (32, 0.5));
+}
+
+#[test]
 fn every_part_reaches_its_place() {
-    let c = one(b"case x counts 1 2 3 4 floats 5 6 7 8 9 10 11 merge 0 curve linear 12 13 14 15 materials 2
+    let c = one(b"case x counts 1 2 3 4 floats 5 6 7 8 9 10 11 merge 0 curve linear 12 13 14 15 probes 16 17 materials 2
         m 1 2 3 4 5 6 7 8 9 10 11 12 13 14 15 16 m 0 0 0 0 0 0 0 0 1 1 1 1 1 1 1 1
         meshes 2 mesh 1 2 5 t 1 2 3 4 5 6 7 8 9 10 11 12 13 14 15 16 p 1 2 3 p 4 5 6 i 7 8 9 i 10 11
         mesh 0 0 0 t 0 0 0 0 0 0 0 0 0 0 0 0 0 0 0 0 source 1 2 3 listener 4 5 6 separated 1 end");
@@ -168,6 +176,7 @@ fn every_part_reaches_its_place() {
     assert_eq!((s.order, s.max_reflections, s.planes, s.room), (1, 2, 3, 4));
     assert_eq!([s.fade, s.max_distance, s.speed, s.rate, s.merge_cos, s.merge_offset, s.buried], [5.0, 6.0, 7.0, 8.0, 9.0, 10.0, 11.0]);
     assert_eq!((s.merge_on, s.linear, s.reference, s.rolloff, s.min_distance, s.far_distance), (false, true, 12.0, 13.0, 14.0, 15.0));
+    assert_eq!((s.crossing_limit, s.probe_radius), (16, 17.0));
     assert_eq!(c.materials[0].absorption, [1.0, 2.0, 3.0, 4.0, 5.0, 6.0, 7.0, 8.0]);
     assert_eq!(c.materials[0].transmission, [9.0, 10.0, 11.0, 12.0, 13.0, 14.0, 15.0, 16.0]);
     assert_eq!((c.materials.len(), c.meshes.len()), (2, 2));
@@ -189,6 +198,9 @@ fn faults_name_the_line() {
         ("floats 0.1", "floats .1", "line 3: expected a float"),
         ("3f7f069e", "0.9961947", "line 3: expected a float"),
         ("merge 1", "merge 2", "line 6: expected 0 or 1"),
+        ("materials 1", "probes\nmaterials 1", "line 9: expected a whole number"),
+        ("materials 1", "probes 8\nmaterials 1", "line 9: expected a float"),
+        ("materials 1", "probes 8 0.06 probes 8 0.06\nmaterials 1", "line 8: expected `materials`"),
         ("separated 0", "separated 2", "line 21: expected 0 or 1"),
         ("m 0.75", "m 0.75 0", "line 9: expected `meshes`"),
         ("p -4 0 -4", "p -4 0", "line 14: expected a float"),
@@ -232,6 +244,7 @@ fn findings_are_read_to_their_bits() {
     for file in files {
         let text = std::fs::read_to_string(&file).unwrap();
         assert_eq!(bits(&text), text, "{}", file.display());
+        assert!(text.contains("\nprobes 8 3d75c28f\n"), "{}", file.display());
     }
 }
 

@@ -2,6 +2,8 @@
 //! what its `requires` asks. Nothing checks the declarations below against the Rattle source: compare them with
 //! include/bivelondry_stages.h when either changes.
 
+pub use bivelondry::ffi::{COUNTS, FLOATS};
+
 mod ffi {
     pub use bivelondry::ffi::{biv_area_lengths, biv_packet_read, biv_packet_write, biv_query_cost, biv_trace_early_reflections, biv_walls};
 
@@ -193,8 +195,8 @@ pub fn walls(planes: u32, order: u32, on: &[u8], number: u32) -> Result<Vec<u8>,
 /// A scene as the port takes it: document 01's scene parts, and the settings as two lists.
 #[derive(Clone, Debug, Default)]
 pub struct Lent {
-    pub counts: [u32; 5],
-    pub floats: [f32; 11],
+    pub counts: [u32; COUNTS],
+    pub floats: [f32; FLOATS],
     pub room: u32,
     pub meshes: Vec<u32>,
     pub transforms: Vec<f32>,
@@ -274,10 +276,10 @@ pub struct Cost {
     pub found: [u64; 3],
 }
 
-pub fn query_cost(planes: u32, first: u32, order: u32, triples: u32) -> Cost {
+pub fn query_cost(crossing_limit: u32, planes: u32, first: u32, order: u32, triples: u32) -> Cost {
     let mut c = Cost { refusal: 0, counts: [u32::MAX; 8], found: [u64::MAX; 3] };
     // SAFETY: it asks nothing.
-    c.refusal = unsafe { ffi::biv_query_cost(planes, first, order, triples, &mut c.counts, &mut c.found) };
+    c.refusal = unsafe { ffi::biv_query_cost(crossing_limit, planes, first, order, triples, &mut c.counts, &mut c.found) };
     c
 }
 
@@ -527,7 +529,7 @@ impl PlaneAreas {
     }
 
     /// The planes of the triangles of a tree, built over these `columns`; how many they are. Counts and floats are the settings, as `Lent` has them.
-    pub fn build(&mut self, tree: &Tree, columns: &[f32], counts: &[u32; 5], floats: &[f32; 11]) -> usize {
+    pub fn build(&mut self, tree: &Tree, columns: &[f32], counts: &[u32; COUNTS], floats: &[f32; FLOATS]) -> usize {
         let (n, m) = (self.n, tree.order.len());
         assert!(m <= n && tree.handles.len() == n, "the tree stands over columns of {} floats, not of {n}", tree.handles.len());
         assert!(columns.len() >= COLUMNS * n, "the columns are short of {n} triangles");
@@ -579,13 +581,13 @@ pub struct Scene {
     materials: Vec<f32>,
     planes: Planes,
     /// The settings, as `Lent` has them.
-    pub counts: [u32; 5],
-    pub floats: [f32; 11],
+    pub counts: [u32; COUNTS],
+    pub floats: [f32; FLOATS],
 }
 
 impl Scene {
     /// `tree` is as `build` left it, over `columns` of `n` floats. Tests what else `biv_path` requires.
-    pub fn new(mut tree: Tree, columns: Vec<f32>, n: usize, materials: Vec<f32>, planes: Planes, counts: [u32; 5], floats: [f32; 11]) -> Scene {
+    pub fn new(mut tree: Tree, columns: Vec<f32>, n: usize, materials: Vec<f32>, planes: Planes, counts: [u32; COUNTS], floats: [f32; FLOATS]) -> Scene {
         let m = tree.order.len();
         tree.handles.truncate(m); // rows past the tree's triangles were never written
         assert!(tree.count > 0 && 6 * tree.count <= tree.padded().len() && 4 * tree.count <= tree.nodes.len() && 10 * m <= tree.rows().len());
