@@ -15,7 +15,7 @@
 //! let mut workspace = Workspace::new(1);
 //! let packet = trace_early_reflections(&settings, &scene, [0.0, 2.0, 0.0], [3.0, 2.0, 0.0], false, &mut workspace)?;
 //! assert_eq!((packet.images, packet.rays, packet.taps.len()), (1, 36, 1));
-//! assert_eq!(packet.taps[0].delay_samples, 750.0);
+//! assert_eq!(packet.taps[0].delay_samples, 699.300_66);
 //! # Ok::<(), bivelondry::Refusal>(())
 //! ```
 //!
