@@ -29,7 +29,7 @@ whole n = number n 1
 
 -- ---- the call
 
--- "fade 0.1, .. Inverse with reference, rolloff and least distance 1, .. 20 degrees, rate 48,000, .. other settings the Rust's defaults"
+-- "fade 0.1, .. Inverse with reference, rolloff and least distance 1, .. rate 48,000, .. other settings the Rust's defaults"; document 02, Note 4: "Case A moves to 20 degrees"
 abbrev pub settings : Settings
 settings =
     record {

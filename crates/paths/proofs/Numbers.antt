@@ -1,4 +1,4 @@
--- The candidate of a path is a number in all its parts, where distance, temperature and rate lie within document 01's limits: its energy was tested; its
+-- The candidate of a path is a number in all its parts, where distance, temperature and rate lie within their limits: its energy was tested; its
 -- delay is a length up to 1,000 times the rate by the speed, which the temperature bounds (`Speed`); and its direction is that of the first segment, whose length is a part of the whole.
 use mathlib.Core.Path.{_≡_, refl}
 use mathlib.Core.Bool.{Bool, true, false, not, cond, _&&_}
