@@ -16,7 +16,7 @@ HEADER = [
     ("a block not aligned", "((uintptr_t)block + BIV_ALIGNMENT - 1) / BIV_ALIGNMENT * BIV_ALIGNMENT :", "(uintptr_t)block :"),
     ("areas in one place", "    at += biv_area_bytes(work->lens[i], sizeof(type));", "    at += 0 * biv_area_bytes(work->lens[i], sizeof(type));"),
     ("an area of another element", "AREA(8, scratch, uint64_t)", "AREA(8, scratch, uint32_t)"),
-    ("speed and rate exchanged", "settings->speed_of_sound, settings->sample_rate,", "settings->sample_rate, settings->speed_of_sound,"),
+    ("temperature and rate exchanged", "settings->temperature_celsius, settings->sample_rate,", "settings->sample_rate, settings->temperature_celsius,"),
     ("the flag of merging turned", "settings->plane_merge ? 1u : 0u", "settings->plane_merge ? 0u : 1u"),
     ("merge offset and buried distance exchanged", "settings->plane_merge_offset, settings->plane_buried_distance, m->", "settings->plane_buried_distance, settings->plane_merge_offset, m->"),
     ("least and greatest distance exchanged", "m->rolloff_factor, m->min_distance, m->max_distance,", "m->rolloff_factor, m->max_distance, m->min_distance,"),

@@ -17,7 +17,7 @@
  * time need a block each. What it holds does not matter, but it is read, so it must have been set once, as calloc does (docs/HARDENING.md). Nothing
  * else is kept between calls, and nothing is allocated.
  *
- * Lengths and positions are in metres, speeds in metres a second, rates in hertz, delays in samples; axes are any three at right angles, the same for
+ * Lengths and positions are in metres, temperatures in degrees Celsius, rates in hertz, delays in samples; axes are any three at right angles, the same for
  * scene, source, listener and answer. docs/BEHAVIOUR.md is the manual: settings, refusals and what to do about each, how images, gains and the list are made.
  *
  * Link -lbivelondry where tools/install.sh put it (`pkg-config --cflags --libs bivelondry`), or target/staticlib/libexports.a (made by
@@ -119,7 +119,7 @@ struct biv_settings {
     uint32_t max_reflection_planes;   /* 0 to 256: the most important ones reflect, all others only block */
     float reflection_edge_fade;       /* m, finite: how far from its border a surface reflects less; 0 or below: hard edges */
     float max_reflection_distance;    /* m, above 0, at most 1,000: the longest path */
-    float speed_of_sound;             /* m/s, 100 to 2,000 */
+    float temperature_celsius;        /* of the air, degrees, -20 to 50: gives the speed of sound (biv_speed_of_sound) */
     float sample_rate;                /* Hz, 8,000 to 192,000 */
     float plane_merge_cos;            /* no unit, -1 to 1: the cosine, taken in float, of the Rust's plane_merge_angle_deg */
     bool plane_merge;                 /* whether that angle is above 0 */
@@ -139,7 +139,7 @@ static inline struct biv_settings biv_default_settings(void)
     s.max_reflection_planes = 32;
     s.reflection_edge_fade = 0.1f;
     s.max_reflection_distance = 50.0f;
-    s.speed_of_sound = 343.0f;
+    s.temperature_celsius = 20.0f;
     s.sample_rate = 48000.0f;
     s.plane_merge_cos = 0.99619472f; /* of 5 degrees, bits 3f7f069e */
     s.plane_merge = true;
@@ -226,6 +226,10 @@ typedef char biv_size_is_64_bits[sizeof(size_t) == 8 ? 1 : -1];
 /* exports/specs/Lengths.antt. The least lengths of all areas, in elements, for so many triples and candidates; false for more than 4,096 triples. */
 bool biv_area_lengths(size_t triples, uint32_t c, size_t lens[BIV_AREAS_LENT]);
 
+/* scene/specs/Speed.antt. The speed of sound, in m/s, that a query works out from its temperature: 343.2 times the root of (t + 273.15) / 293.15, each
+ * operation rounded once to a float. A delay of d samples is a path of d * biv_speed_of_sound(t) / sample_rate metres. */
+float biv_speed_of_sound(float temperature_celsius);
+
 /* cost/specs/Forecast.antt. What a query will cost: under a crossing limit, of so many planes, first of which may come first, sequences of at most order planes
  * (as used: a query uses more than 8 as 8), and so many whole triples. Answers the refusal (14) or 0; counts gets the images of each order from 1 to 8, found candidates, rays and the words of 32 bits of
  * the work areas, all 0 after a refusal. */
@@ -265,7 +269,7 @@ uint32_t biv_planes(float *triangles, size_t triangles_len, uint32_t *handles, s
  * which has their least lengths in whole triples T and c; short ones are refused. What they hold does not matter. After the refusals 1 to 5 they are
  * as they were, after 6, 7 and a result all zero. out (3,465 bytes or more) gets the packet, and is as it was past it and after a refusal. counts are
  * max_reflection_order, max_reflections, max_reflection_planes, plane_merge (0 or not), curve (0 is Inverse, 1 Linear, another refused), crossing_limit. setting_floats:
- * reflection_edge_fade, max_reflection_distance, speed_of_sound, sample_rate, plane_merge_cos, plane_merge_offset, plane_buried_distance,
+ * reflection_edge_fade, max_reflection_distance, temperature_celsius, sample_rate, plane_merge_cos, plane_merge_offset, plane_buried_distance,
  * reference_distance, rolloff_factor, min_distance, max_distance, probe_radius. c is the candidate room. separated says that source and listener are apart, so
  * that nothing is heard. */
 uint32_t biv_trace_early_reflections(float *triangles, size_t triangles_len, uint32_t *handles, size_t handles_len, float *tree, size_t tree_len,
@@ -376,7 +380,7 @@ static inline struct biv_numbers biv_numbers_of(const struct biv_settings *setti
     const struct biv_distance_model *m = &settings->distance_model;
     const struct biv_numbers n = {{settings->max_reflection_order, settings->max_reflections, settings->max_reflection_planes,
                                    settings->plane_merge ? 1u : 0u, m->curve, settings->crossing_limit},
-                                  {settings->reflection_edge_fade, settings->max_reflection_distance, settings->speed_of_sound, settings->sample_rate,
+                                  {settings->reflection_edge_fade, settings->max_reflection_distance, settings->temperature_celsius, settings->sample_rate,
                                    settings->plane_merge_cos, settings->plane_merge_offset, settings->plane_buried_distance, m->reference_distance,
                                    m->rolloff_factor, m->min_distance, m->max_distance, settings->probe_radius}};
     return n;

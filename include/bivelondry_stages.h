@@ -37,7 +37,7 @@ void biv_sort_by_key(const uint64_t *keys, size_t keys_len, uint32_t *index, siz
 
 /* placing/specs/Loading.antt. Answers the first refusal of 1 to 6 that applies; or 0, with found[0..3] the triangles kept, the placings
  * made and the whole triples. counts has 6 words: max_reflection_order, max_reflections, max_reflection_planes, plane_merge (0 or not),
- * curve (0 is Inverse), crossing_limit. floats has 12: reflection_edge_fade, max_reflection_distance, speed_of_sound, sample_rate, plane_merge_cos,
+ * curve (0 is Inverse), crossing_limit. floats has 12: reflection_edge_fade, max_reflection_distance, temperature_celsius, sample_rate, plane_merge_cos,
  * plane_merge_offset, plane_buried_distance, reference_distance, rolloff_factor, min_distance, max_distance, probe_radius. lens has 20: the lengths of
  * all areas that a query is lent, in the order of docs/AREAS.md, the first two triangles_len and handles_len. found has 3 or more. The
  * lengths of counts, floats, lens and found, and those two, are the caller's to keep; every other length is tested. */

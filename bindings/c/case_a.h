@@ -15,9 +15,7 @@ static const uint32_t case_a_c = 1;
 
 static inline struct biv_settings case_a_settings(void)
 {
-    struct biv_settings s = biv_default_settings();
-    s.speed_of_sound = 320.0f;
-    return s;
+    return biv_default_settings(); /* 20 degrees among them */
 }
 
 static inline struct biv_scene case_a_scene(void)

@@ -65,6 +65,14 @@ static bool nothing(void)
     return answer.count == 0 && answer.images == 0 && answer.rays == 0 && answer.bytes == 0;
 }
 
+/* Those of docs/BEHAVIOUR.md, and a temperature that no query takes. */
+static void test_speeds(void)
+{
+    CHECK(biv_speed_of_sound(-20.0f) == 318.927032f && biv_speed_of_sound(0.0f) == 331.285889f);
+    CHECK(biv_speed_of_sound(20.0f) == 343.2f && biv_speed_of_sound(50.0f) == 360.333313f);
+    CHECK(isnan(biv_speed_of_sound(-300.0f)));
+}
+
 static void test_case_a(void)
 {
     struct query q = case_a();
@@ -72,9 +80,13 @@ static void test_case_a(void)
     CHECK(trace(&q) == BIV_NO_REFUSAL);
     CHECK(answer.count == 1 && answer.images == 1 && answer.rays == 36 && answer.bytes == 9 + 54);
     CHECK(biv_read(out, answer.bytes, taps, &answer) == BIV_NO_REFUSAL);
-    CHECK(answer.count == 1 && taps[0].order == 1 && taps[0].number == 1 && taps[0].delay_samples == 750.0f);
+    CHECK(answer.count == 1 && taps[0].order == 1 && taps[0].number == 1 && taps[0].delay_samples == 699.300659f);
     CHECK(fabsf(taps[0].direction[0] + 0.6f) < 1e-6f && fabsf(taps[0].direction[1] + 0.8f) < 1e-6f && taps[0].direction[2] == 0.0f);
     CHECK(fabsf(taps[0].gains[0] - 0.1f) < 1e-6f && taps[0].gains[7] == taps[0].gains[0]);
+    q.settings.temperature_celsius = 0.0f; /* colder air is slower */
+    CHECK(trace(&q) == BIV_NO_REFUSAL && biv_read(out, answer.bytes, taps, &answer) == BIV_NO_REFUSAL);
+    CHECK(fabsf(taps[0].delay_samples - 5.0f * 48000.0f / biv_speed_of_sound(0.0f)) < 0.01f && taps[0].delay_samples > 720.0f);
+    q = case_a();
     q.source[1] = 0.00005f;
     CHECK(trace(&q) == BIV_NO_REFUSAL && answer.images == 0);
     q.source[1] = 0.0001f;
@@ -92,7 +104,11 @@ static void test_query_refusals(void)
     static const float nan_corner[12] = {-4, 0, NAN, 4, 0, -4, 4, 0, 4, -4, 0, 4};
     static const uint32_t handle[3] = {4, 6, 1}, short_mesh[3] = {3, 6, 0};
     struct query q = case_a();
-    q.settings.speed_of_sound = 99.0f;
+    q.settings.temperature_celsius = 50.0000038f; /* the float after 50 */
+    CHECK(trace(&q) == BIV_SETTINGS && nothing());
+    q.settings.temperature_celsius = -20.0000019f;
+    CHECK(trace(&q) == BIV_SETTINGS && nothing());
+    q.settings.temperature_celsius = NAN;
     CHECK(trace(&q) == BIV_SETTINGS && nothing());
     q = case_a();
     q.settings.crossing_limit = 0;
@@ -361,7 +377,7 @@ static void test_tap_walls(void)
         for (size_t x = 0; x < 3; x++)
             length += (image[x] - q.listener[x]) * (image[x] - q.listener[x]);
         length = sqrtf(length);
-        CHECK(fabsf(length / q.settings.speed_of_sound * q.settings.sample_rate - taps[i].delay_samples) < 0.05f);
+        CHECK(fabsf(length / biv_speed_of_sound(q.settings.temperature_celsius) * q.settings.sample_rate - taps[i].delay_samples) < 0.05f);
         for (size_t x = 0; x < 3; x++)
             CHECK(fabsf((image[x] - q.listener[x]) / length - taps[i].direction[x]) < 1e-4f);
     }
@@ -501,6 +517,7 @@ int main(void)
     test_walls();
     test_planes();
     test_tap_walls();
+    test_speeds();
     test_probes();
     test_forecast();
     test_texts();

@@ -6,7 +6,7 @@ fn main() -> Result<(), Refusal> {
     let floor = scene.add_material(&Material { absorption: [0.75; 8], transmission: [0.0; 8] });
     let positions = [[-4.0, 0.0, -4.0], [4.0, 0.0, -4.0], [4.0, 0.0, 4.0], [-4.0, 0.0, 4.0]];
     scene.add_mesh(&Mesh { positions: &positions, indices: &[0, 1, 2, 0, 2, 3], material: floor, ..Mesh::default() });
-    let settings = Settings { speed_of_sound: 320.0, ..Settings::default() };
+    let settings = Settings { temperature_celsius: 20.0, ..Settings::default() };
     let mut workspace = Workspace::new(1);
     let bytes = trace_packet(&settings, &scene, [0.0, 2.0, 0.0], [3.0, 2.0, 0.0], false, &mut workspace)?;
     let packet = Packet::read(bytes)?;

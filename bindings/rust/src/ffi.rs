@@ -27,6 +27,7 @@ pub const PLANE_AREA: usize = 16;
 
 extern "C" {
     pub fn biv_area_lengths(triples: usize, c: u32, lens: &mut [usize; AREAS]) -> bool;
+    pub fn biv_speed_of_sound(temperature_celsius: f32) -> f32;
     #[rustfmt::skip]
     pub fn biv_query_cost(
         crossing_limit: u32, planes: u32, first: u32, order: u32, triples: u32, counts: &mut [u32; ORDERS], found: &mut [u64; 3],

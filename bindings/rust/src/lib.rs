@@ -11,15 +11,15 @@
 //!     material: floor,
 //!     ..Mesh::default()
 //! });
-//! let settings = Settings { speed_of_sound: 320.0, ..Settings::default() };
+//! let settings = Settings { temperature_celsius: 20.0, ..Settings::default() };
 //! let mut workspace = Workspace::new(1);
 //! let packet = trace_early_reflections(&settings, &scene, [0.0, 2.0, 0.0], [3.0, 2.0, 0.0], false, &mut workspace)?;
 //! assert_eq!((packet.images, packet.rays, packet.taps.len()), (1, 36, 1));
-//! assert_eq!(packet.taps[0].delay_samples, 750.0);
+//! assert_eq!(packet.taps[0].delay_samples, 699.300_66);
 //! # Ok::<(), bivelondry::Refusal>(())
 //! ```
 //!
-//! Lengths and positions are in metres, speeds in metres a second, rates in hertz, delays in samples; axes are any three at right angles, the same for
+//! Lengths and positions are in metres, temperatures in degrees Celsius, rates in hertz, delays in samples; axes are any three at right angles, the same for
 //! scene, source, listener and answer. docs/BEHAVIOUR.md of the repository is the manual: settings, refusals and what to do about each, how images,
 //! gains and the list are made.
 //!
@@ -161,8 +161,8 @@ pub struct Settings {
     pub reflection_edge_fade: f32,
     /// Metres, above 0, at most 1,000: the longest path.
     pub max_reflection_distance: f32,
-    /// Metres a second, 100 to 2,000.
-    pub speed_of_sound: f32,
+    /// Of the air, degrees, -20 to 50: gives the speed of sound ([`speed_of_sound`]).
+    pub temperature_celsius: f32,
     /// Hertz, 8,000 to 192,000.
     pub sample_rate: f32,
     /// No unit, -1 to 1: the cosine, taken in f32, of the Rust's `plane_merge_angle_deg`.
@@ -188,7 +188,7 @@ impl Default for Settings {
             max_reflection_planes: 32,
             reflection_edge_fade: 0.1,
             max_reflection_distance: 50.0,
-            speed_of_sound: 343.0,
+            temperature_celsius: 20.0,
             sample_rate: 48_000.0,
             plane_merge_cos: f32::from_bits(0x3f7f_069e), // of 5 degrees
             plane_merge: true,
@@ -210,7 +210,7 @@ impl Settings {
     fn floats(&self) -> [f32; ffi::FLOATS] {
         let m = &self.distance_model;
         [
-            self.reflection_edge_fade, self.max_reflection_distance, self.speed_of_sound, self.sample_rate, self.plane_merge_cos, self.plane_merge_offset,
+            self.reflection_edge_fade, self.max_reflection_distance, self.temperature_celsius, self.sample_rate, self.plane_merge_cos, self.plane_merge_offset,
             self.plane_buried_distance, m.reference_distance, m.rolloff_factor, m.min_distance, m.max_distance, self.probe_radius,
         ]
     }
@@ -339,6 +339,17 @@ impl Workspace {
         }
         areas
     }
+}
+
+/// The speed of sound, in metres a second, that a query works out from its temperature: 343.2 times the root of (t + 273.15) / 293.15, each operation rounded
+/// once to an f32. A delay of d samples is a path of `d * speed_of_sound(t) / sample_rate` metres.
+///
+/// ```
+/// assert_eq!(bivelondry::speed_of_sound(20.0), 343.2);
+/// ```
+pub fn speed_of_sound(temperature_celsius: f32) -> f32 {
+    // SAFETY: it asks nothing.
+    unsafe { ffi::biv_speed_of_sound(temperature_celsius) }
 }
 
 /// What a query will cost.

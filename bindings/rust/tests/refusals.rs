@@ -6,7 +6,7 @@ const SOURCE: [f32; 3] = [0.0, 2.0, 0.0];
 const LISTENER: [f32; 3] = [3.0, 2.0, 0.0];
 
 fn settings() -> Settings {
-    Settings { speed_of_sound: 320.0, ..Settings::default() }
+    Settings { temperature_celsius: 20.0, ..Settings::default() }
 }
 
 fn scene() -> Scene {
@@ -28,15 +28,16 @@ fn case_a() {
     let p = asked(|_, _| (), 1).unwrap();
     assert_eq!((p.images, p.rays, p.taps.len()), (1, 36, 1));
     let t = &p.taps[0];
-    assert_eq!((t.order, t.number, t.delay_samples), (1, 1, 750.0));
+    assert_eq!((t.order, t.number, t.delay_samples), (1, 1, f32::from_bits(0x442e_d33e)));
     assert!(t.gains.iter().all(|g| (g - 0.1).abs() < 1e-6));
 }
 
 #[test]
 fn settings_are_refused() {
     #[rustfmt::skip]
-    let changes: [fn(&mut Settings); 7] = [
-        |s| s.max_reflection_planes = 257, |s| s.speed_of_sound = f32::NAN, |s| s.distance_model.rolloff_factor = -1.0, |s| s.crossing_limit = 0,
+    let changes: [fn(&mut Settings); 9] = [
+        |s| s.max_reflection_planes = 257, |s| s.temperature_celsius = f32::NAN,
+        |s| s.temperature_celsius = 50f32.next_up(), |s| s.temperature_celsius = (-20f32).next_down(), |s| s.distance_model.rolloff_factor = -1.0, |s| s.crossing_limit = 0,
         |s| s.crossing_limit = MOST_CROSSINGS + 1, |s| s.probe_radius = 1f32.next_up(), |s| s.probe_radius = f32::NAN,
     ];
     for change in changes {

@@ -48,7 +48,7 @@ fn recorded(line: &str) -> (&str, Recorded) {
         plane_merge: c[3] != 0,
         reflection_edge_fade: f(0),
         max_reflection_distance: f(1),
-        speed_of_sound: f(2),
+        temperature_celsius: f(2),
         sample_rate: f(3),
         plane_merge_cos: f(4),
         plane_merge_offset: f(5),

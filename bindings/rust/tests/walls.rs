@@ -1,5 +1,5 @@
 //! The walls of images by their numbers: against a walk over all of them, what is refused, and those of a query's taps.
-use bivelondry::{find_walls, planes, trace_early_reflections, walls, Material, Mesh, Plane, Refusal, Scene, Settings, Workspace, MOST_IMAGES, MOST_ORDER, MOST_PLANES};
+use bivelondry::{find_walls, planes, speed_of_sound, trace_early_reflections, walls, Material, Mesh, Plane, Refusal, Scene, Settings, Workspace, MOST_IMAGES, MOST_ORDER, MOST_PLANES};
 
 /// The allowed sequences that go on from `s`, in their order.
 fn listed(on: &[bool], order: usize, s: &mut Vec<u8>, all: &mut Vec<Vec<u8>>) {
@@ -86,7 +86,7 @@ fn the_walls_of_each_tap_mirror_the_source() {
         let image = met.iter().fold(source, |x, &p| mirrored(&found[p as usize], x));
         let way: [f32; 3] = std::array::from_fn(|k| image[k] - listener[k]);
         let length = way.iter().map(|x| x * x).sum::<f32>().sqrt();
-        assert!((length / settings.speed_of_sound * settings.sample_rate - tap.delay_samples).abs() < 0.05);
+        assert!((length / speed_of_sound(settings.temperature_celsius) * settings.sample_rate - tap.delay_samples).abs() < 0.05);
         assert!(way.iter().zip(tap.direction).all(|(w, d)| (w / length - d).abs() < 1e-4));
     }
 }
@@ -107,7 +107,7 @@ fn planes_leave_the_workspace_usable() {
 #[test]
 fn planes_are_refused() {
     let mut workspace = Workspace::new(1);
-    let wrong = Settings { speed_of_sound: 99.0, ..Settings::default() };
+    let wrong = Settings { temperature_celsius: 51.0, ..Settings::default() };
     assert_eq!(planes(&wrong, &room(), [0.0; 3], &mut workspace), Err(Refusal::Settings));
     let short = Scene { positions: Vec::new(), ..room() };
     assert_eq!(planes(&Settings::default(), &short, [0.0; 3], &mut workspace), Err(Refusal::Lengths));

@@ -9,6 +9,7 @@ use lib.ListN.{length, drop}
 use Rattle.vector.specs.declared.Vec3.{Vec3}
 use Rattle.geometry.specs.declared.Triangle.{Triangle}
 use Rattle.scene.specs.declared.Settings.{Settings}
+use Rattle.scene.specs.Speed.{speedOf}
 use Rattle.ranking.specs.declared.Candidate.{Candidate}
 use Rattle.ranking.specs.Candidate.{ranked}
 use Rattle.claim.specs.Query.{Search, search, Query, refused, given, ended}
@@ -35,9 +36,9 @@ given-answer speed rate limit m r cs o q h e = sym (ap (λ (b : Bool). ended spe
 pub end-is :
     (st : Settings) (ts : List Triangle) (materials : List Float) (source listener : Vec3) (order room limit : ℕ) (w : Search) →
     w ≡ searchFor st ts materials source listener order room →
-    ended (st .«speed_of_sound») (st .«sample_rate») limit w ≡ queryFor st ts materials source listener order room limit
+    ended (speedOf (st .«temperature_celsius»)) (st .«sample_rate») limit w ≡ queryFor st ts materials source listener order room limit
 end-is st ts materials source listener order room limit w e =
-    search-answers (onOf (planesFor st ts) source) order room (pathFor st ts materials source listener) (st .«speed_of_sound») (st .«sample_rate») limit w e
+    search-answers (onOf (planesFor st ts) source) order room (pathFor st ts materials source listener) (speedOf (st .«temperature_celsius»)) (st .«sample_rate») limit w e
 
 -- the packet that was written is the answer's
 pub sent-answer :

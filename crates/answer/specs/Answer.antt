@@ -9,6 +9,7 @@ use Rattle.vector.specs.declared.Vec3.{Vec3}
 use Rattle.geometry.specs.declared.Triangle.{Triangle}
 use Rattle.scene.specs.declared.Settings.{Settings}
 use Rattle.scene.specs.Limits.{ratesOf, modelNumbersOf}
+use Rattle.scene.specs.Speed.{speedOf}
 use Rattle.packet.specs.Limits.{mostTaps, outBytes}
 use Rattle.paths.specs.Numbers.{ModelFits}
 use Rattle.claim.specs.Query.{Query, refused, given, queryOf}
@@ -21,7 +22,7 @@ use Rattle.answer.specs.Query.{pathFor}
 -- the claim's query over the scene's planes and paths, with the list cut at `limit`
 abbrev pub queryFor : Settings → List Triangle → List Float → Vec3 → Vec3 → ℕ → ℕ → ℕ → Query
 queryFor st ts materials source listener order room limit =
-    queryOf (onOf (planesFor st ts) source) order (st .«speed_of_sound») (st .«sample_rate») limit room (pathFor st ts materials source listener)
+    queryOf (onOf (planesFor st ts) source) order (speedOf (st .«temperature_celsius»)) (st .«sample_rate») limit room (pathFor st ts materials source listener)
 
 -- "The lowest that applies is returned .. with counts 0"; else the counts and the packet's length
 abbrev pub answeredOf : Query → Answered
@@ -45,7 +46,7 @@ pub record Answers (q : Query) (r : Answered) (out out′ : List ℕ) : Type 0 w
 
 -- settings within the limits that the numbers of a tap rest on
 pub record Sane (st : Settings) : Type 0 where
-  pub rates : T (ratesOf (st .«max_reflection_distance») (st .«speed_of_sound») (st .«sample_rate»))
+  pub rates : T (ratesOf (st .«max_reflection_distance») (st .«temperature_celsius») (st .«sample_rate»))
   pub model : T (modelNumbersOf (st .«distance_model»))
   pub fit : ModelFits (st .«distance_model»)
 

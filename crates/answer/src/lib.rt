@@ -6,6 +6,7 @@ use vector::Vec3;
 ghost use mathlib.Core.Path.{_≡_};
 ghost use mathlib.Core.Bool.{false};
 ghost use Prim.Native.Nat.{_≤_};
+ghost use Rattle.scene.specs.Speed.{speedOf};
 ghost use Rattle.ranking.specs.Rows.{candidatesIn};
 ghost use Rattle.claim.specs.Query.{search};
 ghost use Rattle.claim.specs.Query as query;
@@ -154,7 +155,7 @@ fn send(
         Sends (found .found) (limitOf settings) (found .images) (now «candidate_floats») (now «candidate_words») (now keys) (now queue) (now words)
         (now scratch) (now out)) ⌝ }
     ensures { λ r.
-        ⌜ Answers (byRefusal refusal (query.ended (settings .«speed_of_sound») (settings .«sample_rate») (limitOf settings) (search (found .images)
+        ⌜ Answers (byRefusal refusal (query.ended (speedOf (settings .«temperature_celsius»)) (settings .«sample_rate») (limitOf settings) (search (found .images)
         (found .rays) (candidatesIn (found .found) (now («candidate_floats» .entry)) (now («candidate_words» .entry))) (found .over)))) r (now (out .entry))
         (now (out .exit)) ⌝ }
 {
@@ -165,11 +166,12 @@ fn send(
         return refused(7);
     }
     let limit = front::list_limit(settings);
+    let speed = scene::speed_of_sound(settings.temperature_celsius);
     let p = taps::write_taps(
         candidate_floats,
         candidate_words,
         found.found,
-        settings.speed_of_sound,
+        speed,
         settings.sample_rate,
         limit,
         found.images,

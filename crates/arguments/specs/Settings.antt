@@ -1,4 +1,4 @@
--- Settings as two lists: counts (order, reflections, planes, merge, curve, crossing limit) and floats (fade, distance, speed, rate, cosine, offset,
+-- Settings as two lists: counts (order, reflections, planes, merge, curve, crossing limit) and floats (fade, distance, temperature, rate, cosine, offset,
 -- buried distance, the distance model's four, and the probe radius).
 use Prim.Native.Nat.{ℕ}
 use lib.Ieee.{Float, nan}
@@ -17,7 +17,7 @@ settingsFrom counts floats =
       «max_reflection_planes» = getD counts 2 0;
       «reflection_edge_fade» = getD floats 0 nan;
       «max_reflection_distance» = getD floats 1 nan;
-      «speed_of_sound» = getD floats 2 nan;
+      «temperature_celsius» = getD floats 2 nan;
       «sample_rate» = getD floats 3 nan;
       «plane_merge_cos» = getD floats 4 nan;
       «plane_merge» = not (eqb (getD counts 3 0) 0);

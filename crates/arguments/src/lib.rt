@@ -18,7 +18,7 @@ pub fn curve_of(number: u32) -> bands::DistanceCurve
 }
 
 // `counts` are max_reflection_order, max_reflections, max_reflection_planes, plane_merge (0 or not), the curve (0 is Inverse) and crossing_limit.
-// `floats` are reflection_edge_fade, max_reflection_distance, speed_of_sound, sample_rate, plane_merge_cos, plane_merge_offset,
+// `floats` are reflection_edge_fade, max_reflection_distance, temperature_celsius, sample_rate, plane_merge_cos, plane_merge_offset,
 // plane_buried_distance, the distance model's reference_distance, rolloff_factor, min_distance and max_distance, and probe_radius.
 pub fn settings_from(counts: &[u32], floats: &[f32]) -> Settings
     requires { ⌜ (length (now counts) ≡ 6) × (length (now floats) ≡ 12) ⌝ }
@@ -39,7 +39,7 @@ pub fn settings_from(counts: &[u32], floats: &[f32]) -> Settings
         max_reflection_planes: counts[2],
         reflection_edge_fade: floats[0],
         max_reflection_distance: floats[1],
-        speed_of_sound: floats[2],
+        temperature_celsius: floats[2],
         sample_rate: floats[3],
         plane_merge_cos: floats[4],
         plane_merge,

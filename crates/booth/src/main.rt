@@ -56,7 +56,7 @@ fn settings_of(w: &[u32], f: &[f32]) -> Settings {
         max_reflection_planes: casefile::word(w, 2),
         reflection_edge_fade: real(f, 0),
         max_reflection_distance: real(f, 1),
-        speed_of_sound: real(f, 2),
+        temperature_celsius: real(f, 2),
         sample_rate: real(f, 3),
         plane_merge_cos: real(f, 4),
         plane_merge,

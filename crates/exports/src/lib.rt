@@ -1,5 +1,5 @@
-// What a station calls from C or Rust: the query, its forecast, the packet, the planes of a scene, the walls of an image and the lengths of the areas, with
-// numbers, slices and arrays alone. A `&[T]` passes as a pointer and then a length, a `&[T; n]` as a pointer to n elements. No function asks anything of its
+// What a station calls from C or Rust: the query, its forecast, its speed of sound, the packet, the planes of a scene, the walls of an image and the lengths
+// of the areas, with numbers, slices and arrays alone. A `&[T]` passes as a pointer and then a length, a `&[T; n]` as a pointer to n elements. No function asks anything of its
 // caller: what is wrong is refused. include/bivelondry.h declares them, bindings/rust wraps them.
 use answer::Answered;
 use packet::Reading;
@@ -15,6 +15,7 @@ ghost use Rattle.packet.specs.Writer.{writeAnswer, writeOut, writeRefusal, writ
 ghost use Rattle.numbering.specs.Walls.{answerOf};
 ghost use Rattle.scene.specs.Scene.{scene};
 ghost use Rattle.scene.specs.Limits.{mostTriples};
+ghost use Rattle.scene.specs.Speed.{speedOf};
 ghost use Rattle.cost.specs.Forecast.{Forecast};
 ghost use Rattle.arguments.specs.Point.{pointFrom};
 ghost use Rattle.mirror.specs.Rows.{planeFloats, planeWords, planesIn};
@@ -138,6 +139,16 @@ pub extern "C" fn biv_area_lengths(triples: usize, c: u32, lens: &mut [usize; sc
     }
     *lens = least_lengths(triples, c as usize);
     true
+}
+
+// ---- the speed of sound
+
+// `scene::speed_of_sound`: the metres a second that a query works out from its temperature.
+#[no_mangle]
+pub extern "C" fn biv_speed_of_sound(temperature_celsius: f32) -> f32
+    ensures { λ r. ⌜ r ≡ speedOf «temperature_celsius» ⌝ }
+{
+    scene::speed_of_sound(temperature_celsius)
 }
 
 // ---- the forecast

@@ -24,6 +24,7 @@ use Rattle.mirror.specs.Mirror as mirror
 use Rattle.mirror.specs.Border.{nearestOf, pointSegmentDistanceOf, nearerOf, borderDistanceOf, smoothOf, weightOf}
 use Rattle.mirror.specs.Locate as locate
 use Rattle.scene.specs.Limits.{maxCrossings, visibilityRadius}
+use Rattle.scene.specs.Speed.{speedOf}
 use Rattle.segments.specs.Materials.{bandsIn, transmissionOf, coefficientOf, coefficientsOf, reflectionOf}
 use Rattle.segments.specs.Segment.{transmission, segmentRayOf, walkOf, segmentTransmissionOf, offsetOf, midOf, addPartOf, probeOf, probesOf, segmentSoftTransmissionOf}
 use Rattle.segments.specs.Areas.{traceIn}
@@ -37,7 +38,7 @@ use Rattle.paths.specs.Visibility.{startOf, goOf, goAllOf, wayOf}
 use Rattle.paths.specs.Gains.{usableOf, reflectedOf, airGainOf, gainsOf, candidateOf, arrivedOf}
 use Rattle.paths.specs.Path.{verdict, bouncedOf, pathWith, pathOf}
 use Rattle.claim.specs.Answer.{Found, tapOf}
-use Rattle.known_points.specs.CaseA.{settings, materials, source, listener, image, bounce, tap}
+use Rattle.known_points.specs.CaseA.{settings, materials, source, listener, speed, image, bounce, tap}
 use Rattle.known_points.proofs.Scene.{two}
 use Rattle.known_points.proofs.Tree.{tree}
 use Rattle.known_points.proofs.Planes.{plane}
@@ -69,11 +70,15 @@ second-segment = refl
 
 -- ---- what arrives
 
+pub speed-is : speedOf (settings .«temperature_celsius») ≡ speed
+unfolding speedOf sqrtOf rootOf isqrt add mul div ofBits round
+speed-is = refl
+
 abbrev pub candidate : PathCandidate
 candidate =
     record {
       energy = fin false 10737419 (negsuc 26);
-      delay = fin false 375 (pos 1);
+      delay = fin false 5728671 (negsuc 12);
       direction = vec (fin true 5033165 (negsuc 22)) (fin true 13421773 (negsuc 23)) (fin false 0 (pos 0));
       gains = splatOf (fin false 13421773 (negsuc 26));
     }
@@ -104,7 +109,7 @@ arrives :
     arrivedOf settings bounce listener (fin false 5 (pos 0)) one32
     (gainsOf (settings .«distance_model») (reflectedOf materials (triangleAt two) (0 ∷ [])) (fin false 5 (pos 0)) one32) (splatOf one32)
     ≡ Passed candidate
-unfolding arrivedOf gainsOf reflectedOf airGainOf candidateOf gainOf curveOf inverseOf betweenOf furthestOf heldOf triangleAt reflectionOf coefficientsOf coefficientOf bandsIn splatOf mulOf scaleOf sumOfSquaresOf normalize3Of length3Of dot3Of sub3Of sqrtOf rootOf isqrt minOf maxOf clampOf isFinite add sub mul div neg lt le eq isNan ofBits round
+unfolding arrivedOf gainsOf reflectedOf airGainOf candidateOf speedOf gainOf curveOf inverseOf betweenOf furthestOf heldOf triangleAt reflectionOf coefficientsOf coefficientOf bandsIn splatOf mulOf scaleOf sumOfSquaresOf normalize3Of length3Of dot3Of sub3Of sqrtOf rootOf isqrt minOf maxOf clampOf isFinite add sub mul div neg lt le eq isNan ofBits round
 arrives = refl
 
 gone :

@@ -17,6 +17,7 @@ use Rattle.sequences.proofs.Points.{table}
 use Rattle.known_points.specs.CaseA.{settings, room, floor, source, listener, separated, tap, packet}
 use Rattle.known_points.specs.KnownPoints.{KnownPoints, Received, called, Enough}
 use Rattle.known_points.proofs.Scene.{not-refused, least-enough}
+use Rattle.known_points.proofs.Path.{speed-is}
 use Rattle.known_points.proofs.Whole.{case-a, near-plane, off-plane, case-a-image, case-a-bounce}
 
 packet-is : packetOf 1 36 (tap ∷ []) ≡ packet
@@ -45,6 +46,7 @@ pub known-points : KnownPoints
 known-points =
     record {
       case-a = case-a;
+      case-a-speed = speed-is;
       case-a-image = case-a-image;
       case-a-bounce = case-a-bounce;
       case-a-caller = received;

@@ -5,6 +5,7 @@ use mathlib.Core.Bool.{false}
 use mathlib.Core.List.{List, [], _∷_}
 use lib.ListN.{length}
 use lib.Ieee.{add, sub, mul, neg, lt, eq, ofBits, round}
+use Rattle.scene.specs.Speed.{speedOf}
 use Rattle.float.specs.Compare.{absOf, isFinite}
 use Rattle.vector.specs.declared.Vec3.{Vec3}
 use Rattle.vector.specs.Vector.{dot3Of}
@@ -72,18 +73,18 @@ path-for =
 
 query-a : queryFor settings two materials source listener 3 room 16 ≡ given answer
 query-a =
-    one-passes (onOf (planesFor settings two) source) 3 (settings .«speed_of_sound») (settings .«sample_rate») (pathFor settings two materials source listener) 36 found
+    one-passes (onOf (planesFor settings two) source) 3 (speedOf (settings .«temperature_celsius»)) (settings .«sample_rate») (pathFor settings two materials source listener) 36 found
     (seen-from source (0 ∷ []) ((0 ∷ []) ∷ []) first-allowed one-seen) path-for
     ∙ ap (λ t. given (record { images = 1; rays = 36; taps = t ∷ [] })) tap-is
 
 query-near : queryFor settings two materials nearSource listener 3 room 16 ≡ given (record { images = 0; rays = 0; taps = [] })
 query-near =
-    nothing-seen (onOf (planesFor settings two) nearSource) 3 (settings .«speed_of_sound») (settings .«sample_rate») 15 (pathFor settings two materials nearSource listener)
+    nothing-seen (onOf (planesFor settings two) nearSource) 3 (speedOf (settings .«temperature_celsius»)) (settings .«sample_rate») 15 (pathFor settings two materials nearSource listener)
     (seen-from nearSource (1 ∷ []) [] near-on none-seen)
 
 query-far : (a : Answer) × (queryFor settings two materials farSource listener 3 room 16 ≡ given a) × (a .images ≡ 1)
 query-far =
-    one-image (onOf (planesFor settings two) farSource) 3 (settings .«speed_of_sound») (settings .«sample_rate») 16 (pathFor settings two materials farSource listener)
+    one-image (onOf (planesFor settings two) farSource) 3 (speedOf (settings .«temperature_celsius»)) (settings .«sample_rate») 16 (pathFor settings two materials farSource listener)
     (seen-from farSource (0 ∷ []) ((0 ∷ []) ∷ []) far-allowed one-seen)
 
 -- ---- the call

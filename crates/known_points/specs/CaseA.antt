@@ -29,7 +29,7 @@ whole n = number n 1
 
 -- ---- the call
 
--- "fade 0.1, .. Inverse with reference, rolloff and least distance 1, .. speed 320, rate 48,000, .. other settings the Rust's defaults"
+-- "fade 0.1, .. Inverse with reference, rolloff and least distance 1, .. rate 48,000, .. other settings the Rust's defaults"; document 02, Note 4: "Case A moves to 20 degrees"
 abbrev pub settings : Settings
 settings =
     record {
@@ -38,7 +38,7 @@ settings =
       «max_reflection_planes» = 32;
       «reflection_edge_fade» = number 1 10;
       «max_reflection_distance» = whole 50;
-      «speed_of_sound» = whole 320;
+      «temperature_celsius» = whole 20;
       «sample_rate» = whole 48000;
       -- the cosine of 5 degrees
       «plane_merge_cos» = ofBits binary32 0x3f7f_069e;
@@ -115,18 +115,22 @@ farSource = vec (whole 0) (number 1 10000) (whole 0)
 abbrev pub image : Vec3
 image = vec (whole 0) (minus 2 1) (whole 0)
 
+-- "speed the f32 nearest 343.2"
+abbrev pub speed : Float
+speed = number 3432 10
+
 -- "bounce (1.5,0,0)"
 abbrev pub bounce : Vec3
 bounce = vec (number 3 2) (whole 0) (whole 0)
 
--- "delay 750, order 1, number 1"; the bounce lies from the listener at (−0.6, −0.8, 0), and each gain is 0.1: half the sound after an absorption of
--- 0.75, over 5 metres
+-- "order 1, number 1"; the delay is 5 metres times 48,000 by the speed, 699.30066; the bounce lies from the listener at (−0.6, −0.8, 0), and each gain
+-- is 0.1: half the sound after an absorption of 0.75, over 5 metres
 abbrev pub tap : Candidate
 tap =
     record {
       energy = ofBits binary32 0x3da3_d70b;
       order = 1;
-      delay = whole 750;
+      delay = ofBits binary32 0x442e_d33e;
       direction = vec (minus 3 5) (minus 4 5) (whole 0);
       gains = splatOf (number 1 10);
       number = 1;
@@ -142,6 +146,6 @@ packet =
     1 ∷ 1 ∷ 0 ∷ 0 ∷ 0 ∷ 36 ∷ 0 ∷ 0 ∷ 0
     ∷ 0xff ∷ 1 ∷ 1 ∷ 0 ∷ 0 ∷ 0
     ∷ 0x9a ∷ 0x99 ∷ 0x19 ∷ 0xbf ∷ 0xcd ∷ 0xcc ∷ 0x4c ∷ 0xbf ∷ 0 ∷ 0 ∷ 0 ∷ 0
-    ∷ 0x00 ∷ 0x80 ∷ 0x3b ∷ 0x44
+    ∷ 0x3e ∷ 0xd3 ∷ 0x2e ∷ 0x44
     ∷ 0xcd ∷ 0xcc ∷ 0xcc ∷ 0x3d ∷ 0xcd ∷ 0xcc ∷ 0xcc ∷ 0x3d ∷ 0xcd ∷ 0xcc ∷ 0xcc ∷ 0x3d ∷ 0xcd ∷ 0xcc ∷ 0xcc ∷ 0x3d
     ∷ 0xcd ∷ 0xcc ∷ 0xcc ∷ 0x3d ∷ 0xcd ∷ 0xcc ∷ 0xcc ∷ 0x3d ∷ 0xcd ∷ 0xcc ∷ 0xcc ∷ 0x3d ∷ 0xcd ∷ 0xcc ∷ 0xcc ∷ 0x3d ∷ []

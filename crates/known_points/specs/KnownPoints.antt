@@ -4,6 +4,7 @@ use mathlib.Core.Path.{_≡_}
 use mathlib.Core.Bool.{false}
 use mathlib.Core.List.{List, [], _∷_, _++_}
 use lib.ListN.{drop}
+use Rattle.scene.specs.Speed.{speedOf}
 use Rattle.scene.specs.Areas.{shortOf}
 use Rattle.placing.specs.Corners.{triangles}
 use Rattle.patches.specs.Triangles.{triangleAt}
@@ -17,7 +18,7 @@ use Rattle.query.specs.Areas.{Work, zeroed, lengthsOf}
 use Rattle.query.specs.Trace.{traceOf, Traced}
 use Rattle.sequences.proofs.Points.{Table}
 use Rattle.vector.specs.declared.Vec3.{Vec3}
-use Rattle.known_points.specs.CaseA.{settings, room, floor, leastLengths, source, listener, separated, nearSource, farSource, image, bounce, answer, packet, whole}
+use Rattle.known_points.specs.CaseA.{settings, room, floor, leastLengths, source, listener, separated, nearSource, farSource, speed, image, bounce, answer, packet, whole}
 
 -- the whole call of case A, with the source at some place and areas of some lengths
 abbrev pub called : Vec3 → List ℕ → Query
@@ -34,8 +35,10 @@ pub record Received (r : Answered) (out out′ : List ℕ) (found left : Work) :
   pub areas : left ≡ zeroed found
 
 pub record KnownPoints : Type 0 where
-  -- A: "delay 750, order 1, number 1, images 1, rays 36"
+  -- A: "order 1, number 1, images 1, rays 36", and the delay at 20 degrees
   pub case-a : (lens : List ℕ) → Enough lens → called source lens ≡ given answer
+  -- A: "speed the f32 nearest 343.2"
+  pub case-a-speed : speedOf (settings .«temperature_celsius») ≡ speed
   -- A: "image (0,−2,0)", the source mirrored in the floor's one plane
   pub case-a-image : imageOf (planesFor settings (triangles floor)) source (0 ∷ []) ≡ image
   -- A: "bounce (1.5,0,0)", on triangle 0 and too far inside its border to fade

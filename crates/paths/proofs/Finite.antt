@@ -113,7 +113,7 @@ module _ (limit : ℕ) (radius : Float) (s : Settings) (planes : List Plane) (tr
     picked false = tt
 
   path-finite-by :
-      T (ratesOf (s .«max_reflection_distance») (s .«speed_of_sound») (s .«sample_rate»)) → 0 < length seq →
+      T (ratesOf (s .«max_reflection_distance») (s .«temperature_celsius») (s .«sample_rate»)) → 0 < length seq →
       (c : PathCandidate) → pathWith limit radius s planes tri t materials source listener seq .fate ≡ Passed c → T (isFinite (c .energy))
   path-finite-by within some c e =
       let bounded = path-bounded in
@@ -122,7 +122,7 @@ module _ (limit : ℕ) (radius : Float) (s : Settings) (planes : List Plane) (tr
 
 module _ (limit : ℕ) (radius : Float) (s : Settings) (planes : List Plane) (tri : ℕ → Triangle) (t : Tree) (materials : List Float) (source listener : Vec3) (seq : List ℕ) where
   pub path-finite :
-      T (ratesOf (s .«max_reflection_distance») (s .«speed_of_sound») (s .«sample_rate»)) → T (modelNumbersOf (s .«distance_model»)) → ModelFits (s .«distance_model») →
+      T (ratesOf (s .«max_reflection_distance») (s .«temperature_celsius») (s .«sample_rate»)) → T (modelNumbersOf (s .«distance_model»)) → ModelFits (s .«distance_model») →
       0 < length seq → length seq ≤ 8 → (c : PathCandidate) → pathWith limit radius s planes tri t materials source listener seq .fate ≡ Passed c → T (isFinite (c .energy))
   path-finite within model fit some few c e =
       path-finite-by limit radius s planes tri t materials source listener seq few (λ d. gain-most (s .«distance_model») d model fit) within some c e

@@ -3,6 +3,7 @@ pub mod Laws
 pub mod Bound
 pub mod Numbers
 pub mod Finite
+pub mod Speed
 mod Floats
 mod Ranges
 mod Signs

@@ -1,5 +1,5 @@
--- The candidate of a path is a number in all its parts, where distance, speed and rate lie within document 01's limits: its energy was tested; its
--- delay is a length up to 1,000 times the rate by the speed; and its direction is that of the first segment, whose length is a part of the whole.
+-- The candidate of a path is a number in all its parts, where distance, temperature and rate lie within their limits: its energy was tested; its
+-- delay is a length up to 1,000 times the rate by the speed, which the temperature bounds (`Speed`); and its direction is that of the first segment, whose length is a part of the whole.
 use mathlib.Core.Path.{_≡_, refl}
 use mathlib.Core.Bool.{Bool, true, false, not, cond, _&&_}
 use mathlib.Core.List.{List, [], _∷_}
@@ -20,7 +20,8 @@ use Rattle.bands.specs.declared.Band8.{Band8}
 use Rattle.bands.specs.Band8.{mulOf, sumOfSquaresOf}
 use Rattle.build.specs.Tree.{Tree}
 use Rattle.scene.specs.declared.Settings.{Settings}
-use Rattle.scene.specs.Limits.{leastSpeed, mostSpeed, leastRate, mostRate, mostDistance, betweenOf, aboveZeroOf, ratesOf}
+use Rattle.scene.specs.Limits.{leastTemperature, mostTemperature, leastRate, mostRate, mostDistance, betweenOf, aboveZeroOf, ratesOf}
+use Rattle.scene.specs.Speed.{speedOf}
 use Rattle.mirror.specs.Plane.{Plane, noPoint}
 use Rattle.segments.specs.declared.Transmission.{Transmission}
 use Rattle.segments.specs.Materials.{transmissionOf}
@@ -42,15 +43,16 @@ use Rattle.paths.proofs.Floats.{above-number, number-left, number-right
 use Rattle.paths.proofs.Signs.{NotNegative, one-not-negative, below-none}
 use Rattle.paths.proofs.Levels.{Weight, back-weight}
 use Rattle.paths.proofs.Bands.{NotNegative8, mul8, transmission8, soft8, way8, gains8}
-use Rattle.paths.proofs.Ranges.{positive-of, le-of-not-lt, delay-positive, quotient-finite}
+use Rattle.paths.proofs.Ranges.{positive-of, le-of-not-lt, leastSpeed, mostSpeed, delay-positive, quotient-finite}
+use Rattle.paths.proofs.Speed.{speed-within}
 
 -- ---- the settings
 
 pub record Rates (s : Settings) : Type 0 where
   pub far : T (positive (s .«max_reflection_distance»))
   pub near : T (le (s .«max_reflection_distance») mostDistance)
-  pub slow : T (le leastSpeed (s .«speed_of_sound»))
-  pub fast : T (le (s .«speed_of_sound») mostSpeed)
+  pub slow : T (le leastSpeed (speedOf (s .«temperature_celsius»)))
+  pub fast : T (le (speedOf (s .«temperature_celsius»)) mostSpeed)
   pub seldom : T (le leastRate (s .«sample_rate»))
   pub often : T (le (s .«sample_rate») mostRate)
 
@@ -67,21 +69,22 @@ held-finite (fin s m e) (fin t n d) g l h = tt
 held-positive : (x high : Float) → T (isFinite high) → T (lt zero32 x) → T (le x high) → T (positive x)
 held-positive x high g l h = positive-of x (held-finite x high g l h) l
 
-pub rates-within : (s : Settings) → T (ratesOf (s .«max_reflection_distance») (s .«speed_of_sound») (s .«sample_rate»)) → Rates s
+pub rates-within : (s : Settings) → T (ratesOf (s .«max_reflection_distance») (s .«temperature_celsius») (s .«sample_rate»)) → Rates s
 unfolding ratesOf betweenOf aboveZeroOf ofBits isFinite
 rates-within s h =
     let distance = s .«max_reflection_distance» in
-    let speed = s .«speed_of_sound» in
+    let t = s .«temperature_celsius» in
     let rate = s .«sample_rate» in
-    let held = and-l (lt zero32 distance && le distance mostDistance) ((le leastSpeed speed && le speed mostSpeed) && (le leastRate rate && le rate mostRate)) h in
-    let two = and-r (lt zero32 distance && le distance mostDistance) ((le leastSpeed speed && le speed mostSpeed) && (le leastRate rate && le rate mostRate)) h in
-    let moving = and-l (le leastSpeed speed && le speed mostSpeed) (le leastRate rate && le rate mostRate) two in
-    let sampled = and-r (le leastSpeed speed && le speed mostSpeed) (le leastRate rate && le rate mostRate) two in
+    let held = and-l (lt zero32 distance && le distance mostDistance) ((le leastTemperature t && le t mostTemperature) && (le leastRate rate && le rate mostRate)) h in
+    let two = and-r (lt zero32 distance && le distance mostDistance) ((le leastTemperature t && le t mostTemperature) && (le leastRate rate && le rate mostRate)) h in
+    let mild = and-l (le leastTemperature t && le t mostTemperature) (le leastRate rate && le rate mostRate) two in
+    let sampled = and-r (le leastTemperature t && le t mostTemperature) (le leastRate rate && le rate mostRate) two in
+    let speed = speed-within t (and-l (le leastTemperature t) (le t mostTemperature) mild) (and-r (le leastTemperature t) (le t mostTemperature) mild) in
     record {
       far = held-positive distance mostDistance tt (and-l (lt zero32 distance) (le distance mostDistance) held) (and-r (lt zero32 distance) (le distance mostDistance) held);
       near = and-r (lt zero32 distance) (le distance mostDistance) held;
-      slow = and-l (le leastSpeed speed) (le speed mostSpeed) moving;
-      fast = and-r (le leastSpeed speed) (le speed mostSpeed) moving;
+      slow = speed .below;
+      fast = speed .above;
       seldom = and-l (le leastRate rate) (le rate mostRate) sampled;
       often = and-r (le leastRate rate) (le rate mostRate) sampled;
     }
@@ -204,11 +207,11 @@ pub record Used (s : Settings) (total : Float) : Type 0 where
   pub above : T (lt zero32 total)
   pub within : T (not (lt (s .«max_reflection_distance») total))
 
-candidate-delay : (s : Settings) (total : Float) → Rates s → Used s total → T (positive (div binary32 (mul binary32 total (s .«sample_rate»)) (s .«speed_of_sound»)))
+candidate-delay : (s : Settings) (total : Float) → Rates s → Used s total → T (positive (div binary32 (mul binary32 total (s .«sample_rate»)) (speedOf (s .«temperature_celsius»))))
 candidate-delay s total r u =
     let p = positive-of total (u .finite) (u .above) in
     let far = s .«max_reflection_distance» in
-    delay-positive total (s .«sample_rate») (s .«speed_of_sound») p (u .fitting)
+    delay-positive total (s .«sample_rate») (speedOf (s .«temperature_celsius»)) p (u .fitting)
     (le-trans-positive total far mostDistance p (r .far) most-positive (le-of-not-lt total far p (r .far) (u .within)) (r .near))
     (r .seldom) (r .often) (r .slow) (r .fast)
 
@@ -242,7 +245,7 @@ candidate-numbers s last listener total g r u near above fit level =
       energy-above = above;
       energy-fits = energy-fits g;
       energy-number = number;
-      delay-fits = div-fits binary32 (mul binary32 total (s .«sample_rate»)) (s .«speed_of_sound»);
+      delay-fits = div-fits binary32 (mul binary32 total (s .«sample_rate»)) (speedOf (s .«temperature_celsius»));
       delay-number = positive-number _ (candidate-delay s total r u);
       delay-positive = candidate-delay s total r u;
       gains-fit = fit;
@@ -362,6 +365,6 @@ module _ (limit : ℕ) (radius : Float) (s : Settings) (planes : List Plane) (tr
     picked false = tt
 
   pub path-numbers :
-      T (ratesOf (s .«max_reflection_distance») (s .«speed_of_sound») (s .«sample_rate»)) → 0 < length seq →
+      T (ratesOf (s .«max_reflection_distance») (s .«temperature_celsius») (s .«sample_rate»)) → 0 < length seq →
       (c : PathCandidate) → pathWith limit radius s planes tri t materials source listener seq .fate ≡ Passed c → Numbers c
   path-numbers within some c e = let sound = path-sound (rates-within s within) some in rw e at sound

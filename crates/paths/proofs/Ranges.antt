@@ -18,7 +18,7 @@ use Rattle.float.proofs.Squares.{square-lt-back}
 use Rattle.vector.specs.Vector.{tiny}
 use Rattle.paths.proofs.Floats.{above-not-zero, finite-square}
 use Rattle.float.specs.Compare.{isFinite}
-use Rattle.scene.specs.Limits.{mostDistance, leastSpeed, mostSpeed, leastRate, mostRate}
+use Rattle.scene.specs.Limits.{mostDistance, leastRate, mostRate}
 
 -- ---- above zero
 
@@ -96,7 +96,14 @@ module _ (f : Format) where
 
 -- ---- the delay
 
--- a length up to 1,000 times a rate from 8,000 to 192,000 by a speed from 100 to 2,000
+-- 318 and 361, between which the speed lies (`Speed`)
+abbrev pub leastSpeed : Float
+leastSpeed = ofBits binary32 0x439f_0000
+
+abbrev pub mostSpeed : Float
+mostSpeed = ofBits binary32 0x43b4_8000
+
+-- a length up to 1,000 times a rate from 8,000 to 192,000 by a speed from 318 to 361
 module _ (total rate speed : Float) (p : T (positive total)) (f : T (fits binary32 total)) (h : T (le total mostDistance))
     (r : T (le leastRate rate)) (r′ : T (le rate mostRate)) (v : T (le leastSpeed speed)) (v′ : T (le speed mostSpeed)) where
   rate-positive : T (positive rate)

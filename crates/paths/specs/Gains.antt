@@ -13,6 +13,7 @@ use Rattle.bands.specs.declared.DistanceModel.{DistanceModel}
 use Rattle.bands.specs.Band8.{splatOf, mulOf, scaleOf, sumOfSquaresOf}
 use Rattle.bands.specs.Distance.{gainOf}
 use Rattle.scene.specs.declared.Settings.{Settings}
+use Rattle.scene.specs.Speed.{speedOf}
 use Rattle.segments.specs.Materials.{reflectionOf}
 use Rattle.paths.specs.declared.PathCandidate.{PathCandidate}
 use Rattle.paths.specs.declared.Fate.{Fate}
@@ -54,7 +55,7 @@ unfoldable pub candidateOf : Settings → Vec3 → Vec3 → Float → Band8 → 
 candidateOf s last listener total gains =
     record {
       energy = sumOfSquaresOf gains;
-      delay = div binary32 (mul binary32 total (s .«sample_rate»)) (s .«speed_of_sound»);
+      delay = div binary32 (mul binary32 total (s .«sample_rate»)) (speedOf (s .«temperature_celsius»));
       direction = normalize3Of (sub3Of last listener);
       gains = gains;
     }

@@ -1,5 +1,5 @@
 -- What the ranking and a packet need of a candidate: nothing in it is NaN, all are values of the format, the delay is above 0, the direction
--- finite, and no gain below 0. That a candidate of a path has it, where distance, speed and rate lie within document 01's limits, is `path-numbers` of
+-- finite, and no gain below 0. That a candidate of a path has it, where distance, temperature and rate lie within their limits, is `path-numbers` of
 -- proofs/Numbers.antt.
 use lib.Dec.{T}
 use lib.Ieee.{Float, binary32, lt, fits, isNan}

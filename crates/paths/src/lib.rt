@@ -248,9 +248,10 @@ fn rejected(weight: f32, blocker: Band8) -> Fate
 fn candidate(s: Settings, last: Vec3, listener: Vec3, total: f32, gains: Band8) -> PathCandidate
     ensures { λ r. ⌜ r ≡ candidateOf s last listener total gains ⌝ }
 {
+    let speed = scene::speed_of_sound(s.temperature_celsius);
     PathCandidate {
         energy: bands::sum_of_squares(gains),
-        delay: total * s.sample_rate / s.speed_of_sound,
+        delay: total * s.sample_rate / speed,
         direction: vector::normalize3(vector::sub3(last, listener)),
         gains,
     }

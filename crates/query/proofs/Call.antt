@@ -19,6 +19,7 @@ use Rattle.scene.specs.declared.Settings.{Settings}
 use Rattle.scene.specs.Limits.{mostCandidates, leastCrossings, mostCrossings, betweenOf, countsOf, ratesOf, mergesOf, modelNumbersOf, probesOf, settingsOf}
 use Rattle.scene.specs.Scene.{Scene}
 use Rattle.scene.specs.Refusals.{refusal1, refusal2, refusal3, refusal4, refusal5, first}
+use Rattle.scene.specs.Speed.{speedOf}
 use Rattle.placing.specs.Corners.{triangles, placings, refusal6}
 use Rattle.placing.specs.Loading.{firstRefusal, answerOf, left, Loading}
 use Rattle.placing.specs.declared.Loaded.{Loaded}
@@ -108,7 +109,7 @@ work-cleared k w w′ e late = e ∙ sym (ap (λ (b : Bool). cond b w (zeroed w)
 pub record Within (st : Settings) (c : ℕ) : Type 0 where
   pub planes : st .«max_reflection_planes» ≤ mostPlanes
   pub room : c ≤ mostCandidates
-  pub rates : T (ratesOf (st .«max_reflection_distance») (st .«speed_of_sound») (st .«sample_rate»))
+  pub rates : T (ratesOf (st .«max_reflection_distance») (st .«temperature_celsius») (st .«sample_rate»))
   pub model : T (modelNumbersOf (st .«distance_model»))
   pub crossings : st .«crossing_limit» ≤ mostCrossings
 
@@ -129,7 +130,7 @@ pub within : (st : Settings) (c : ℕ) → settingsOf st c ≡ true → Within s
 unfolding settingsOf countsOf probesOf
 within st c e =
     let m = st .«distance_model» in
-    let rest = ratesOf (st .«max_reflection_distance») (st .«speed_of_sound») (st .«sample_rate») in
+    let rest = ratesOf (st .«max_reflection_distance») (st .«temperature_celsius») (st .«sample_rate») in
     let merged = mergesOf (st .«plane_merge_cos») (st .«reflection_edge_fade») (st .«plane_merge_offset») (st .«plane_buried_distance») in
     let limit = st .«crossing_limit» in
     let wide = betweenOf (st .«probe_radius») zero32 one32 in
@@ -248,14 +249,14 @@ traced st c s source listener separated r out out′ found left h w =
           let g = given-only (firstRefusal st c s (lengthsOf found out)) (queryIn st c s source listener separated) a e in
           let p = settings-within st c s (lengthsOf found out) (g .0) in
           let few = used-most (silentOf separated source listener (length (triangles s))) (min (st .«max_reflection_order») maxOrder) (omega arith) in
-          query-complete (onOf (planesFor st (triangles s)) source) (orderOf st s source listener separated) (st .«speed_of_sound») (st .«sample_rate») (limitOf st)
+          query-complete (onOf (planesFor st (triangles s)) source) (orderOf st s source listener separated) (speedOf (st .«temperature_celsius»)) (st .«sample_rate») (limitOf st)
           (pathFor st (triangles s) (s .materials) source listener) (small (orderOf st s source listener separated) few)
           (paths-proper st (planesFor st (triangles s)) (triangleAt (triangles s)) (treeOf (triangles s)) (s .materials) source listener (p .rates)
           (onOf (planesFor st (triangles s)) source) (orderOf st s source listener separated)) c a (g .1);
       rays = λ a e.
           let g = given-only (firstRefusal st c s (lengthsOf found out)) (queryIn st c s source listener separated) a e in
           let same =
-          given-rays (onOf (planesFor st (triangles s)) source) (orderOf st s source listener separated) (st .«speed_of_sound») (st .«sample_rate») (limitOf st) c
+          given-rays (onOf (planesFor st (triangles s)) source) (orderOf st s source listener separated) (speedOf (st .«temperature_celsius»)) (st .«sample_rate») (limitOf st) c
           (pathFor st (triangles s) (s .materials) source listener) a (g .1)
           in
           subst (λ (n : ℕ). n ≤ mostRays (st .«crossing_limit») (visited (onOf (planesFor st (triangles s)) source) (orderOf st s source listener separated))) (sym same)

@@ -16,6 +16,7 @@ use Rattle.vector.specs.declared.Vec3.{Vec3}
 use Rattle.scene.specs.declared.Settings.{Settings}
 use Rattle.scene.specs.Scene.{Scene}
 use Rattle.scene.specs.Refusals.{refusal1, refusal2, refusal3, refusal4, refusal5, first}
+use Rattle.scene.specs.Speed.{speedOf}
 use Rattle.placing.specs.Corners.{triangles, refusal6}
 use Rattle.placing.specs.Loading.{firstRefusal}
 use Rattle.mirror.specs.Plane.{Plane}
@@ -94,14 +95,14 @@ module _ (st : Settings) (c : ℕ) (s : Scene) (source listener : Vec3) (separat
 
   pub never-seven : length (seenOf st s source listener separated) ≤ c → callOf st c s source listener separated areas out ≡ refused 7 → ⊥
   never-seven h e =
-      query-roomy on-of (orderOf st s source listener separated) (st .«speed_of_sound») (st .«sample_rate») (limitOf st) c
+      query-roomy on-of (orderOf st s source listener separated) (speedOf (st .«temperature_celsius»)) (st .«sample_rate») (limitOf st) c
       (pathFor st (triangles s) (s .materials) source listener) h
       (seven-only (firstRefusal st c s (lengthsOf areas out)) (queryIn st c s source listener separated) (early st c s (lengthsOf areas out)) e)
 
   images-seen : (a : Answer) → callOf st c s source listener separated areas out ≡ given a → a .images ≡ length (seenOf st s source listener separated)
   images-seen a e =
       sym (ap (λ (x : Answer). x .images)
-      (given-is on-of (orderOf st s source listener separated) (st .«speed_of_sound») (st .«sample_rate») (limitOf st) c
+      (given-is on-of (orderOf st s source listener separated) (speedOf (st .«temperature_celsius»)) (st .«sample_rate») (limitOf st) c
       (pathFor st (triangles s) (s .materials) source listener) a
       (by-given (firstRefusal st c s (lengthsOf areas out)) (queryIn st c s source listener separated) a e)))
 

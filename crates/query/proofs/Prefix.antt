@@ -23,6 +23,7 @@ use Rattle.scene.specs.declared.Settings.{Settings}
 use Rattle.scene.specs.Scene.{Scene}
 use Rattle.scene.specs.Limits.{settingsOf}
 use Rattle.scene.specs.Refusals.{refusal1}
+use Rattle.scene.specs.Speed.{speedOf}
 use Rattle.segments.specs.declared.Transmission.{Transmission}
 use Rattle.segments.specs.Materials.{transmissionOf}
 use Rattle.segments.specs.Segment.{segmentSoftTransmissionOf}
@@ -135,17 +136,17 @@ module _ (st : Settings) (a b : ℕ) (h : a ≤ b) (s : Scene) (source listener 
       let order = orderOf st s source listener separated in
       let path = pathFor (withList st a) (triangles s) (s .materials) source listener in
       let path′ = pathFor (withList st b) (triangles s) (s .materials) source listener in
-      let short : answerOf on order (st .«speed_of_sound») (st .«sample_rate») (min a mostTaps) path ≡ x =
-      given-is on order (st .«speed_of_sound») (st .«sample_rate») (min a mostTaps) c path x
+      let short : answerOf on order (speedOf (st .«temperature_celsius»)) (st .«sample_rate») (min a mostTaps) path ≡ x =
+      given-is on order (speedOf (st .«temperature_celsius»)) (st .«sample_rate») (min a mostTaps) c path x
       (by-given (firstRefusal (withList st a) c s lens) (queryIn (withList st a) c s source listener separated) x e) in
-      let long : answerOf on order (st .«speed_of_sound») (st .«sample_rate») (min b mostTaps) path′ ≡ y =
-      given-is on order (st .«speed_of_sound») (st .«sample_rate») (min b mostTaps) c′ path′ y
+      let long : answerOf on order (speedOf (st .«temperature_celsius»)) (st .«sample_rate») (min b mostTaps) path′ ≡ y =
+      given-is on order (speedOf (st .«temperature_celsius»)) (st .«sample_rate») (min b mostTaps) c′ path′ y
       (by-given (firstRefusal (withList st b) c′ s lens′) (queryIn (withList st b) c′ s source listener separated) y f) in
       let same : _≡_ {A = List ℕ → Outcome} path path′ = paths-same st a b (triangles s) (s .materials) source listener in
       subst (λ (z : Answer). FirstOf a z y)
-      (ap (λ (p : List ℕ → Outcome). answerOf on order (st .«speed_of_sound») (st .«sample_rate») (min a mostTaps) p) (sym same) ∙ short)
-      (subst (λ (z : Answer). FirstOf a (answerOf on order (st .«speed_of_sound») (st .«sample_rate») (min a mostTaps) path′) z) long
-      (first-of on order (st .«speed_of_sound») (st .«sample_rate») path′ a b h))
+      (ap (λ (p : List ℕ → Outcome). answerOf on order (speedOf (st .«temperature_celsius»)) (st .«sample_rate») (min a mostTaps) p) (sym same) ∙ short)
+      (subst (λ (z : Answer). FirstOf a (answerOf on order (speedOf (st .«temperature_celsius»)) (st .«sample_rate») (min a mostTaps) path′) z) long
+      (first-of on order (speedOf (st .«temperature_celsius»)) (st .«sample_rate») path′ a b h))
 
 -- ---- two calls
 
@@ -223,13 +224,13 @@ module _ (st : Settings) (a b : ℕ) (h : a ≤ b) (s : Scene) (source listener 
       let on = onOf (planesFor st (triangles s)) source in
       let order = orderOf st s source listener separated in
       let k = firstRefusal st c s lens in
-      let long = byRefusal k (queryOf on order (st .«speed_of_sound») (st .«sample_rate») (min b mostTaps) c (pathFor (withList st b) (triangles s) (s .materials) source listener)) in
+      let long = byRefusal k (queryOf on order (speedOf (st .«temperature_celsius»)) (st .«sample_rate») (min b mostTaps) c (pathFor (withList st b) (triangles s) (s .materials) source listener)) in
       subst
       (λ (p : List ℕ → Outcome).
-      let short = byRefusal k (queryOf on order (st .«speed_of_sound») (st .«sample_rate») (min a mostTaps) c p) in
+      let short = byRefusal k (queryOf on order (speedOf (st .«temperature_celsius»)) (st .«sample_rate») (min a mostTaps) c p) in
       ShortAndLong a (answeredOf short) (answeredOf long) (outputOf short out) (outputOf long out′))
       (sym (paths-same st a b (triangles s) (s .materials) source listener))
-      (both-queries on order (st .«speed_of_sound») (st .«sample_rate») c (pathFor (withList st b) (triangles s) (s .materials) source listener) a b h out out′ k)
+      (both-queries on order (speedOf (st .«temperature_celsius»)) (st .«sample_rate») c (pathFor (withList st b) (triangles s) (s .materials) source listener) a b h out out′ k)
 
   -- of two calls with equal C and areas of equal lengths, whatever the areas held
   pub prefix-calls :
@@ -266,7 +267,7 @@ module _ (st : Settings) (a b : ℕ) (h : a ≤ b) (s : Scene) (source listener 
   -- the answer of a list of k, where there is one
   abbrev answer : ℕ → Answer
   answer k =
-      answerOf (onOf (planesFor (withList st k) (triangles s)) source) (orderOf st s source listener separated) (st .«speed_of_sound») (st .«sample_rate»)
+      answerOf (onOf (planesFor (withList st k) (triangles s)) source) (orderOf st s source listener separated) (speedOf (st .«temperature_celsius»)) (st .«sample_rate»)
       (min k mostTaps) (pathFor (withList st k) (triangles s) (s .materials) source listener)
 
   abbrev candidates : ℕ → List Candidate
@@ -278,7 +279,7 @@ module _ (st : Settings) (a b : ℕ) (h : a ≤ b) (s : Scene) (source listener 
       (k c : ℕ) (lens : List ℕ) (r : Answered) → r ≡ answeredOf (traceOf (withList st k) c s lens source listener separated) → r .refusal ≡ 0 →
       traceOf (withList st k) c s lens source listener separated ≡ given (answer k)
   answer-told k c lens r e z =
-      given-told (onOf (planesFor (withList st k) (triangles s)) source) (orderOf st s source listener separated) (st .«speed_of_sound») (st .«sample_rate»)
+      given-told (onOf (planesFor (withList st k) (triangles s)) source) (orderOf st s source listener separated) (speedOf (st .«temperature_celsius»)) (st .«sample_rate»)
       (min k mostTaps) c (pathFor (withList st k) (triangles s) (s .materials) source listener) (firstRefusal (withList st k) c s lens)
       (sym (ap (λ (x : Answered). x .refusal) e) ∙ z)
 
@@ -296,4 +297,4 @@ module _ (st : Settings) (a b : ℕ) (h : a ≤ b) (s : Scene) (source listener 
       let first = prefix-answers st a b h s source listener separated c c′ lens lens′ (answer a) (answer b) e e′ in
       carried a (given (answer a)) (given (answer b)) short long out out₁ out′ out₁′ (t .answer ∙ ap answeredOf e) (t′ .answer ∙ ap answeredOf e′)
       (t .output ∙ ap (λ (q : Query). outputOf q out) e) (t′ .output ∙ ap (λ (q : Query). outputOf q out′) e′)
-      (given-both a (answer a) (answer b) out out′ first (few-ranked (st .«speed_of_sound») (st .«sample_rate») (min b mostTaps) (candidates b) (omega arith)))
+      (given-both a (answer a) (answer b) out out′ first (few-ranked (speedOf (st .«temperature_celsius»)) (st .«sample_rate») (min b mostTaps) (candidates b) (omega arith)))

@@ -8,6 +8,7 @@ use lib.ListN.{length}
 use Rattle.vector.specs.declared.Vec3.{Vec3}
 use Rattle.scene.specs.declared.Settings.{Settings}
 use Rattle.scene.specs.Scene.{Scene}
+use Rattle.scene.specs.Speed.{speedOf}
 use Rattle.placing.specs.Corners.{triangles}
 use Rattle.placing.specs.Loading.{firstRefusal}
 use Rattle.bounces.specs.Areas.{maxOrder}
@@ -57,7 +58,7 @@ pub record Traced
   -- DEMAND 3, one claim about the answer's count and list together
   pub complete :
       (a : Answer) → callOf st c s source listener separated found out ≡ given a →
-      Complete (onOf (planesFor st (triangles s)) source) (orderOf st s source listener separated) (st .«speed_of_sound») (st .«sample_rate») (limitOf st)
+      Complete (onOf (planesFor st (triangles s)) source) (orderOf st s source listener separated) (speedOf (st .«temperature_celsius»)) (st .«sample_rate») (limitOf st)
       (pathFor st (triangles s) (s .materials) source listener) a
   -- "An image of order n then costs at most 18 × (limit + 1) × (n + 1) rays"
   pub rays :

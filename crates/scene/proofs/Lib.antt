@@ -3,3 +3,4 @@ pub mod Cuts
 pub mod Bound
 pub mod Rooms
 pub mod Answers
+mod Speed

@@ -23,12 +23,12 @@ mostTriples = 4096
 abbrev pub mostDistance : Float
 mostDistance = ofBits binary32 0x447a_0000
 
--- speed of sound 100 to 2,000
-abbrev pub leastSpeed : Float
-leastSpeed = ofBits binary32 0x42c8_0000
+-- temperature −20 to 50
+abbrev pub leastTemperature : Float
+leastTemperature = ofBits binary32 0xc1a0_0000
 
-abbrev pub mostSpeed : Float
-mostSpeed = ofBits binary32 0x44fa_0000
+abbrev pub mostTemperature : Float
+mostTemperature = ofBits binary32 0x4248_0000
 
 -- sample rate 8,000 to 192,000
 abbrev pub leastRate : Float
@@ -67,9 +67,9 @@ aboveZeroOf x high = lt zero32 x && le x high
 unfoldable pub countsOf : ℕ → ℕ → Bool
 countsOf planes c = not (ltb mostPlanes planes) && not (ltb mostCandidates c)
 
--- the reflection distance, the speed of sound and the sample rate within theirs
+-- the reflection distance, the temperature and the sample rate within theirs
 unfoldable pub ratesOf : Float → Float → Float → Bool
-ratesOf distance speed rate = aboveZeroOf distance mostDistance && (betweenOf speed leastSpeed mostSpeed && betweenOf rate leastRate mostRate)
+ratesOf distance temperature rate = aboveZeroOf distance mostDistance && (betweenOf temperature leastTemperature mostTemperature && betweenOf rate leastRate mostRate)
 
 -- cosine −1 to 1; fade, merge offset and buried distance finite
 unfoldable pub mergesOf : Float → Float → Float → Float → Bool
@@ -92,6 +92,6 @@ probesOf limit radius = not (ltb limit leastCrossings) && (not (ltb mostCrossing
 unfoldable pub settingsOf : Settings → ℕ → Bool
 settingsOf s c =
     countsOf (s .«max_reflection_planes») c
-    && (ratesOf (s .«max_reflection_distance») (s .«speed_of_sound») (s .«sample_rate»)
+    && (ratesOf (s .«max_reflection_distance») (s .«temperature_celsius») (s .«sample_rate»)
     && (mergesOf (s .«plane_merge_cos») (s .«reflection_edge_fade») (s .«plane_merge_offset») (s .«plane_buried_distance»)
     && (modelNumbersOf (s .«distance_model») && probesOf (s .«crossing_limit») (s .«probe_radius»))))

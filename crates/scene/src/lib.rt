@@ -5,6 +5,7 @@ ghost use mathlib.Core.Path.{_≡_};
 ghost use Prim.Native.Nat.{_+_, _≤_, _<_, min};
 ghost use lib.ListN.{length};
 ghost use Rattle.scene.specs.Limits.{mostTriples, betweenOf, aboveZeroOf, countsOf, ratesOf, mergesOf, modelNumberOf, modelNumbersOf, probesOf, settingsOf};
+ghost use Rattle.scene.specs.Speed.{speedOf};
 ghost use Rattle.scene.specs.Scene.{scene, headers, tripleSum};
 ghost use Rattle.scene.specs.Areas.{shortOf};
 ghost use Rattle.scene.specs.Refusals.{meshesWhole, transformsRight, positionsRight, indicesRight, materialsRight, lengthsRightOf, unknownHandle, checkOf};
@@ -17,7 +18,7 @@ pub struct Settings {
     pub max_reflection_planes: u32,
     pub reflection_edge_fade: f32,
     pub max_reflection_distance: f32,
-    pub speed_of_sound: f32,
+    pub temperature_celsius: f32,
     pub sample_rate: f32,
     pub plane_merge_cos: f32,
     pub plane_merge: bool,
@@ -38,6 +39,8 @@ const MOST_PLANES: u32 = 256;
 
 const MOST_CANDIDATES: u32 = 250_000;
 
+const LEAST_TEMPERATURE: f32 = -20.0;
+
 const LEAST_CROSSINGS: u32 = 1;
 
 pub const MOST_CROSSINGS: u32 = 32;
@@ -50,6 +53,13 @@ pub const REFLECTION_VISIBILITY_RADIUS: f32 = 0.06;
 pub const MOST_TRIPLES: usize = 4096;
 
 const TOO_MANY_TRIPLES: usize = MOST_TRIPLES + 1;
+
+// Metres a second and kelvins at 20 degrees, and kelvins at 0 degrees.
+const REFERENCE_SPEED: f32 = 343.2;
+
+const REFERENCE_KELVIN: f32 = 293.15;
+
+const ZERO_CELSIUS: f32 = 273.15;
 
 // How many areas are lent, the output the last.
 pub const AREAS: usize = 20;
@@ -126,6 +136,15 @@ pub const MORE: [usize; AREAS] = [
     3465, // out
 ];
 
+// ---- the speed of sound
+
+// Metres a second at a temperature, by ISO 9613-1.
+pub fn speed_of_sound(temperature_celsius: f32) -> f32
+    ensures { λ r. ⌜ r ≡ speedOf «temperature_celsius» ⌝ }
+{
+    REFERENCE_SPEED * float::sqrt((temperature_celsius + ZERO_CELSIUS) / REFERENCE_KELVIN)
+}
+
 // ---- 1, the settings
 
 fn between(x: f32, low: f32, high: f32) -> bool
@@ -152,11 +171,11 @@ fn counts(planes: u32, c: u32) -> bool
     true
 }
 
-fn rates(distance: f32, speed: f32, rate: f32) -> bool
-    ensures { λ r. ⌜ r ≡ ratesOf distance speed rate ⌝ }
+fn rates(distance: f32, temperature: f32, rate: f32) -> bool
+    ensures { λ r. ⌜ r ≡ ratesOf distance temperature rate ⌝ }
 {
     if above_zero(distance, 1000.0) {
-        if between(speed, 100.0, 2000.0) {
+        if between(temperature, LEAST_TEMPERATURE, 50.0) {
             return between(rate, 8000.0, 192000.0);
         }
     }
@@ -213,7 +232,11 @@ fn within_limits(s: Settings, c: u32) -> bool
     ensures { λ r. ⌜ r ≡ settingsOf s c ⌝ }
 {
     if counts(s.max_reflection_planes, c) {
-        if rates(s.max_reflection_distance, s.speed_of_sound, s.sample_rate) {
+        if rates(
+            s.max_reflection_distance,
+            s.temperature_celsius,
+            s.sample_rate,
+        ) {
             if merges(
                 s.plane_merge_cos,
                 s.reflection_edge_fade,

@@ -66,7 +66,7 @@ by-fate Faint q r f n e = never q r f e
 by-fate (Passed c) q r f n e = subst Proper (ap (whatOf f) e) (proper-of c (n c refl))
 
 module _ (s : Settings) (planes : List Plane) (tri : ℕ → Triangle) (t : Tree) (materials : List Float) (source listener : Vec3)
-    (within : T (ratesOf (s .«max_reflection_distance») (s .«speed_of_sound») (s .«sample_rate»))) where
+    (within : T (ratesOf (s .«max_reflection_distance») (s .«temperature_celsius») (s .«sample_rate»))) where
   pub paths-proper :
       (on : List ℕ) (order : ℕ) (seq : List ℕ) (r : ℕ) (f : Found) → IsAllowed on order seq →
       outcomesOf s planes tri t materials source listener seq ≡ passes r f → Proper f

@@ -123,7 +123,7 @@ by-fate Faint q r f n s k h e = never q r f e
 by-fate (Passed c) q r f n s k h e = subst (λ (g : Found). Sound (claimed.tapOf n s g)) (ap (whatOf f) e) (sound-of c (k c refl) (h c refl) n s)
 
 module _ (s : Settings) (planes : List Plane) (tri : ℕ → Triangle) (t : Tree) (materials : List Float) (source listener : Vec3)
-    (within : T (ratesOf (s .«max_reflection_distance») (s .«speed_of_sound») (s .«sample_rate»))) (model : T (modelNumbersOf (s .«distance_model»))) (fit : ModelFits (s .«distance_model»)) where
+    (within : T (ratesOf (s .«max_reflection_distance») (s .«temperature_celsius») (s .«sample_rate»))) (model : T (modelNumbersOf (s .«distance_model»))) (fit : ModelFits (s .«distance_model»)) where
   pub path-sound :
       (seq : List ℕ) (n r : ℕ) (f : Found) → 0 < length seq → length seq ≤ mostOrder → outcomesOf s planes tri t materials source listener seq ≡ passes r f → Sound (claimed.tapOf n seq f)
   unfolding outcomeOf pathOf
@@ -181,7 +181,7 @@ module _ (on : List ℕ) (order : ℕ) (path : List ℕ → Outcome) (small : or
       (subst (Sendable (length (visited on order))) (sym b) (found-sendable (visited on order) (is-visited on order) room))
 
 module _ (s : Settings) (planes : List Plane) (tri : ℕ → Triangle) (t : Tree) (materials : List Float) (source listener : Vec3)
-    (within : T (ratesOf (s .«max_reflection_distance») (s .«speed_of_sound») (s .«sample_rate»))) (model : T (modelNumbersOf (s .«distance_model»))) (fit : ModelFits (s .«distance_model»)) where
+    (within : T (ratesOf (s .«max_reflection_distance») (s .«temperature_celsius») (s .«sample_rate»))) (model : T (modelNumbersOf (s .«distance_model»))) (fit : ModelFits (s .«distance_model»)) where
   pub search-sendable :
       (on : List ℕ) (order room n : ℕ) (fs : List Float) (ws : List ℕ) (m r : ℕ) (o : Bool) → order ≤ mostOrder →
       search m r (candidatesIn n fs ws) o ≡ searched on order room (outcomesOf s planes tri t materials source listener) → Sendable m (candidatesIn n fs ws)

@@ -16,6 +16,7 @@ use Rattle.geometry.specs.declared.Triangle.{Triangle}
 use Rattle.patches.specs.Triangles.{triangleAt}
 use Rattle.buried.specs.Probe.{probeOf}
 use Rattle.scene.specs.declared.Settings.{Settings}
+use Rattle.scene.specs.Speed.{speedOf}
 use Rattle.scene_bvh.specs.SceneTree.{treeOf}
 use Rattle.placing.specs.Corners.{triangles}
 use Rattle.placing.specs.Loading.{firstRefusal}
@@ -134,7 +135,7 @@ call-numbered st c s source listener separated r out out′ found left traced a 
         (none-refused (firstRefusal st c s (lengthsOf found out)) (queryIn st c s source listener separated) a is) .planes)
 
     -- nothing is visited where nothing is searched
-    none : (k : Complete on 0 (st .«speed_of_sound») (st .«sample_rate») (limitOf st) path a) → ⊥
+    none : (k : Complete on 0 (speedOf (st .«temperature_celsius»)) (st .«sample_rate») (limitOf st) path a) → ⊥
     none k =
         let p = k .exactly t .0 h .passed in
         let i = image-allowed on 0 (k .seen) (t .number) (p .sequence) (k .visits) (p .image) in
@@ -143,9 +144,9 @@ call-numbered st c s source listener separated r out out′ found left traced a 
         omega arith
 
     by :
-        (b : Bool) → Complete on (usedOrder b (searchOrder st)) (st .«speed_of_sound») (st .«sample_rate») (limitOf st) path a →
+        (b : Bool) → Complete on (usedOrder b (searchOrder st)) (speedOf (st .«temperature_celsius»)) (st .«sample_rate») (limitOf st) path a →
         NumberedWalls (onOf (planesFor st (triangles s)) source) (searchOrder st) (pathFor st (triangles s) (s .materials) source listener) t
     by true k = absurd (none k)
     by false k =
-        tap-numbered (onOf (planesFor st (triangles s)) source) (searchOrder st) (st .«speed_of_sound») (st .«sample_rate») (limitOf st)
+        tap-numbered (onOf (planesFor st (triangles s)) source) (searchOrder st) (speedOf (st .«temperature_celsius»)) (st .«sample_rate») (limitOf st)
         (pathFor st (triangles s) (s .materials) source listener) a high few (on-flags (planesFor st (triangles s)) source) k t h

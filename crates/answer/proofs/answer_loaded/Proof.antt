@@ -2,6 +2,7 @@ use mathlib.Core.Path.{_≡_, _∙_}
 use lib.ListN.{length}
 use native.Mathlib.Omega.{arith}
 use borrow.Author.Needs.{needs}
+use Rattle.scene.specs.Speed.{speedOf}
 use Rattle.patches.specs.Triangles.{triangleAt}
 use Rattle.placing.specs.Corners.{triangles}
 use Rattle.ranking.specs.Rows.{candidatesIn}
@@ -134,7 +135,7 @@ returns c = let a = c .before .before .before .before .before .before .before .b
     let end = claim.search (r .images) (r .rays) (candidatesIn (r .found) (f .last .1 .1 .1 .1 .1 .1 .1 .1 .1 .1 .1 .1 .0) (f .last .1 .1 .1 .1 .1 .1 .1 .1 .0)) (r .over) in (
       record {
         over = λ s loaded same.
-            by-same (a .refusal) (ended (st .«speed_of_sound») (st .«sample_rate») (limitOf st) end)
+            by-same (a .refusal) (ended (speedOf (st .«temperature_celsius»)) (st .«sample_rate») (limitOf st) end)
             (queryFor st (triangles s) (s .materials) (a .source) (a .listener) (usedOrder (silentOf (a .separated) (a .source) (a .listener) (a .m)) (searchOrder st)) (a .room) (limitOf st)) (w .result) (a .out .now) (w .last .1 .1 .1 .1 .0)
             (λ none.
             end-is st (triangles s) (s .materials) (a .source) (a .listener) (usedOrder (silentOf (a .separated) (a .source) (a .listener) (a .m)) (searchOrder st)) (a .room) (limitOf st) end

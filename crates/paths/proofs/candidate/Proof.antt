@@ -11,8 +11,10 @@ candidate-spec =
     (λ c κs. tt)
     (λ c κs. tt)
     (λ c κs. tt)
+    (λ c κs. tt)
     (λ c. rw (
-      ← c .before .before .before .before .sum-of-squares .ensures,
+      ← c .before .before .before .before .speed-of-sound .ensures,
+      ← c .before .before .before .sum-of-squares .ensures,
       ← c .before .sub3 .ensures,
       ← c .normalize3 .ensures,
     )))

@@ -374,7 +374,7 @@ fn queries() {
         let (p, q) = rounds(
             20,
             || (),
-            |_| { let f = scene.search(&c.source, &c.listener, order as usize, &mut rows); black_box(rows.rank_first(f.found, c.settings.speed, c.settings.rate, &mut out)); },
+            |_| { let f = scene.search(&c.source, &c.listener, order as usize, &mut rows); black_box(rows.rank_first(f.found, oracle::speed_of_sound(c.settings.temperature), c.settings.rate, &mut out)); },
             |_| { black_box(oracle::run_built(&c, &backend)); },
         );
         line(&format!("query, {name}, order {order}, to {far} m: {} images", found.images), p, q);
@@ -387,14 +387,14 @@ fn rankings() {
     // the Rust compares each candidate with all kept ones, so that many distinct ones take it minutes
     for (n, values) in [(100, 1000), (2000, 1000), (250_000, 4)] {
         let found = ranking::list(&mut r, n, values);
-        let (mut rows, config, mut out) = (ranking::rows(&found), ranking::config(343.0, 48_000.0, TAPS), vec![0; TAPS]);
-        let kept = rows.rank(343.0, 48_000.0, &mut out);
+        let (mut rows, config, mut out) = (ranking::rows(&found), ranking::config(343.2, 48_000.0, TAPS), vec![0; TAPS]);
+        let kept = rows.rank(343.2, 48_000.0, &mut out);
         let same: Vec<u32> = out[..kept].iter().map(|&p| p + 1).collect();
         assert_eq!(same, oracle_rank(&found, &config));
         let sets = (20_000 / n).max(1);
         let (p, q) = both(
             || (),
-            |_| (0..sets).for_each(|_| { black_box(rows.rank(343.0, 48_000.0, &mut out)); }),
+            |_| (0..sets).for_each(|_| { black_box(rows.rank(343.2, 48_000.0, &mut out)); }),
             |_| (0..sets).for_each(|_| { black_box(oracle_rank(&found, &config)); }),
         );
         line(&format!("rank_reflections, {n} from {values} values"), p / sets as f64, q / sets as f64);

@@ -243,8 +243,8 @@ fn settings() -> Vec<Row> {
         |s| s.planes = 257,
         |s| s.room = 250_001,
         |s| s.max_distance = 1000f32.next_up(),
-        |s| s.speed = 100f32.next_down(),
-        |s| s.speed = 2000f32.next_up(),
+        |s| s.temperature = (-20f32).next_down(),
+        |s| s.temperature = 50f32.next_up(),
         |s| s.rate = 8000f32.next_down(),
         |s| s.rate = 192_000f32.next_up(),
         |s| s.merge_cos = 1f32.next_up(),
@@ -277,7 +277,7 @@ fn settings() -> Vec<Row> {
         one(
             &heard,
             "a setting past its limit",
-            "case A with 257 planes, or C 250,001; distance, speed, rate, cosine or a number of the distance model one float past an end; fade, merge offset or buried distance NaN or infinite; crossing limit 0 or 33; probe radius past 1 or NaN",
+            "case A with 257 planes, or C 250,001; distance, temperature, rate, cosine or a number of the distance model one float past an end; fade, merge offset or buried distance NaN or infinite; crossing limit 0 or 33; probe radius past 1 or NaN",
         ),
         one(&silent, "the same, nothing heard", "case A with distance 0 or NaN, or fade infinite"),
     ]

@@ -37,7 +37,7 @@ pub fn lent(c: &Case) -> Lent {
         counts: [s.order, s.max_reflections, s.planes, s.merge_on as u32, s.linear as u32, s.crossing_limit],
         #[rustfmt::skip]
         floats: [
-            s.fade, s.max_distance, s.speed, s.rate, s.merge_cos, s.merge_offset, s.buried, s.reference, s.rolloff, s.min_distance, s.far_distance,
+            s.fade, s.max_distance, s.temperature, s.rate, s.merge_cos, s.merge_offset, s.buried, s.reference, s.rolloff, s.min_distance, s.far_distance,
             s.probe_radius,
         ],
         room: s.room,

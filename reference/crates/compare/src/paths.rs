@@ -183,7 +183,7 @@ impl Sides<'_> {
         let mut lengths = Vec::new();
         while let Some(seq) = sequences.next() {
             if let Some(found) = self.path(&seq)?.candidate {
-                lengths.push((seq.clone(), found[1] * self.case.settings.speed / self.case.settings.rate));
+                lengths.push((seq.clone(), found[1] * oracle::speed_of_sound(self.case.settings.temperature) / self.case.settings.rate));
                 sequences.good.push(seq);
             }
         }

@@ -44,7 +44,7 @@ pub fn run(count: u64, seed: u64) {
         let n = [0, 1, 2, 20, 200, 2000][r.below(6)];
         let values = [1, 3, 12, 500][r.below(4)];
         let limit = [0, 1, 8, 64][r.below(4)];
-        let (speed, rate) = (r.from(100.0, 2000.0), r.from(8000.0, 192_000.0));
+        let (speed, rate) = (oracle::speed_of_sound(r.from(-20.0, 50.0)), r.from(8000.0, 192_000.0));
         let found = list(&mut r, n, values);
         let mut out = vec![0; limit];
         let len = rows(&found).rank(speed, rate, &mut out);

@@ -305,7 +305,7 @@ fn limits(c: &mut Case, r: &mut Random) {
         2 => s.order = [0, 1, 8, 9, u32::MAX][r.below(5)].min(if s.planes > 6 { 2 } else { u32::MAX }),
         3 => s.max_reflections = [0, 1, 63, 64, 65, u32::MAX][r.below(6)],
         4 => s.max_distance = { let x = [0.0, 1000.0][r.below(2)]; around(r, x) },
-        5 => s.speed = { let x = [100.0, 2000.0][r.below(2)]; around(r, x) },
+        5 => s.temperature = { let x = [-20.0, 50.0][r.below(2)]; around(r, x) },
         6 => s.rate = { let x = [8000.0, 192_000.0][r.below(2)]; around(r, x) },
         7 => s.merge_cos = { let x = [-1.0, 1.0][r.below(2)]; around(r, x) },
         8 => s.fade = r.any_float(),
@@ -335,14 +335,17 @@ fn thick(c: &mut Case, r: &mut Random) {
     c.materials[0].transmission = [r.from(0.95, 1.0); 8];
 }
 
-/// The case of a kind and a seed with probe settings, of numbers of their own, so that the scene stays what it is: half of the curtains are as
-/// thick as the limit, and some limits and radii are those that are refused.
+/// The case of a kind and a seed with a temperature and probe settings, of numbers of their own, so that the scene stays what it is: half of the
+/// curtains are as thick as the limit, and some limits and radii are those that are refused.
 pub fn probed(kind: Kind, seed: u64) -> Case {
     let (mut c, mut r) = (case(kind, seed), Random::new(seed.wrapping_mul(64) + 32 + kind as u64));
     if r.chance(2) {
         let radius = Settings::default().probe_radius;
         c.settings.crossing_limit = [1, 2, 8, 9, 31, 32][r.below(6)];
         c.settings.probe_radius = [0.0, -0.0, f32::from_bits(1), radius.next_down(), radius.next_up(), 1f32.next_down(), 1.0, r.from(0.0, 1.0)][r.below(8)];
+    }
+    if kind != Kind::Limits {
+        c.settings.temperature = [-20.0, 50.0, 20.0, r.from(-20.0, 50.0), r.from(-20.0, 50.0)][r.below(5)];
     }
     if kind == Kind::Curtains && r.chance(2) {
         thick(&mut c, &mut r);

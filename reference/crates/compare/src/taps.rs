@@ -37,7 +37,7 @@ pub fn run(c: &Case, backend: &CpuSimdComputeBackend, scene: &Scene, planted: Op
     let mut rows = Candidates::with_room(theirs.candidates as usize);
     let mut mine = scene.search(&c.source, &c.listener, order, &mut rows);
     let mut out = vec![0; (c.settings.max_reflections as usize).min(TAPS)];
-    let kept = rows.rank_first(mine.found, c.settings.speed, c.settings.rate, &mut out);
+    let kept = rows.rank_first(mine.found, oracle::speed_of_sound(c.settings.temperature), c.settings.rate, &mut out);
     let mut taps: Vec<(Vec<f32>, Vec<u32>)> = out[..kept].iter().map(|&k| rows.row(k as usize)).map(|(f, w)| (f.to_vec(), w.to_vec())).collect();
     match planted {
         Some(0) => mine.images += 1,

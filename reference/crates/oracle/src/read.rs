@@ -136,7 +136,7 @@ impl<'a> Reader<'a> {
         self.word("counts")?;
         let (order, max_reflections, planes, room) = (self.whole()?, self.whole()?, self.whole()?, self.whole()?);
         self.word("floats")?;
-        let [fade, max_distance, speed, rate, merge_cos, merge_offset, buried] = self.floats()?;
+        let [fade, max_distance, temperature, rate, merge_cos, merge_offset, buried] = self.floats()?;
         self.word("merge")?;
         let merge_on = self.flag()?;
         self.word("curve")?;
@@ -144,7 +144,7 @@ impl<'a> Reader<'a> {
         let [reference, rolloff, min_distance, far_distance] = self.floats()?;
         let (crossing_limit, probe_radius) = self.probes()?;
         Ok(Settings {
-            order, max_reflections, planes, fade, max_distance, speed, rate, merge_cos, merge_on, merge_offset, buried, linear, reference, rolloff,
+            order, max_reflections, planes, fade, max_distance, temperature, rate, merge_cos, merge_on, merge_offset, buried, linear, reference, rolloff,
             min_distance, far_distance, crossing_limit, probe_radius, room,
         })
     }

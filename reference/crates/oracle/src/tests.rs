@@ -7,8 +7,8 @@ use std::path::{Path, PathBuf};
 /// Document 01's case A, as docs/BOOTH.md has it.
 const FLOOR: &str = "case floor
 counts 3 16 32 250000                  # order, most taps, most planes, room for candidates
-floats 0.1 50 320 48000 3f7f069e 0.25 0.05
-                                       # edge fade, longest path, speed of sound, sample rate,
+floats 0.1 50 20 48000 3f7f069e 0.25 0.05
+                                       # edge fade, longest path, temperature, sample rate,
                                        # cosine of the merge angle, merge offset, buried distance
 merge 1
 curve inverse 1 1 1 10000              # reference, rolloff, least and greatest distance
@@ -174,7 +174,7 @@ fn every_part_reaches_its_place() {
         mesh 0 0 0 t 0 0 0 0 0 0 0 0 0 0 0 0 0 0 0 0 source 1 2 3 listener 4 5 6 separated 1 end");
     let s = &c.settings;
     assert_eq!((s.order, s.max_reflections, s.planes, s.room), (1, 2, 3, 4));
-    assert_eq!([s.fade, s.max_distance, s.speed, s.rate, s.merge_cos, s.merge_offset, s.buried], [5.0, 6.0, 7.0, 8.0, 9.0, 10.0, 11.0]);
+    assert_eq!([s.fade, s.max_distance, s.temperature, s.rate, s.merge_cos, s.merge_offset, s.buried], [5.0, 6.0, 7.0, 8.0, 9.0, 10.0, 11.0]);
     assert_eq!((s.merge_on, s.linear, s.reference, s.rolloff, s.min_distance, s.far_distance), (false, true, 12.0, 13.0, 14.0, 15.0));
     assert_eq!((s.crossing_limit, s.probe_radius), (16, 17.0));
     assert_eq!(c.materials[0].absorption, [1.0, 2.0, 3.0, 4.0, 5.0, 6.0, 7.0, 8.0]);
@@ -185,6 +185,14 @@ fn every_part_reaches_its_place() {
     assert_eq!((m.transform[0], m.transform[15]), (1.0, 16.0));
     assert_eq!((c.meshes[1].positions.len(), c.meshes[1].indices.len(), c.meshes[1].handle), (0, 0, 0));
     assert_eq!((c.source, c.listener, c.separated), ([1.0, 2.0, 3.0], [4.0, 5.0, 6.0], true));
+}
+
+/// At 20 degrees the quotient is 1, so that the speed is the f32 nearest 343.2; the others by exact arithmetic.
+#[test]
+fn speeds() {
+    for (celsius, bits) in [(-20.0, 0x439f_76a9), (0.0, 0x43a5_a498), (20.0, 0x43ab_999a), (50.0, 0x43b4_2aaa)] {
+        assert_eq!(crate::speed_of_sound(celsius).to_bits(), bits, "{celsius}");
+    }
 }
 
 // ── what is refused ───────────────────────────────────────────────────
@@ -263,14 +271,14 @@ fn the_example_booth_is_the_one_built_in() {
     assert_eq!(bits(text), bits(std::fs::read(top().join("examples/booth.case")).unwrap()));
 }
 
-/// The six single bounces of the shoebox as examples/README.md works them out: 495, 525, 675, 705, 1395 and 1965 samples.
+/// The six single bounces of the shoebox as examples/README.md works them out, at 343.2 metres a second.
 #[test]
 fn the_shoebox_is_as_worked_out_by_hand() {
     let c = one(&std::fs::read(top().join("examples/shoebox.case")).unwrap());
     let taps = crate::run(&c, false).taps;
     assert_eq!(taps.len(), 6);
     for (tap, metres) in taps.iter().zip([3.3, 3.5, 4.5, 4.7, 9.3, 13.1]) {
-        assert!((tap.delay_samples - 150.0 * metres).abs() < 0.001, "{}", tap.delay_samples);
+        assert!((tap.delay_samples - 48_000.0 / 343.2 * metres).abs() < 0.001, "{}", tap.delay_samples);
         assert!(tap.gain.0.iter().all(|g| (g - 0.9 / metres).abs() < 0.000_001), "{:?}", tap.gain.0);
     }
 }
