@@ -16,7 +16,7 @@ use Rattle.build.specs.Tree.{Tree}
 use Rattle.mirror.specs.Plane.{Plane}
 use Rattle.patches.specs.Triangles.{triangleAt}
 use Rattle.scene.specs.declared.Settings.{Settings}
-use Rattle.scene.specs.Limits.{mostCandidates, leastCrossings, mostCrossings, betweenOf, countsOf, ratesOf, mergesOf, modelNumbersOf, probesOf, settingsOf}
+use Rattle.scene.specs.Limits.{mostCandidates, leastCrossings, mostCrossings, betweenOf, countsOf, ratesOf, mergesOf, modelNumbersOf, probeSettingsOf, settingsOf}
 use Rattle.scene.specs.Scene.{Scene}
 use Rattle.scene.specs.Refusals.{refusal1, refusal2, refusal3, refusal4, refusal5, first}
 use Rattle.scene.specs.Speed.{speedOf}
@@ -127,7 +127,7 @@ negated true e = absurd (subst T (sym e) tt)
 negated false e = refl
 
 pub within : (st : Settings) (c : ℕ) → settingsOf st c ≡ true → Within st c
-unfolding settingsOf countsOf probesOf
+unfolding settingsOf countsOf probeSettingsOf
 within st c e =
     let m = st .«distance_model» in
     let rest = ratesOf (st .«max_reflection_distance») (st .«temperature_celsius») (st .«sample_rate») in

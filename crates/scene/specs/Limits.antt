@@ -85,8 +85,8 @@ modelNumbersOf m =
     && (modelNumberOf (m .«rolloff_factor») && (modelNumberOf (m .«min_distance») && modelNumberOf (m .«max_distance»)))
 
 -- the crossing limit within its limits, the probe radius 0 to 1
-unfoldable pub probesOf : ℕ → Float → Bool
-probesOf limit radius = not (ltb limit leastCrossings) && (not (ltb mostCrossings limit) && betweenOf radius zero32 one32)
+unfoldable pub probeSettingsOf : ℕ → Float → Bool
+probeSettingsOf limit radius = not (ltb limit leastCrossings) && (not (ltb mostCrossings limit) && betweenOf radius zero32 one32)
 
 -- every setting, and the candidate room c, within its limits; order and `max_reflections` may be any
 unfoldable pub settingsOf : Settings → ℕ → Bool
@@ -94,4 +94,4 @@ settingsOf s c =
     countsOf (s .«max_reflection_planes») c
     && (ratesOf (s .«max_reflection_distance») (s .«temperature_celsius») (s .«sample_rate»)
     && (mergesOf (s .«plane_merge_cos») (s .«reflection_edge_fade») (s .«plane_merge_offset») (s .«plane_buried_distance»)
-    && (modelNumbersOf (s .«distance_model») && probesOf (s .«crossing_limit») (s .«probe_radius»))))
+    && (modelNumbersOf (s .«distance_model») && probeSettingsOf (s .«crossing_limit») (s .«probe_radius»))))

@@ -4,7 +4,7 @@ use bands::DistanceModel;
 ghost use mathlib.Core.Path.{_≡_};
 ghost use Prim.Native.Nat.{_+_, _≤_, _<_, min};
 ghost use lib.ListN.{length};
-ghost use Rattle.scene.specs.Limits.{mostTriples, betweenOf, aboveZeroOf, countsOf, ratesOf, mergesOf, modelNumberOf, modelNumbersOf, probesOf, settingsOf};
+ghost use Rattle.scene.specs.Limits.{mostTriples, betweenOf, aboveZeroOf, countsOf, ratesOf, mergesOf, modelNumberOf, modelNumbersOf, probeSettingsOf, settingsOf};
 ghost use Rattle.scene.specs.Speed.{speedOf};
 ghost use Rattle.scene.specs.Scene.{scene, headers, tripleSum};
 ghost use Rattle.scene.specs.Areas.{shortOf};
@@ -216,8 +216,8 @@ fn model_numbers(m: DistanceModel) -> bool
 }
 
 // The crossing limit and the probe radius.
-fn probes(limit: u32, radius: f32) -> bool
-    ensures { λ r. ⌜ r ≡ probesOf limit radius ⌝ }
+fn probe_settings(limit: u32, radius: f32) -> bool
+    ensures { λ r. ⌜ r ≡ probeSettingsOf limit radius ⌝ }
 {
     if limit < LEAST_CROSSINGS {
         return false;
@@ -244,7 +244,7 @@ fn within_limits(s: Settings, c: u32) -> bool
                 s.plane_buried_distance,
             ) {
                 if model_numbers(s.distance_model) {
-                    return probes(s.crossing_limit, s.probe_radius);
+                    return probe_settings(s.crossing_limit, s.probe_radius);
                 }
             }
         }

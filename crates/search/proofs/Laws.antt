@@ -32,7 +32,7 @@ use Rattle.paths.proofs.Fate as fate
 use denote.Enum.Declared.{tagOf}
 use types.Run.{OneOf}
 use Rattle.search.specs.Outcome.{onOf, foundOf, byFate}
-use Rattle.search.specs.Contract.{squareOf, Beyond, mostRays}
+use Rattle.search.specs.Contract.{squareOf, Beyond, mostPathRays}
 
 upTo-length : (n : ℕ) → length (upTo n) ≡ n
 unfolding upTo
@@ -42,11 +42,11 @@ upTo-length (suc n) = let e = upTo-length n in length-append (upTo n) (n ∷ [])
 -- ---- rays
 
 -- a path within its bound takes no more than any path may
-pub path-most : (limit len n : ℕ) → n ≤ 18 * (limit + 1) * (len + 1) → limit ≤ mostCrossings → len ≤ maxOrder → n ≤ mostRays
+pub path-most : (limit len n : ℕ) → n ≤ 18 * (limit + 1) * (len + 1) → limit ≤ mostCrossings → len ≤ maxOrder → n ≤ mostPathRays
 path-most limit len n h few short =
     let one : 18 * (limit + 1) ≤ 18 * (mostCrossings + 1) = omega arith in
     let two : len + 1 ≤ maxOrder + 1 = omega arith in
-    let a : 18 * (limit + 1) * (len + 1) ≤ mostRays = mul-le-mul one two in
+    let a : 18 * (limit + 1) * (len + 1) ≤ mostPathRays = mul-le-mul one two in
     omega arith
 
 -- ---- planes

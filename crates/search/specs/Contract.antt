@@ -90,8 +90,8 @@ Lost columns n floats words members edges count seq images len listener =
     fateOf (backOf tri fade (planeOn (planesIn floats words members edges count) seq) (pointIn images) len listener one32 [] []) ≡ madeFate → ⊥
 
 -- no path takes more rays, by any limit and order that are allowed: what keeps the count of rays from wrapping
-abbrev pub mostRays : ℕ
-mostRays = 18 * (mostCrossings + 1) * (maxOrder + 1)
+abbrev pub mostPathRays : ℕ
+mostPathRays = 18 * (mostCrossings + 1) * (maxOrder + 1)
 
 module _ (S : Scene) (q : Task) where
   -- the planes, what is asked of the areas, and what they read as
@@ -121,7 +121,7 @@ module _ (S : Scene) (q : Task) where
     pub planes : (j : ℕ) → j < depth → getD (s .seq) j 0 < q .count
     pub are : (j : ℕ) → j ≤ depth → pointIn (s .images) j ≡ imageOf planesOf (q .source) (take j (s .seq))
     pub few : s .found ≤ q .room
-    pub cost : s .rays ≤ mostRays * s .nodes
+    pub cost : s .rays ≤ mostPathRays * s .nodes
 
   -- what the search asks at a place
   pub record Ready (depth : ℕ) (s : State) (fs : List Float) (ws : List ℕ) : Type 0 where
@@ -198,6 +198,6 @@ pub record Kept (room len rays : ℕ) (c : PathCandidate) (s : Tally) (fs : List
 -- the first `len` planes of the sequence were visited
 pub record Visited (S : Scene) (q : Task) (len : ℕ) (seq : List ℕ) (s : Tally) (fs : List Float) (ws : List ℕ) (r : Tally) (fs′ : List Float) (ws′ : List ℕ) : Type 0 where
   pub counted : r .nodes ≡ s .nodes + 1
-  pub cost : r .rays ≤ s .rays + mostRays
+  pub cost : r .rays ≤ s .rays + mostPathRays
   pub few : r .found ≤ q .room
   pub seen : (tri : ℕ → Triangle) (t : Tree) → Reads S q tri t → tallied r fs′ ws′ ≡ visitPath (q .room) (pathIn S q tri t) (tallied s fs ws) (take len seq)

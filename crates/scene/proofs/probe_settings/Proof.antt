@@ -1,22 +1,22 @@
--- `scene::probes` meets its contract: by its two tests, and by the contract of `between`.
+-- `scene::probe_settings` meets its contract: by its two tests, and by the contract of `between`.
 use mathlib.Core.Path.{_≡_}
 use Prim.Native.Nat.{_≤_, _<_}
 use native.Mathlib.Omega.{arith}
 use borrow.Author.Tests.{lt-ltb, le-ltb}
 use Rattle.float.specs.Literals.{zero32, one32}
-use Rattle.scene.specs.Limits.{leastCrossings, mostCrossings, betweenOf, probesOf}
-use Rattle.scene.proofs.probes.Statement.{statement}
-use Rattle.scene.proofs.probes.Tie as tie
+use Rattle.scene.specs.Limits.{leastCrossings, mostCrossings, betweenOf, probeSettingsOf}
+use Rattle.scene.proofs.probe_settings.Statement.{statement}
+use Rattle.scene.proofs.probe_settings.Tie as tie
 
 returns : tie.Need-returns
-unfolding probesOf
+unfolding probeSettingsOf
 returns c =
     let f = c .if1 .taken in
     let none : c .before .args .limit < leastCrossings = omega arith in
     rw (lt-ltb _ _ none)
 
 returns-2 : tie.Need-returns-2
-unfolding probesOf
+unfolding probeSettingsOf
 returns-2 c =
     let f = c .before .if1 .left in
     let g = c .if2 .taken in
@@ -25,7 +25,7 @@ returns-2 c =
     rw (le-ltb _ _ some, lt-ltb _ _ many)
 
 returns-3 : tie.Need-returns-3
-unfolding probesOf
+unfolding probeSettingsOf
 returns-3 c =
     let f = c .before .before .if1 .left in
     let g = c .before .if2 .left in
@@ -34,8 +34,8 @@ returns-3 c =
     let wide : c .between .result ≡ betweenOf (c .before .before .before .args .radius) zero32 one32 = c .between .ensures in
     rw (le-ltb _ _ some, le-ltb _ _ few, ← wide)
 
-pub probes-spec : {M : Type 1} → statement M
-probes-spec =
+pub probe-settings-spec : {M : Type 1} → statement M
+probe-settings-spec =
     tie.close
     (tie.spec
     returns
