@@ -1,8 +1,13 @@
-// What the query of a case will cost, said before it is traced.
+// What the air takes, and what the query of a case will cost, said before it is traced.
 use crate::table::print;
 use crate::table::print_count;
 use cost::Cost;
 use sequences::MAX_IMAGE_ORDER;
+
+// Where the air's coefficients stand among the words of a case.
+const AIR: usize = 12;
+
+const BANDS: usize = 8;
 
 fn lesser(a: u32, b: u32) -> u32 {
     if a < b {
@@ -16,6 +21,21 @@ fn print_figures(r: Cost) {
     print_count(b" images are visited, ", r.rays);
     print_count(b" rays traced and ", r.words);
     print(b" words of work area taken.\n\n");
+}
+
+fn wide(n: u32) -> u64 {
+    n as u64
+}
+
+// What the air takes, band by band.
+pub fn print_air(w: &[u32]) {
+    print(b"The air takes");
+    let mut k = 0;
+    while k < BANDS {
+        print_count(b" ", wide(casefile::word(w, AIR + k)));
+        k += 1;
+    }
+    print(b" millionths of a decibel a metre.\n");
 }
 
 // The forecast for as many walls as the settings and the triangles of a case allow, each of which may come first. Nothing where none can be made.
