@@ -10,6 +10,7 @@ use Rattle.air.specs.declared.Air.{Air}
 use Rattle.scene.specs.declared.Settings.{Settings}
 use Rattle.arguments.specs.Model.{modelOf}
 
+-- the air's coefficients, counts 6 to 13
 unfoldable pub airFrom : List ℕ → Air
 airFrom counts =
     record {

@@ -1,4 +1,4 @@
--- The limits of document 01, section 'Scene and settings', each named once. A comparison with a NaN is false, so a NaN lies outside every limit.
+-- The limits of document 01, section 'Scene and settings', and of document 02's Notes 4, 5 and 12, each named once. A comparison with a NaN is false, so a NaN lies outside every limit.
 use Prim.Native.Nat.{ℕ}
 use lib.Ieee.{Float, binary32, le, lt, neg, ofBits}
 use lib.Dec.{ltb}
@@ -104,7 +104,7 @@ lowAirOf a = airNumberOf (a .a0) && (airNumberOf (a .a1) && (airNumberOf (a .a2)
 unfoldable pub highAirOf : Air → Bool
 highAirOf a = airNumberOf (a .a4) && (airNumberOf (a .a5) && (airNumberOf (a .a6) && airNumberOf (a .a7)))
 
--- what document 02 adds: the probes and the air
+-- the settings of Notes 12 and 5: the probes and the air
 unfoldable pub laterSettingsOf : Settings → Bool
 laterSettingsOf s = probeSettingsOf (s .«crossing_limit») (s .«probe_radius») && (lowAirOf (s .air) && highAirOf (s .air))
 

@@ -5,7 +5,8 @@ use bands::DistanceModel;
 ghost use mathlib.Core.Path.{_≡_};
 ghost use Prim.Native.Nat.{_+_, _≤_, _<_, min};
 ghost use lib.ListN.{length};
-ghost use Rattle.scene.specs.Limits.{mostTriples, betweenOf, aboveZeroOf, countsOf, ratesOf, mergesOf, modelNumberOf, modelNumbersOf, probeSettingsOf, airNumberOf, lowAirOf, highAirOf, laterSettingsOf, settingsOf};
+ghost use Rattle.scene.specs.Limits.{mostTriples, betweenOf, aboveZeroOf, countsOf, ratesOf, mergesOf, modelNumberOf, modelNumbersOf};
+ghost use Rattle.scene.specs.Limits.{probeSettingsOf, airNumberOf, lowAirOf, highAirOf, laterSettingsOf, settingsOf};
 ghost use Rattle.scene.specs.Speed.{speedOf};
 ghost use Rattle.scene.specs.Scene.{scene, headers, tripleSum};
 ghost use Rattle.scene.specs.Areas.{shortOf};
@@ -50,7 +51,7 @@ const LEAST_CROSSINGS: u32 = 1;
 
 pub const MOST_CROSSINGS: u32 = 32;
 
-// The Rust's values of the last two settings.
+// The Rust's crossing limit and probe radius.
 pub const OCCLUSION_MAX_CROSSINGS: u32 = 8;
 
 pub const REFLECTION_VISIBILITY_RADIUS: f32 = 0.06;
@@ -269,7 +270,7 @@ fn high_air(a: Air) -> bool
     false
 }
 
-// What came after document 01: the probes and the air.
+// The probes and the air.
 fn later_settings(s: Settings) -> bool
     ensures { λ r. ⌜ r ≡ laterSettingsOf s ⌝ }
 {

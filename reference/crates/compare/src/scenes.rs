@@ -320,11 +320,14 @@ fn limits(c: &mut Case, r: &mut Random) {
     c.settings.linear = r.chance(2);
 }
 
-/// Sheets across the way by the floor, about as many as half a segment may cross: in its first half, or in all four, so that every ray is traced that
-/// may be.
+/// Sheets across the way by the floor, about as many as half a segment may cross: in its first half; or in all four and with a bundle that is narrow
+/// enough to meet all of them, so that as many rays are traced as may be.
 fn thick(c: &mut Case, r: &mut Random) {
     let mut m = mesh(0);
-    let (halves, more) = if r.chance(4) { (4, 1) } else { (1, r.below(3)) };
+    let (halves, more) = if r.chance(2) { (4, 1) } else { (1, r.below(3)) };
+    if halves == 4 {
+        c.settings.probe_radius = c.settings.probe_radius.min(0.2);
+    }
     let sheets = c.settings.crossing_limit as usize + more - (halves == 1) as usize;
     for k in 0..halves * sheets {
         let (from, to) = [(-1.9, -1.1), (-0.9, -0.1), (0.1, 1.4), (1.6, 2.9)][k / sheets];
