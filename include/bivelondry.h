@@ -36,7 +36,7 @@
 #define BIV_VERSION_MAJOR 0
 #define BIV_VERSION_MINOR 1
 #define BIV_VERSION_PATCH 0
-#define BIV_VERSION "0.1.0"
+#define BIV_VERSION "0.2.0"
 
 #ifdef __cplusplus
 extern "C" {

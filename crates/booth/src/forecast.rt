@@ -28,7 +28,7 @@ fn wide(n: u32) -> u64 {
 }
 
 // What the air takes, band by band.
-pub fn print_air(w: &[u32]) {
+fn print_air(w: &[u32]) {
     print(b"The air takes");
     let mut k = 0;
     while k < BANDS {
@@ -38,8 +38,10 @@ pub fn print_air(w: &[u32]) {
     print(b" millionths of a decibel a metre.\n");
 }
 
-// The forecast for as many walls as the settings and the triangles of a case allow, each of which may come first. Nothing where none can be made.
+// What the air takes, and the forecast for as many walls as the settings and the triangles of a case allow, each of which may come first; no forecast where
+// none can be made.
 pub fn print_forecast(w: &[u32]) {
+    print_air(w);
     let triples = casefile::word(w, 10) / 3;
     let planes = lesser(casefile::word(w, 2), triples);
     let order = lesser(casefile::word(w, 0), MAX_IMAGE_ORDER as u32);

@@ -334,7 +334,6 @@ fn ask(
     requires { ⌜ (192 ≤ length (now meshes)) × (1024 ≤ length (now transforms)) × (6144 ≤ length (now positions)) × (1536 ≤ length (now indices)) ×
         (1024 ≤ length (now materials)) ⌝ }
 {
-    forecast::print_air(w);
     forecast::print_forecast(w);
     let rows = 16 * limited(casefile::word(w, 7), 64);
     let mesh_words = 3 * limited(casefile::word(w, 8), 64);
