@@ -34,7 +34,7 @@
 /* ---- the version; bindings/installed.sh compares what else has it with these lines */
 
 #define BIV_VERSION_MAJOR 0
-#define BIV_VERSION_MINOR 1
+#define BIV_VERSION_MINOR 2
 #define BIV_VERSION_PATCH 0
 #define BIV_VERSION "0.2.0"
 
