@@ -2,8 +2,8 @@
 // bits. Proved: every text is read safely and to an end, nothing is stored outside the areas, and their lengths stay.
 //
 // A case is stored in seven areas. `w`, of 20 words: the four counts, merge, curve, separated, rows of the material table, meshes, all meshes' vertices
-// and indices, the crossing limit, and the air's eight coefficients. `f`, of 18 floats: the seven of the settings, the four of the curve, source, listener, and the probe radius. Then materials, mesh rows, transforms,
-// positions and indices as `scene` takes them.
+// and indices, the crossing limit, and the air's eight coefficients. `f`, of 18 floats: the seven of the settings, the four of the curve, source,
+// listener, and the probe radius. Then materials, mesh rows, transforms, positions and indices as `scene` takes them.
 use scene::OCCLUSION_MAX_CROSSINGS;
 use scene::REFLECTION_VISIBILITY_RADIUS;
 
