@@ -4,11 +4,6 @@ use crate::table::print_count;
 use cost::Cost;
 use sequences::MAX_IMAGE_ORDER;
 
-// Where the air's coefficients stand among the words of a case.
-const AIR: usize = 12;
-
-const BANDS: usize = 8;
-
 fn lesser(a: u32, b: u32) -> u32 {
     if a < b {
         return a;
@@ -23,18 +18,21 @@ fn print_figures(r: Cost) {
     print(b" words of work area taken.\n\n");
 }
 
-fn wide(n: u32) -> u64 {
-    n as u64
+fn print_band(w: &[u32], k: usize) {
+    print_count(b" ", casefile::word(w, k) as u64);
 }
 
 // What the air takes, band by band.
 fn print_air(w: &[u32]) {
     print(b"The air takes");
-    let mut k = 0;
-    while k < BANDS {
-        print_count(b" ", wide(casefile::word(w, AIR + k)));
-        k += 1;
-    }
+    print_band(w, 12);
+    print_band(w, 13);
+    print_band(w, 14);
+    print_band(w, 15);
+    print_band(w, 16);
+    print_band(w, 17);
+    print_band(w, 18);
+    print_band(w, 19);
     print(b" millionths of a decibel a metre.\n");
 }
 
