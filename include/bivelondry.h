@@ -34,9 +34,9 @@
 /* ---- the version; bindings/installed.sh compares what else has it with these lines */
 
 #define BIV_VERSION_MAJOR 0
-#define BIV_VERSION_MINOR 1
+#define BIV_VERSION_MINOR 2
 #define BIV_VERSION_PATCH 0
-#define BIV_VERSION "0.1.0"
+#define BIV_VERSION "0.2.0"
 
 #ifdef __cplusplus
 extern "C" {
@@ -128,6 +128,7 @@ struct biv_settings {
     struct biv_distance_model distance_model;
     uint32_t crossing_limit;          /* 1 to 32: surfaces that half a segment may pass through; the next one counts as opaque */
     float probe_radius;               /* m, 0 to 1: how far around the middle of a segment the bundle of nine rays goes */
+    uint32_t air[BIV_BANDS];          /* millionths of dB/m in each band, 0 to 1,000,000 each: what the air takes; docs/BEHAVIOUR.md has usual ones */
 };
 
 /* The Rust's defaults. */
@@ -152,6 +153,7 @@ static inline struct biv_settings biv_default_settings(void)
     s.distance_model.max_distance = 10000.0f;
     s.crossing_limit = 8;
     s.probe_radius = 0.06f;
+    memset(s.air, 0, sizeof s.air); /* the air takes nothing */
     return s;
 }
 
@@ -220,7 +222,7 @@ typedef char biv_tap_is_14_words[sizeof(struct biv_tap) == 14 * sizeof(uint32_t)
 typedef char biv_size_is_64_bits[sizeof(size_t) == 8 ? 1 : -1];
 
 #define BIV_AREAS_LENT 20 /* 19 work areas and the output */
-#define BIV_SETTING_COUNTS 6
+#define BIV_SETTING_COUNTS 14
 #define BIV_SETTING_FLOATS 12
 
 /* exports/specs/Lengths.antt. The least lengths of all areas, in elements, for so many triples and candidates; false for more than 4,096 triples. */
@@ -268,7 +270,8 @@ uint32_t biv_planes(float *triangles, size_t triangles_len, uint32_t *handles, s
  * gets count, images, rays and the packet's length, zeros after a refusal. The 19 work areas come first, in the order of docs/AREAS.md,
  * which has their least lengths in whole triples T and c; short ones are refused. What they hold does not matter. After the refusals 1 to 5 they are
  * as they were, after 6, 7 and a result all zero. out (3,465 bytes or more) gets the packet, and is as it was past it and after a refusal. counts are
- * max_reflection_order, max_reflections, max_reflection_planes, plane_merge (0 or not), curve (0 is Inverse, 1 Linear, another refused), crossing_limit. setting_floats:
+ * max_reflection_order, max_reflections, max_reflection_planes, plane_merge (0 or not), curve (0 is Inverse, 1 Linear, another refused), crossing_limit, and the air's eight
+ * coefficients. setting_floats:
  * reflection_edge_fade, max_reflection_distance, temperature_celsius, sample_rate, plane_merge_cos, plane_merge_offset, plane_buried_distance,
  * reference_distance, rolloff_factor, min_distance, max_distance, probe_radius. c is the candidate room. separated says that source and listener are apart, so
  * that nothing is heard. */
@@ -379,7 +382,8 @@ static inline struct biv_numbers biv_numbers_of(const struct biv_settings *setti
 {
     const struct biv_distance_model *m = &settings->distance_model;
     const struct biv_numbers n = {{settings->max_reflection_order, settings->max_reflections, settings->max_reflection_planes,
-                                   settings->plane_merge ? 1u : 0u, m->curve, settings->crossing_limit},
+                                   settings->plane_merge ? 1u : 0u, m->curve, settings->crossing_limit, settings->air[0], settings->air[1],
+                                   settings->air[2], settings->air[3], settings->air[4], settings->air[5], settings->air[6], settings->air[7]},
                                   {settings->reflection_edge_fade, settings->max_reflection_distance, settings->temperature_celsius, settings->sample_rate,
                                    settings->plane_merge_cos, settings->plane_merge_offset, settings->plane_buried_distance, m->reference_distance,
                                    m->rolloff_factor, m->min_distance, m->max_distance, settings->probe_radius}};

@@ -61,7 +61,7 @@ static bool same(const uint32_t *w, size_t n, int fill)
     memcpy(source, w + SOURCE, sizeof source);
     memcpy(listener, w + LISTENER, sizeof listener);
     const uint32_t *c = w + COUNTS;
-    struct biv_settings s = {c[0], c[1], c[2], f[0], f[1], f[2], f[3], f[4], c[3] != 0, f[5], f[6], {c[4], f[7], f[8], f[9], f[10]}, c[5], f[11]};
+    struct biv_settings s = {c[0], c[1], c[2], f[0], f[1], f[2], f[3], f[4], c[3] != 0, f[5], f[6], {c[4], f[7], f[8], f[9], f[10]}, c[5], f[11], {c[6], c[7], c[8], c[9], c[10], c[11], c[12], c[13]}};
     float *transforms = floats(part + w[0], w[1]), *positions = floats(part + w[0] + w[1], w[2]), *materials = floats(packet - w[4], w[4]);
     struct biv_scene scene = {part, w[0], transforms, w[1], positions, w[2], packet - w[4] - w[3], w[3], materials, w[4], w[ROWS]};
     size_t size = biv_block_size(biv_triples(&scene), w[ROOM_WORD]);

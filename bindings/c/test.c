@@ -1,4 +1,4 @@
-/* The calls of bivelondry.h: case A, every refusal, the block, the packet, the planes, the walls, the probes, the forecast. C99 and C++17. Ends with `N checks, 0 failed`. */
+/* The calls of bivelondry.h: case A, every refusal, the block, the packet, the planes, the walls, the probes, the air, the forecast. C99 and C++17. Ends with `N checks, 0 failed`. */
 #include "case_a.h"
 #include <math.h>
 #include <stdio.h>
@@ -120,6 +120,13 @@ static void test_query_refusals(void)
     CHECK(trace(&q) == BIV_SETTINGS && nothing());
     q.settings.probe_radius = 1.00000012f; /* the float after 1 */
     CHECK(trace(&q) == BIV_SETTINGS && nothing());
+    for (int k = 0; k < BIV_BANDS; k++) {
+        q = case_a();
+        q.settings.air[k] = 1000001;
+        CHECK(trace(&q) == BIV_SETTINGS && nothing());
+        q.settings.air[k] = 1000000;
+        CHECK(trace(&q) == BIV_NO_REFUSAL && answer.count == 1);
+    }
     q = case_a();
     q.settings.distance_model.curve = 2;
     CHECK(trace(&q) == BIV_SETTINGS && nothing());
@@ -383,6 +390,18 @@ static void test_tap_walls(void)
     }
 }
 
+/* 5 m at 0.1 dB a metre are ten steps of 0.05 dB, of which the table leaves 15,838,713 parts of 2^24. Each band has its own. */
+static void test_air(void)
+{
+    struct biv_tap taps[BIV_MOST_TAPS];
+    struct query q = case_a();
+    q.settings.air[3] = 100000;
+    q.settings.air[6] = 1000000;
+    CHECK(trace(&q) == BIV_NO_REFUSAL && biv_read(out, answer.bytes, taps, &answer) == BIV_NO_REFUSAL && answer.count == 1);
+    CHECK(fabsf(taps[0].gains[3] / taps[0].gains[0] - 15838713.0f / 16777216.0f) < 1e-6f && taps[0].gains[7] == taps[0].gains[0]);
+    CHECK(fabsf(taps[0].gains[6] / taps[0].gains[0] - 0.56234133f) < 1e-5f);
+}
+
 /* Case A with so many sheets, which let all through, across the first half of the way from the source to the floor. */
 enum { MOST_SHEETS = 40 };
 
@@ -519,6 +538,7 @@ int main(void)
     test_tap_walls();
     test_speeds();
     test_probes();
+    test_air();
     test_forecast();
     test_texts();
     printf("%u checks, %u failed\n", checks, failed);

@@ -39,7 +39,8 @@ static uint32_t changed(const uint8_t *data, size_t k, size_t n, uint32_t *state
 size_t LLVMFuzzerCustomMutator(uint8_t *data, size_t size, size_t most, unsigned seed)
 {
     static const uint32_t settings[BIV_SETTING_COUNTS + BIV_SETTING_FLOATS + 1] = {
-        3,           16,          32,          1,           0,           8,           0x3dcccccdu, 0x42480000u, 0x41a00000u, 0x473b8000u,
+        3,           16,          32,          1,           0,           8,           0,           0,           0,           0,
+        0,           0,           0,           0,           0x3dcccccdu, 0x42480000u, 0x41a00000u, 0x473b8000u,
         0x3f7f069eu, 0x3e800000u, 0x3d4ccccdu, 0x3f800000u, 0x3f800000u, 0x3f800000u, 0x461c4000u, 0x3d75c28fu, ROOM};
     size_t n = size / 4;
     uint32_t state = seed;

@@ -7,7 +7,7 @@ pub const AREAS: usize = 20;
 pub const WORK: usize = AREAS - 1;
 
 /// Settings that are whole numbers, and those that are floats.
-pub const COUNTS: usize = 6;
+pub const COUNTS: usize = 14;
 pub const FLOATS: usize = 12;
 
 /// Words of a tap: order, number, direction, delay, gains.

@@ -178,6 +178,8 @@ pub struct Settings {
     pub crossing_limit: u32,
     /// Metres, 0 to 1: how far around the middle of a segment the bundle of nine rays goes.
     pub probe_radius: f32,
+    /// Millionths of a decibel per metre in each band, 0 to 1,000,000 each: what the air takes. docs/BEHAVIOUR.md of the repository has usual ones.
+    pub air: [u32; BANDS],
 }
 
 impl Default for Settings {
@@ -197,6 +199,7 @@ impl Default for Settings {
             distance_model: DistanceModel { curve: Curve::Inverse, reference_distance: 1.0, rolloff_factor: 1.0, min_distance: 1.0, max_distance: 10_000.0 },
             crossing_limit: 8,
             probe_radius: 0.06,
+            air: [0; BANDS],
         }
     }
 }
@@ -204,7 +207,8 @@ impl Default for Settings {
 impl Settings {
     fn counts(&self) -> [u32; ffi::COUNTS] {
         let linear = self.distance_model.curve == Curve::Linear;
-        [self.max_reflection_order, self.max_reflections, self.max_reflection_planes, self.plane_merge as u32, linear as u32, self.crossing_limit]
+        let first = [self.max_reflection_order, self.max_reflections, self.max_reflection_planes, self.plane_merge as u32, linear as u32, self.crossing_limit];
+        std::array::from_fn(|k| if k < first.len() { first[k] } else { self.air[k - first.len()] })
     }
 
     fn floats(&self) -> [f32; ffi::FLOATS] {

@@ -32,13 +32,24 @@ fn case_a() {
     assert!(t.gains.iter().all(|g| (g - 0.1).abs() < 1e-6));
 }
 
+/// 5 m at 0.1 dB a metre are ten steps of 0.05 dB, of which the table leaves 15,838,713 parts of 2^24; what takes nothing leaves all.
+#[test]
+fn air_takes_its_part() {
+    let still = asked(|_, _| (), 1).unwrap().taps[0].gains;
+    let damped = asked(|s, _| s.air = [0, 0, 0, 100_000, 0, 0, 0, 1_000_000], 1).unwrap().taps[0].gains;
+    assert_eq!((damped[0], damped[6]), (still[0], still[6]));
+    assert!((damped[3] / still[3] - 15_838_713.0 / 16_777_216.0).abs() < 1e-6);
+    assert!((damped[7] / still[7] - 10f32.powf(-0.25)).abs() < 1e-5);
+}
+
 #[test]
 fn settings_are_refused() {
     #[rustfmt::skip]
-    let changes: [fn(&mut Settings); 9] = [
+    let changes: [fn(&mut Settings); 10] = [
         |s| s.max_reflection_planes = 257, |s| s.temperature_celsius = f32::NAN,
         |s| s.temperature_celsius = 50f32.next_up(), |s| s.temperature_celsius = (-20f32).next_down(), |s| s.distance_model.rolloff_factor = -1.0, |s| s.crossing_limit = 0,
         |s| s.crossing_limit = MOST_CROSSINGS + 1, |s| s.probe_radius = 1f32.next_up(), |s| s.probe_radius = f32::NAN,
+        |s| s.air[7] = 1_000_001,
     ];
     for change in changes {
         assert_eq!(asked(|s, _| change(s), 1), Err(Refusal::Settings));

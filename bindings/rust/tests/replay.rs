@@ -56,6 +56,7 @@ fn recorded(line: &str) -> (&str, Recorded) {
         distance_model: DistanceModel { curve, reference_distance: f(7), rolloff_factor: f(8), min_distance: f(9), max_distance: f(10) },
         crossing_limit: c[5],
         probe_radius: f(11),
+        air: c[6..].try_into().expect("eight"),
     };
     let packet = rest.iter().flat_map(|w| w.to_le_bytes()).take(words[HEADER - 1] as usize).collect();
     let answer = words[ANSWER..HEADER].try_into().expect("five");
@@ -80,5 +81,5 @@ fn recorded_queries() {
         }
         cases += 1;
     }
-    assert_eq!(cases, 149);
+    assert_eq!(cases, 155);
 }

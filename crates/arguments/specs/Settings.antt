@@ -1,4 +1,4 @@
--- Settings as two lists: counts (order, reflections, planes, merge, curve, crossing limit) and floats (fade, distance, temperature, rate, cosine, offset,
+-- Settings as two lists: counts (order, reflections, planes, merge, curve, crossing limit, the air's eight coefficients) and floats (fade, distance, temperature, rate, cosine, offset,
 -- buried distance, the distance model's four, and the probe radius).
 use Prim.Native.Nat.{ℕ}
 use lib.Ieee.{Float, nan}
@@ -6,8 +6,23 @@ use lib.ListN.{getD}
 use lib.Dec.{eqb}
 use mathlib.Core.Bool.{not}
 use mathlib.Core.List.{List}
+use Rattle.air.specs.declared.Air.{Air}
 use Rattle.scene.specs.declared.Settings.{Settings}
 use Rattle.arguments.specs.Model.{modelOf}
+
+-- the air's coefficients, counts 6 to 13
+unfoldable pub airFrom : List ℕ → Air
+airFrom counts =
+    record {
+      a0 = getD counts 6 0;
+      a1 = getD counts 7 0;
+      a2 = getD counts 8 0;
+      a3 = getD counts 9 0;
+      a4 = getD counts 10 0;
+      a5 = getD counts 11 0;
+      a6 = getD counts 12 0;
+      a7 = getD counts 13 0;
+    }
 
 unfoldable pub settingsFrom : List ℕ → List Float → Settings
 settingsFrom counts floats =
@@ -26,4 +41,5 @@ settingsFrom counts floats =
       «distance_model» = modelOf (getD counts 4 0) (getD floats 7 nan) (getD floats 8 nan) (getD floats 9 nan) (getD floats 10 nan);
       «crossing_limit» = getD counts 5 0;
       «probe_radius» = getD floats 11 nan;
+      air = airFrom counts;
     }

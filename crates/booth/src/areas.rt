@@ -130,10 +130,10 @@ pub fn fresh_on() -> [u8; 256]
     [0u8; 256]
 }
 
-pub fn fresh_case_words() -> [u32; 12]
-    ensures { λ r. ⌜ length r ≡ 12 ⌝ }
+pub fn fresh_case_words() -> [u32; 20]
+    ensures { λ r. ⌜ length r ≡ 20 ⌝ }
 {
-    [0u32; 12]
+    [0u32; 20]
 }
 
 pub fn fresh_case_floats() -> [f32; 18]

@@ -1,4 +1,4 @@
-// What the query of a case will cost, said before it is traced.
+// What the air takes, and what the query of a case will cost, said before it is traced.
 use crate::table::print;
 use crate::table::print_count;
 use cost::Cost;
@@ -18,8 +18,28 @@ fn print_figures(r: Cost) {
     print(b" words of work area taken.\n\n");
 }
 
-// The forecast for as many walls as the settings and the triangles of a case allow, each of which may come first. Nothing where none can be made.
+fn print_band(w: &[u32], k: usize) {
+    print_count(b" ", casefile::word(w, k) as u64);
+}
+
+// What the air takes, band by band.
+fn print_air(w: &[u32]) {
+    print(b"The air takes");
+    print_band(w, 12);
+    print_band(w, 13);
+    print_band(w, 14);
+    print_band(w, 15);
+    print_band(w, 16);
+    print_band(w, 17);
+    print_band(w, 18);
+    print_band(w, 19);
+    print(b" millionths of a decibel a metre.\n");
+}
+
+// What the air takes, and the forecast for as many walls as the settings and the triangles of a case allow, each of which may come first; no forecast where
+// none can be made.
 pub fn print_forecast(w: &[u32]) {
+    print_air(w);
     let triples = casefile::word(w, 10) / 3;
     let planes = lesser(casefile::word(w, 2), triples);
     let order = lesser(casefile::word(w, 0), MAX_IMAGE_ORDER as u32);

@@ -8,6 +8,7 @@ mod names;
 mod scene_text;
 mod table;
 
+use air::Air;
 use answer::Answered;
 use libc::STDOUT_FILENO;
 use scene::Settings;
@@ -47,6 +48,19 @@ fn model_of(w: &[u32], f: &[f32]) -> bands::DistanceModel {
     }
 }
 
+fn air_of(w: &[u32]) -> Air {
+    Air {
+        a0: casefile::word(w, 12),
+        a1: casefile::word(w, 13),
+        a2: casefile::word(w, 14),
+        a3: casefile::word(w, 15),
+        a4: casefile::word(w, 16),
+        a5: casefile::word(w, 17),
+        a6: casefile::word(w, 18),
+        a7: casefile::word(w, 19),
+    }
+}
+
 fn settings_of(w: &[u32], f: &[f32]) -> Settings {
     let plane_merge = casefile::word(w, 4) != 0;
     let distance_model = model_of(w, f);
@@ -65,6 +79,7 @@ fn settings_of(w: &[u32], f: &[f32]) -> Settings {
         distance_model,
         crossing_limit: casefile::word(w, 11),
         probe_radius: real(f, 17),
+        air: air_of(w),
     }
 }
 

@@ -8,6 +8,7 @@ counts 3 16 32 4096            # order, most taps, most planes, room for candida
 floats 0.1 50 20 48000 3f7f069e 0.25 0.05
 merge 1
 curve inverse 1 1 1 10000
+air 121 440 1310 2728 4665 9887 29666 105291
 materials 4                    # absorption in eight bands, then transmission
 m 0.05 0.06 0.14 0.37 0.6 0.65 0.65 0.65 0 0 0 0 0 0 0 0   # carpet
 m 0.2 0.3 0.5 0.6 0.7 0.75 0.75 0.7 0 0 0 0 0 0 0 0        # ceiling tiles

@@ -1,9 +1,9 @@
 // Reads a case: settings, materials, meshes and positions in the text of reference/FORMAT.md, with remarks, and floats as decimals or by their
 // bits. Proved: every text is read safely and to an end, nothing is stored outside the areas, and their lengths stay.
 //
-// A case is stored in seven areas. `w`, of 12 words: the four counts, merge, curve, separated, rows of the material table, meshes, all meshes' vertices
-// and indices, and the crossing limit. `f`, of 18 floats: the seven of the settings, the four of the curve, source, listener, and the probe radius. Then materials, mesh rows, transforms,
-// positions and indices as `scene` takes them.
+// A case is stored in seven areas. `w`, of 20 words: the four counts, merge, curve, separated, rows of the material table, meshes, all meshes' vertices
+// and indices, the crossing limit, and the air's eight coefficients. `f`, of 18 floats: the seven of the settings, the four of the curve, source,
+// listener, and the probe radius. Then materials, mesh rows, transforms, positions and indices as `scene` takes them.
 use scene::OCCLUSION_MAX_CROSSINGS;
 use scene::REFLECTION_VISIBILITY_RADIUS;
 
@@ -32,6 +32,10 @@ const VERTEX_COUNT: usize = 9;
 const INDEX_COUNT: usize = 10;
 
 const CROSSING_LIMIT: usize = 11;
+
+const AIR: usize = 12;
+
+const BANDS: usize = 8;
 
 // A place in `f`.
 const PROBE_RADIUS: usize = 17;
@@ -332,10 +336,30 @@ fn read_probes(s: &[u8], c: Cursor, w: &mut [u32], f: &mut [f32]) -> Cursor {
     read_float(s, b, f, PROBE_RADIUS)
 }
 
+// No coefficient: the air takes nothing.
+fn no_air(w: &mut [u32]) {
+    let mut k = 0;
+    while k < BANDS {
+        set_word(w, AIR + k, 0);
+        k += 1;
+    }
+}
+
+// The line `air`, which may be left out.
+fn read_air(s: &[u8], c: Cursor, w: &mut [u32]) -> Cursor {
+    let a = keyword(s, c, b"air", MATERIAL_WORD);
+    if a.wrong != 0 {
+        no_air(w);
+        return c;
+    }
+    read_words(s, a, w, AIR, BANDS)
+}
+
 fn read_settings(s: &[u8], c: Cursor, w: &mut [u32], f: &mut [f32]) -> Cursor {
     let a = read_counts(s, c, w, f);
     let b = read_model(s, a, w, f);
-    read_probes(s, b, w, f)
+    let d = read_probes(s, b, w, f);
+    read_air(s, d, w)
 }
 
 fn read_places(s: &[u8], c: Cursor, f: &mut [f32]) -> Cursor {

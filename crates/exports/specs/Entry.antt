@@ -12,7 +12,7 @@ use Rattle.query.specs.Areas.{Work}
 use Rattle.query.specs.Trace.{Traced}
 use Rattle.exports.specs.Answers.{answeredFrom}
 
--- the number of the curve, the fifth of the six counts
+-- the number of the curve, the fifth of the counts
 abbrev pub curveIn : List ℕ → ℕ
 curveIn counts = getD counts 4 0
 

@@ -3,7 +3,7 @@ use mathlib.Core.Path.{_≡_, refl}
 use mathlib.Core.Bool.{true, false}
 use mathlib.Core.List.{[], _∷_}
 use lib.IntN.{pos, negsuc}
-use lib.Ieee.{fin, add, sub, mul, div, neg, lt, le, eq, isNan, ofBits, round}
+use lib.Ieee.{fin, add, sub, mul, div, neg, lt, le, eq, isNan, ofBits, ofInt, round}
 use Rattle.float.specs.Literals.{one32}
 use Rattle.float.specs.Compare.{minOf, maxOf, absOf, clampOf, isFinite}
 use Rattle.float.specs.Sqrt.{isqrt, rootOf, sqrtOf}
@@ -35,7 +35,9 @@ use Rattle.paths.specs.declared.Way.{Way}
 use Rattle.paths.specs.declared.PathCandidate.{PathCandidate}
 use Rattle.paths.specs.declared.Fate.the-variants.{Passed}
 use Rattle.paths.specs.Visibility.{startOf, goOf, goAllOf, wayOf}
-use Rattle.paths.specs.Gains.{usableOf, reflectedOf, airGainOf, gainsOf, candidateOf, arrivedOf}
+use Rattle.air.specs.Table.{factorTable}
+use Rattle.air.specs.Air.{millimetresOf, stepsIn, factorOf, bandOf, bandsOf, airGainOf}
+use Rattle.paths.specs.Gains.{usableOf, reflectedOf, gainsOf, candidateOf, arrivedOf}
 use Rattle.paths.specs.Path.{verdict, bouncedOf, pathWith, pathOf}
 use Rattle.claim.specs.Answer.{Found, tapOf}
 use Rattle.known_points.specs.CaseA.{settings, materials, source, listener, speed, image, bounce, tap}
@@ -107,9 +109,9 @@ usable = refl
 
 arrives :
     arrivedOf settings bounce listener (fin false 5 (pos 0)) one32
-    (gainsOf (settings .«distance_model») (reflectedOf materials (triangleAt two) (0 ∷ [])) (fin false 5 (pos 0)) one32) (splatOf one32)
+    (gainsOf (settings .«distance_model») (settings .air) (reflectedOf materials (triangleAt two) (0 ∷ [])) (fin false 5 (pos 0)) one32) (splatOf one32)
     ≡ Passed candidate
-unfolding arrivedOf gainsOf reflectedOf airGainOf candidateOf speedOf gainOf curveOf inverseOf betweenOf furthestOf heldOf triangleAt reflectionOf coefficientsOf coefficientOf bandsIn splatOf mulOf scaleOf sumOfSquaresOf normalize3Of length3Of dot3Of sub3Of sqrtOf rootOf isqrt minOf maxOf clampOf isFinite add sub mul div neg lt le eq isNan ofBits round
+unfolding arrivedOf gainsOf reflectedOf airGainOf bandsOf bandOf stepsIn factorOf factorTable millimetresOf ofInt candidateOf speedOf gainOf curveOf inverseOf betweenOf furthestOf heldOf triangleAt reflectionOf coefficientsOf coefficientOf bandsIn splatOf mulOf scaleOf sumOfSquaresOf normalize3Of length3Of dot3Of sub3Of sqrtOf rootOf isqrt minOf maxOf clampOf isFinite add sub mul div neg lt le eq isNan ofBits round
 arrives = refl
 
 gone :

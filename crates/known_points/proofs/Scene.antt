@@ -12,7 +12,7 @@ use Rattle.vector.specs.Vector.{vec, dot3Of, sub3Of, cross3Of, length3Of}
 use Rattle.vector.specs.Transform.{rowOf, transformPointOf}
 use Rattle.geometry.specs.declared.Triangle.{Triangle}
 use Rattle.geometry.specs.Triangle.{crossOf, isDegenerateOf, normalOf, triangleOf}
-use Rattle.scene.specs.Limits.{betweenOf, aboveZeroOf, countsOf, ratesOf, mergesOf, modelNumberOf, modelNumbersOf, probeSettingsOf, settingsOf}
+use Rattle.scene.specs.Limits.{betweenOf, aboveZeroOf, countsOf, ratesOf, mergesOf, modelNumberOf, modelNumbersOf, probeSettingsOf, airNumberOf, lowAirOf, highAirOf, laterSettingsOf, settingsOf}
 use Rattle.scene.specs.Scene.{headers, vertexSum, indexSum, tripleSum, cut}
 use Rattle.scene.specs.Areas.{shortIn, shortOf}
 use Rattle.scene.specs.Refusals.{refusal1, refusal2, refusal3, refusal4, refusal5, meshesWhole, transformsRight, positionsRight, indicesRight, materialsRight, lengthsRightOf, unknownHandle}
@@ -56,7 +56,7 @@ triangles-are = refl
 -- ---- the refusals
 
 fine-settings : refusal1 settings room ≡ false
-unfolding refusal1 settingsOf countsOf ratesOf mergesOf modelNumbersOf modelNumberOf probeSettingsOf betweenOf aboveZeroOf isFinite neg le lt eq ofBits round
+unfolding refusal1 settingsOf countsOf ratesOf mergesOf modelNumbersOf modelNumberOf laterSettingsOf probeSettingsOf lowAirOf highAirOf airNumberOf betweenOf aboveZeroOf isFinite neg le lt eq ofBits round
 fine-settings = refl
 
 right-lengths : refusal2 floor ≡ false

@@ -54,6 +54,8 @@ settings =
       };
       «crossing_limit» = maxCrossings;
       «probe_radius» = visibilityRadius;
+      -- the air takes nothing: "all 0 in case A"
+      air = record { a0 = 0; a1 = 0; a2 = 0; a3 = 0; a4 = 0; a5 = 0; a6 = 0; a7 = 0 };
     }
 
 -- "C 1"

@@ -1,7 +1,7 @@
 -- No band of what the segments let through, of what the triangles reflect, or of what arrives is below zero.
 use mathlib.Core.Bool.{Bool, true, false, cond}
 use mathlib.Core.List.{List, [], _∷_, foldl}
-use Prim.Native.Nat.{ℕ, zero, suc, _+_}
+use Prim.Native.Nat.{ℕ, _^_, zero, suc, _+_}
 use lib.IntN.{pos}
 use lib.Ieee.{Float, fin, binary32, add, sub, mul, div, lt, ofBits}
 use Rattle.float.specs.Literals.{zero32, one32}
@@ -23,8 +23,11 @@ use Rattle.segments.specs.Materials.{clampedOf, transmissionOf, coefficientOf, 
 use Rattle.segments.specs.Segment.{visibilityRays, probeCount, transmission, segmentRayOf, afterOf, occlusionEps, walkOf, segmentTransmissionOf, offsetOf, midOf, addPartOf, probeOf, probesOf, segmentSoftTransmissionOf}
 use Rattle.paths.specs.declared.Way.{Way}
 use Rattle.paths.specs.Visibility.{startOf, goOf, goAllOf, wayOf}
-use Rattle.paths.specs.Gains.{reflectedOf, airGainOf, gainsOf}
-use Rattle.paths.proofs.Signs.{NotNegative, zero-not-negative, one-not-negative, mul-not-negative, add-not-negative, div-not-negative, sqrt-not-negative, clamp-not-negative, held-not-negative}
+use Rattle.air.specs.declared.Air.{Air}
+use Rattle.air.specs.Air.{stepsOf, factorOf, bandOf, bandsOf, airGainOf, millimetresOf}
+use Rattle.air.proofs.Value.{band-value}
+use Rattle.paths.specs.Gains.{reflectedOf, gainsOf}
+use Rattle.paths.proofs.Signs.{NotNegative, value-not-negative, zero-not-negative, one-not-negative, mul-not-negative, add-not-negative, div-not-negative, sqrt-not-negative, clamp-not-negative, held-not-negative}
 
 pub record NotNegative8 (g : Band8) : Type 0 where
   pub p0 : NotNegative (g .b0)
@@ -197,14 +200,28 @@ gain-not-negative : (m : DistanceModel) (d : Float) → NotNegative (gainOf m d)
 unfolding gainOf
 gain-not-negative m d = held-not-negative _
 
-air8 : (total : Float) → NotNegative8 (airGainOf total)
-unfolding airGainOf
-air8 total = splat8 one32 one-not-negative
+band-not-negative : (c n : ℕ) → NotNegative (bandOf c n)
+band-not-negative c n = value-not-negative (bandOf c n) (factorOf (stepsOf c n)) (2 ^ 24) (band-value c n)
 
-pub gains8 : (m : DistanceModel) (materials : List Float) (tri : ℕ → Triangle) (is : List ℕ) (total weight : Float) → NotNegative weight → NotNegative8 (gainsOf m (reflectedOf materials tri is) total weight)
+air8 : (a : Air) (total : Float) → NotNegative8 (airGainOf a total)
+unfolding airGainOf bandsOf
+air8 a total =
+    let n = millimetresOf total in
+    record {
+      p0 = band-not-negative (a .a0) n;
+      p1 = band-not-negative (a .a1) n;
+      p2 = band-not-negative (a .a2) n;
+      p3 = band-not-negative (a .a3) n;
+      p4 = band-not-negative (a .a4) n;
+      p5 = band-not-negative (a .a5) n;
+      p6 = band-not-negative (a .a6) n;
+      p7 = band-not-negative (a .a7) n;
+    }
+
+pub gains8 : (m : DistanceModel) (a : Air) (materials : List Float) (tri : ℕ → Triangle) (is : List ℕ) (total weight : Float) → NotNegative weight → NotNegative8 (gainsOf m a (reflectedOf materials tri is) total weight)
 unfolding gainsOf
-gains8 m materials tri is total weight h =
-    scale8 (mulOf (reflectedOf materials tri is) (mulOf (splatOf (gainOf m total)) (airGainOf total))) weight
-    (mul8 (reflectedOf materials tri is) (mulOf (splatOf (gainOf m total)) (airGainOf total)) (reflected8 materials tri is)
-    (mul8 (splatOf (gainOf m total)) (airGainOf total) (splat8 (gainOf m total) (gain-not-negative m total)) (air8 total)))
+gains8 m a materials tri is total weight h =
+    scale8 (mulOf (reflectedOf materials tri is) (mulOf (splatOf (gainOf m total)) (airGainOf a total))) weight
+    (mul8 (reflectedOf materials tri is) (mulOf (splatOf (gainOf m total)) (airGainOf a total)) (reflected8 materials tri is)
+    (mul8 (splatOf (gainOf m total)) (airGainOf a total) (splat8 (gainOf m total) (gain-not-negative m total)) (air8 a total)))
     h

@@ -45,8 +45,12 @@ use Rattle.segments.specs.Materials.{clampedOf, transmissionOf, coefficientOf, 
 use Rattle.segments.specs.Segment.{visibilityRays, probeCount, transmission, segmentRayOf, afterOf, occlusionEps, walkOf, segmentTransmissionOf, offsetOf, midOf, addPartOf, probeOf, probesOf, segmentSoftTransmissionOf}
 use Rattle.paths.specs.declared.Way.{Way}
 use Rattle.paths.specs.Visibility.{startOf, goOf, goAllOf, wayOf}
-use Rattle.paths.specs.Gains.{reflectedOf, airGainOf, gainsOf}
-use Rattle.paths.proofs.Most.{Most, Exact, mul-most, add-most, ninth-most, most-more, exact-power, exact-eighths, exact-small, exact-times, clamp-most, one-most, zero-is-most, less-most, sqrt-most}
+use Rattle.air.specs.declared.Air.{Air}
+use Rattle.air.specs.Air.{stepsOf, factorOf, bandOf, bandsOf, airGainOf, millimetresOf}
+use Rattle.air.proofs.Nothing.{factor-most}
+use Rattle.air.proofs.Value.{band-value}
+use Rattle.paths.specs.Gains.{reflectedOf, gainsOf}
+use Rattle.paths.proofs.Most.{Most, Exact, value-most, mul-most, add-most, ninth-most, most-more, exact-power, exact-eighths, exact-small, exact-times, clamp-most, one-most, zero-is-most, less-most, sqrt-most}
 
 pub record Most8 (p q : ℕ) (g : Band8) : Type 0 where
   pub m0 : Most p q (g .b0)
@@ -388,22 +392,37 @@ weight-few n w small h = let c = powers n small in most-more (3 ^ n) 1 (2 ^ 13) 
 
 -- ---- what arrives
 
-air8 : (total : Float) → Most8 1 1 (airGainOf total)
-unfolding airGainOf
-air8 total = splat8 1 1 one32 one-most
+-- k / 2 ^ 24 is at most 1
+band-most : (c n : ℕ) → Most 1 1 (bandOf c n)
+band-most c n = value-most (bandOf c n) (factorOf (stepsOf c n)) (2 ^ 24) 1 1 (pow-pos 24) (band-value c n) (let h = factor-most (stepsOf c n) in omega (arith, h))
+
+air8 : (a : Air) (total : Float) → Most8 1 1 (airGainOf a total)
+unfolding airGainOf bandsOf
+air8 a total =
+    let n = millimetresOf total in
+    record {
+      m0 = band-most (a .a0) n;
+      m1 = band-most (a .a1) n;
+      m2 = band-most (a .a2) n;
+      m3 = band-most (a .a3) n;
+      m4 = band-most (a .a4) n;
+      m5 = band-most (a .a5) n;
+      m6 = band-most (a .a6) n;
+      m7 = band-most (a .a7) n;
+    }
 
 pub gains8 :
-    (m : DistanceModel) (materials : List Float) (tri : ℕ → Triangle) (is : List ℕ) (total weight : Float) (blocker : Band8) → Most (2 ^ 47) 1 (gainOf m total) → Most (2 ^ 13) 1 weight →
-    Most8 4 1 blocker → Most8 (2 ^ 62) 1 (mulOf (gainsOf m (reflectedOf materials tri is) total weight) blocker)
+    (m : DistanceModel) (a : Air) (materials : List Float) (tri : ℕ → Triangle) (is : List ℕ) (total weight : Float) (blocker : Band8) → Most (2 ^ 47) 1 (gainOf m total) → Most (2 ^ 13) 1 weight →
+    Most8 4 1 blocker → Most8 (2 ^ 62) 1 (mulOf (gainsOf m a (reflectedOf materials tri is) total weight) blocker)
 unfolding gainsOf
-gains8 m materials tri is total weight blocker near heavy blocked =
+gains8 m a materials tri is total weight blocker near heavy blocked =
     let e47 = exact-power 47 (omega arith) in
     let e60 = exact-power 60 (omega arith) in
     let e62 = exact-power 62 (omega arith) in
-    let far = mul8 (2 ^ 47) 1 1 1 (2 ^ 47) 1 (some 0) (pow-pos 47) (some 0) e47 (le-refl (2 ^ 47)) (splatOf (gainOf m total)) (airGainOf total) (splat8 (2 ^ 47) 1 (gainOf m total) near) (air8 total) in
-    let bounced = mul8 1 1 (2 ^ 47) 1 (2 ^ 47) 1 (some 0) (pow-pos 47) (some 0) e47 (le-refl (2 ^ 47)) (reflectedOf materials tri is) (mulOf (splatOf (gainOf m total)) (airGainOf total)) (reflected8 materials tri is) far in
-    let weighed = scale8 (2 ^ 47) 1 (2 ^ 13) 1 (2 ^ 60) 1 (some 0) (pow-pos 60) (some 0) e60 (le-refl (2 ^ 60)) (mulOf (reflectedOf materials tri is) (mulOf (splatOf (gainOf m total)) (airGainOf total))) weight bounced heavy in
-    mul8 (2 ^ 60) 1 4 1 (2 ^ 62) 1 (some 0) (pow-pos 62) (some 0) e62 (le-refl (2 ^ 62)) (gainsOf m (reflectedOf materials tri is) total weight) blocker weighed blocked
+    let far = mul8 (2 ^ 47) 1 1 1 (2 ^ 47) 1 (some 0) (pow-pos 47) (some 0) e47 (le-refl (2 ^ 47)) (splatOf (gainOf m total)) (airGainOf a total) (splat8 (2 ^ 47) 1 (gainOf m total) near) (air8 a total) in
+    let bounced = mul8 1 1 (2 ^ 47) 1 (2 ^ 47) 1 (some 0) (pow-pos 47) (some 0) e47 (le-refl (2 ^ 47)) (reflectedOf materials tri is) (mulOf (splatOf (gainOf m total)) (airGainOf a total)) (reflected8 materials tri is) far in
+    let weighed = scale8 (2 ^ 47) 1 (2 ^ 13) 1 (2 ^ 60) 1 (some 0) (pow-pos 60) (some 0) e60 (le-refl (2 ^ 60)) (mulOf (reflectedOf materials tri is) (mulOf (splatOf (gainOf m total)) (airGainOf a total))) weight bounced heavy in
+    mul8 (2 ^ 60) 1 4 1 (2 ^ 62) 1 (some 0) (pow-pos 62) (some 0) e62 (le-refl (2 ^ 62)) (gainsOf m a (reflectedOf materials tri is) total weight) blocker weighed blocked
 
 square-most : (x : Float) → Most (2 ^ 62) 1 x → Most (2 ^ 124) 1 (mul binary32 x x)
 square-most x h = mul-most (2 ^ 62) 1 (2 ^ 62) 1 (2 ^ 124) 1 (some 0) (pow-pos 124) (some 0) (exact-power 124 (omega arith)) (le-refl (2 ^ 124)) x x h h

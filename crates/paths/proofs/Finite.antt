@@ -80,10 +80,10 @@ module _ (soft : Vec3 → Vec3 → Transmission) (s : Settings) (materials : Lis
     picked :
         (b : Bool) →
         Bounded (cond b
-        (arrivedOf s (lastOf points n) listener (w .total) weight (gainsOf (s .«distance_model») (reflectedOf materials tri tris) (w .total) weight) (w .gain)) TooLong)
+        (arrivedOf s (lastOf points n) listener (w .total) weight (gainsOf (s .«distance_model») (s .air) (reflectedOf materials tri tris) (w .total) weight) (w .gain)) TooLong)
     picked true =
-        arrived-bounded s (lastOf points n) listener (w .total) weight (gainsOf (s .«distance_model») (reflectedOf materials tri tris) (w .total) weight) (w .gain)
-        (gains8 (s .«distance_model») materials tri tris (w .total) weight (w .gain) (near (w .total)) (weight-few n weight few heavy) (way8 soft all listener source points (omega (arith, long))))
+        arrived-bounded s (lastOf points n) listener (w .total) weight (gainsOf (s .«distance_model») (s .air) (reflectedOf materials tri tris) (w .total) weight) (w .gain)
+        (gains8 (s .«distance_model») (s .air) materials tri tris (w .total) weight (w .gain) (near (w .total)) (weight-few n weight few heavy) (way8 soft all listener source points (omega (arith, long))))
     picked false = tt
 
 module _ (limit : ℕ) (radius : Float) (s : Settings) (planes : List Plane) (tri : ℕ → Triangle) (t : Tree) (materials : List Float) (source listener : Vec3) (seq : List ℕ)

@@ -1,7 +1,7 @@
 -- Where a float is a number from 0 to p / q, or NaN: what arithmetic keeps so. A rounded number is at most p / q where the number is and p / q is a
 -- value of the format (`Exact`).
 use mathlib.Core.Path.{_≡_, refl, sym, ap, subst, _∙_}
-use mathlib.Core.Bool.{Bool, true, false, not, cond, _&&_}
+use mathlib.Core.Bool.{Bool, true, false, not, cond, _&&_, true≢false}
 use Prim.Native.Nat.{ℕ, zero, suc, _+_, _-_, _*_, _/_, _^_, _<_, _≤_}
 use native.Mathlib.Nat.{add-mul, mul-pos, zero-lt-suc, zero-mul, mul-zero, mul-comm, mul-assoc, mul-one, mul-right-comm, mul-mul-mul-comm, mul-le-mul, le-trans, le-of-eq, le-refl, le-of-lt, lt-of-le-of-lt, lt-of-lt-of-le, mul-lt-mul-of-pos-right}
 use native.Mathlib.Omega.{arith}
@@ -31,6 +31,13 @@ Most p q (inf s) = ⊥
 Most p q (fin true zero e) = Unit {0}
 Most p q (fin true (suc m) e) = ⊥
 Most p q (fin false m e) = m * up e * q ≤ p * down e
+
+-- a value a / c that is at most p / q
+pub value-most : (x : Float) (a c p q : ℕ) → 0 < c → HasValue x false a c → a * q ≤ p * c → Most p q x
+value-most nan a c p q hc v h = tt
+value-most (inf s) a c p q hc v h = absurd v
+value-most (fin true m e) a c p q hc v h = absurd (true≢false (v .0))
+value-most (fin false m e) a c p q hc v h = through (m * up e) a p (down e) c q hc (le-of-eq (v .1)) h
 
 -- p / q is a value of the format
 abbrev pub Exact : ℕ → ℕ → Type 0

@@ -312,7 +312,7 @@ module _ (soft : Vec3 → Vec3 → Transmission) (s : Settings) (materials : Lis
       (points : List Vec3) (tris : List ℕ) (weight : Float) (w : Way) → T (fits binary32 (w .total)) → NotNegative weight → NotNegative8 (w .gain) →
       (T (isFinite (w .total)) → T (isFinite (distance3Of listener (lastOf points n)))) →
       Sound (cond (usableOf (w .total) (s .«max_reflection_distance»))
-      (arrivedOf s (lastOf points n) listener (w .total) weight (gainsOf (s .«distance_model») (reflectedOf materials tri tris) (w .total) weight) (w .gain)) TooLong)
+      (arrivedOf s (lastOf points n) listener (w .total) weight (gainsOf (s .«distance_model») (s .air) (reflectedOf materials tri tris) (w .total) weight) (w .gain)) TooLong)
   unfolding usableOf
   gone-sound points tris weight w fitting heavy blocked near =
       picked (isFinite (w .total)) (lt zero32 (w .total)) (not (lt (s .«max_reflection_distance») (w .total))) (λ b. b) (λ b. b) (λ b. b)
@@ -320,10 +320,10 @@ module _ (soft : Vec3 → Vec3 → Transmission) (s : Settings) (materials : Lis
       picked :
           (a b c : Bool) → (T a → T (isFinite (w .total))) → (T b → T (lt zero32 (w .total))) → (T c → T (not (lt (s .«max_reflection_distance») (w .total)))) →
           Sound (cond (a && (b && c))
-          (arrivedOf s (lastOf points n) listener (w .total) weight (gainsOf (s .«distance_model») (reflectedOf materials tri tris) (w .total) weight) (w .gain)) TooLong)
+          (arrivedOf s (lastOf points n) listener (w .total) weight (gainsOf (s .«distance_model») (s .air) (reflectedOf materials tri tris) (w .total) weight) (w .gain)) TooLong)
       picked true true true f g h =
           arrived-sound s (lastOf points n) listener (w .total) weight _ (w .gain) r (record { fitting = fitting; finite = f tt; above = g tt; within = h tt }) (near (f tt))
-          (gains8 (s .«distance_model») materials tri tris (w .total) weight heavy) blocked
+          (gains8 (s .«distance_model») (s .air) materials tri tris (w .total) weight heavy) blocked
       picked true true false f g h = tt
       picked true false c f g h = tt
       picked false b c f g h = tt

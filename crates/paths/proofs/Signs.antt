@@ -1,6 +1,6 @@
 -- Where a float is not below zero (a NaN is not): what arithmetic keeps so.
 use mathlib.Core.Path.{_≡_}
-use mathlib.Core.Bool.{Bool, true, false, not, cond, _&&_}
+use mathlib.Core.Bool.{Bool, true, false, not, cond, _&&_, true≢false}
 use Prim.Native.Nat.{ℕ, zero, suc, _+_, _-_, _*_, _/_, _%_, _^_, _<_, _≤_, compare}
 use native.Mathlib.Nat.{mul-pos, zero-lt-suc, zero-mul, mul-zero}
 use native.Mathlib.Omega.{arith}
@@ -23,6 +23,13 @@ NotNegative (inf false) = Unit {0}
 NotNegative (fin true zero e) = Unit {0}
 NotNegative (fin true (suc m) e) = ⊥
 NotNegative (fin false m e) = Unit {0}
+
+-- a value of the sign + is not negative
+pub value-not-negative : (x : Float) (a c : ℕ) → HasValue x false a c → NotNegative x
+value-not-negative nan a c v = tt
+value-not-negative (inf s) a c v = absurd v
+value-not-negative (fin true m e) a c v = absurd (true≢false (v .0))
+value-not-negative (fin false m e) a c v = tt
 
 none-of : (a b : ℕ) → 0 * a * b ≡ 0
 none-of a b = rw (zero-mul a, zero-mul b)

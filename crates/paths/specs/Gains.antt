@@ -12,6 +12,8 @@ use Rattle.bands.specs.declared.Band8.{Band8}
 use Rattle.bands.specs.declared.DistanceModel.{DistanceModel}
 use Rattle.bands.specs.Band8.{splatOf, mulOf, scaleOf, sumOfSquaresOf}
 use Rattle.bands.specs.Distance.{gainOf}
+use Rattle.air.specs.declared.Air.{Air}
+use Rattle.air.specs.Air.{airGainOf}
 use Rattle.scene.specs.declared.Settings.{Settings}
 use Rattle.scene.specs.Speed.{speedOf}
 use Rattle.segments.specs.Materials.{reflectionOf}
@@ -38,13 +40,9 @@ usableOf total far = isFinite total && (lt zero32 total && not (lt far total))
 unfoldable pub reflectedOf : List Float → (ℕ → Triangle) → List ℕ → Band8
 reflectedOf materials tri is = foldl (λ g i. mulOf g (reflectionOf materials (tri i .«material_handle»))) (splatOf one32) is
 
--- what the air leaves over a distance: all of it ('the reference harness replaces it by `Band8::splat(1.0)`')
-unfoldable pub airGainOf : Float → Band8
-airGainOf total = splatOf one32
-
 -- `gain` of `path_candidate`: by reflection, distance, air and edge weight
-unfoldable pub gainsOf : DistanceModel → Band8 → Float → Float → Band8
-gainsOf model reflection total weight = scaleOf (mulOf reflection (mulOf (splatOf (gainOf model total)) (airGainOf total))) weight
+unfoldable pub gainsOf : DistanceModel → Air → Band8 → Float → Float → Band8
+gainsOf model air reflection total weight = scaleOf (mulOf reflection (mulOf (splatOf (gainOf model total)) (airGainOf air total))) weight
 
 -- why too little arrives, as `RejectReason` parts it
 unfoldable pub rejectedOf : Float → Band8 → Fate

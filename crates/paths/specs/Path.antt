@@ -36,7 +36,7 @@ abbrev pub goneOf : Settings → List Float → (ℕ → Triangle) → ℕ → V
 goneOf s materials tri n listener points tris weight w =
     verdict
     (cond (usableOf (w .total) (s .«max_reflection_distance»))
-    (arrivedOf s (lastOf points n) listener (w .total) weight (gainsOf (s .«distance_model») (reflectedOf materials tri tris) (w .total) weight) (w .gain))
+    (arrivedOf s (lastOf points n) listener (w .total) weight (gainsOf (s .«distance_model») (s .air) (reflectedOf materials tri tris) (w .total) weight) (w .gain))
     TooLong)
     (w .rays)
 

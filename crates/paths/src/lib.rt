@@ -1,5 +1,6 @@
 // A path by way of a sequence of planes: what lies in its way, what arrives by it, and which of the Rust's tests fails first
 // (`validate_image_path`, `path_candidate`).
+use air::Air;
 use bands::Band8;
 use bands::DistanceModel;
 use bounces::Trail;
@@ -18,7 +19,7 @@ ghost use Rattle.segments.specs.Areas.{TreeReads, Traceable};
 ghost use Rattle.bounces.specs.Image.{imageOf};
 ghost use Rattle.bounces.specs.Areas.{maxOrder, madeFate, trailOf, Going};
 ghost use Rattle.paths.specs.Visibility.{startOf, goOf, wayOf};
-ghost use Rattle.paths.specs.Gains.{usableOf, reflectedOf, airGainOf, gainsOf, rejectedOf, candidateOf, arrivedOf};
+ghost use Rattle.paths.specs.Gains.{usableOf, reflectedOf, gainsOf, rejectedOf, candidateOf, arrivedOf};
 ghost use Rattle.paths.specs.Path.{verdict, bouncedOf, pathOf};
 ghost use Rattle.paths.specs.Areas.{softIn, Lent, ReadAs};
 
@@ -219,17 +220,13 @@ fn reflected(handles: &[u32], materials: &[f32], tris: [usize; 8], order: usize)
     product
 }
 
-// The place of the air's damping: none so far.
-fn air_gain(total: f32) -> Band8
-    ensures { λ r. ⌜ r ≡ airGainOf total ⌝ }
+fn gains(model: DistanceModel, air: Air, reflection: Band8, total: f32, weight: f32) -> Band8
+    ensures { λ r. ⌜ r ≡ gainsOf model air reflection total weight ⌝ }
 {
-    bands::splat(1.0)
-}
-
-fn gains(model: DistanceModel, reflection: Band8, total: f32, weight: f32) -> Band8
-    ensures { λ r. ⌜ r ≡ gainsOf model reflection total weight ⌝ }
-{
-    let path = bands::mul(bands::splat(bands::gain(model, total)), air_gain(total));
+    let path = bands::mul(
+        bands::splat(bands::gain(model, total)),
+        air::air_gain(air, total),
+    );
     bands::scale(bands::mul(reflection, path), weight)
 }
 
@@ -334,6 +331,7 @@ fn judge(
             let last = points[order - 1];
             let g = gains(
                 s.distance_model,
+                s.air,
                 reflected(handles, materials, tris, order),
                 way.total,
                 trail.weight,

@@ -16,7 +16,7 @@ use Rattle.build.specs.Tree.{Tree}
 use Rattle.mirror.specs.Plane.{Plane}
 use Rattle.patches.specs.Triangles.{triangleAt}
 use Rattle.scene.specs.declared.Settings.{Settings}
-use Rattle.scene.specs.Limits.{mostCandidates, leastCrossings, mostCrossings, betweenOf, countsOf, ratesOf, mergesOf, modelNumbersOf, probeSettingsOf, settingsOf}
+use Rattle.scene.specs.Limits.{mostCandidates, leastCrossings, mostCrossings, betweenOf, countsOf, ratesOf, mergesOf, modelNumbersOf, probeSettingsOf, lowAirOf, highAirOf, laterSettingsOf, settingsOf}
 use Rattle.scene.specs.Scene.{Scene}
 use Rattle.scene.specs.Refusals.{refusal1, refusal2, refusal3, refusal4, refusal5, first}
 use Rattle.scene.specs.Speed.{speedOf}
@@ -127,7 +127,7 @@ negated true e = absurd (subst T (sym e) tt)
 negated false e = refl
 
 pub within : (st : Settings) (c : ℕ) → settingsOf st c ≡ true → Within st c
-unfolding settingsOf countsOf probeSettingsOf
+unfolding settingsOf laterSettingsOf countsOf probeSettingsOf
 within st c e =
     let m = st .«distance_model» in
     let rest = ratesOf (st .«max_reflection_distance») (st .«temperature_celsius») (st .«sample_rate») in
@@ -135,12 +135,14 @@ within st c e =
     let limit = st .«crossing_limit» in
     let wide = betweenOf (st .«probe_radius») zero32 one32 in
     let probed = not (ltb limit leastCrossings) && (not (ltb mostCrossings limit) && wide) in
-    let a = both (not (ltb mostPlanes (st .«max_reflection_planes»)) && not (ltb mostCandidates c)) (rest && (merged && (modelNumbersOf m && probed))) e in
+    let aired = lowAirOf (st .air) && highAirOf (st .air) in
+    let a = both (not (ltb mostPlanes (st .«max_reflection_planes»)) && not (ltb mostCandidates c)) (rest && (merged && (modelNumbersOf m && (probed && aired)))) e in
     let counts = both (not (ltb mostPlanes (st .«max_reflection_planes»))) (not (ltb mostCandidates c)) (a .one) in
-    let b = both rest (merged && (modelNumbersOf m && probed)) (a .two) in
-    let d = both merged (modelNumbersOf m && probed) (b .two) in
-    let f = both (modelNumbersOf m) probed (d .two) in
-    let g = both (not (ltb limit leastCrossings)) (not (ltb mostCrossings limit) && wide) (f .two) in
+    let b = both rest (merged && (modelNumbersOf m && (probed && aired))) (a .two) in
+    let d = both merged (modelNumbersOf m && (probed && aired)) (b .two) in
+    let f = both (modelNumbersOf m) (probed && aired) (d .two) in
+    let l = both probed aired (f .two) in
+    let g = both (not (ltb limit leastCrossings)) (not (ltb mostCrossings limit) && wide) (l .one) in
     let h = both (not (ltb mostCrossings limit)) wide (g .two) in
     record {
       planes = ltb-false mostPlanes (st .«max_reflection_planes») (negated (ltb mostPlanes (st .«max_reflection_planes»)) (counts .one));

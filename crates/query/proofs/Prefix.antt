@@ -21,7 +21,7 @@ use Rattle.mirror.specs.Plane.{Plane}
 use Rattle.patches.specs.Triangles.{triangleAt}
 use Rattle.scene.specs.declared.Settings.{Settings}
 use Rattle.scene.specs.Scene.{Scene}
-use Rattle.scene.specs.Limits.{settingsOf}
+use Rattle.scene.specs.Limits.{settingsOf, laterSettingsOf}
 use Rattle.scene.specs.Refusals.{refusal1}
 use Rattle.scene.specs.Speed.{speedOf}
 use Rattle.segments.specs.declared.Transmission.{Transmission}
@@ -219,7 +219,7 @@ module _ (st : Settings) (a b : ℕ) (h : a ≤ b) (s : Scene) (source listener 
       (c : ℕ) (lens : List ℕ) (out out′ : List ℕ) →
       ShortAndLong a (answeredOf (traceOf (withList st a) c s lens source listener separated)) (answeredOf (traceOf (withList st b) c s lens source listener separated))
       (outputOf (traceOf (withList st a) c s lens source listener separated) out) (outputOf (traceOf (withList st b) c s lens source listener separated) out′)
-  unfolding planesFor firstRefusal refusal1 settingsOf
+  unfolding planesFor firstRefusal refusal1 settingsOf laterSettingsOf
   both-answers c lens out out′ =
       let on = onOf (planesFor st (triangles s)) source in
       let order = orderOf st s source listener separated in

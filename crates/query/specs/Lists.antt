@@ -28,6 +28,7 @@ withList st k =
       «distance_model» = st .«distance_model»;
       «crossing_limit» = st .«crossing_limit»;
       «probe_radius» = st .«probe_radius»;
+      air = st .air;
     }
 
 -- "the taps for a are the first a of the taps for b, or all where there are fewer, zeros of either sign alike, with equal images and rays": of two answers,

@@ -60,7 +60,7 @@ pub record Traced
       (a : Answer) → callOf st c s source listener separated found out ≡ given a →
       Complete (onOf (planesFor st (triangles s)) source) (orderOf st s source listener separated) (speedOf (st .«temperature_celsius»)) (st .«sample_rate») (limitOf st)
       (pathFor st (triangles s) (s .materials) source listener) a
-  -- "An image of order n then costs at most 18 × (limit + 1) × (n + 1) rays"
+  -- Note 12: "An image of order n then costs at most 18 × (limit + 1) × (n + 1) rays"
   pub rays :
       (a : Answer) → callOf st c s source listener separated found out ≡ given a →
       a .rays ≤ mostRays (st .«crossing_limit») (visited (onOf (planesFor st (triangles s)) source) (orderOf st s source listener separated))

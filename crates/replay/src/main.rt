@@ -2,7 +2,7 @@
 // taps, images, rays, and every byte of the packet. `compare record` of reference/ made the sample: case A, the cases of reference/findings and
 // generated scenes of each kind, run by the published Rust with document 01's refusals and packet around it (reference/README.md).
 //
-// A line is a name and words of eight hexadecimal digits, floats by their bits: 37 of fixed meaning (lengths of five parts; settings as 6 counts
+// A line is a name and words of eight hexadecimal digits, floats by their bits: 45 of fixed meaning (lengths of five parts; settings as 14 counts
 // and 12 floats; candidate room, rows of the material table, separated; source; listener; the answer: refusal, taps, images, rays, bytes), then
 // meshes, transforms, positions, indices and materials, then the packet, four bytes a word, the first the lowest. A line that is longer or
 // shorter than its lengths say, or longer than the areas here, differs.
@@ -17,7 +17,7 @@ ghost use mathlib.Core.Path.{_≡_};
 ghost use lib.ListN.{length};
 
 // Words before the parts, and words of the longest line.
-const HEADER: usize = 37;
+const HEADER: usize = 45;
 
 const LONGEST: usize = 2048;
 
@@ -144,21 +144,21 @@ fn line_floats() -> [f32; LONGEST]
 }
 
 fn settings_from(w: &[u32], f: &[f32]) -> Settings
-    requires { ⌜ (37 ≤ length (now w)) × (37 ≤ length (now f)) ⌝ }
+    requires { ⌜ (45 ≤ length (now w)) × (45 ≤ length (now f)) ⌝ }
 {
-    arguments::settings_from(&w[5..11], &f[11..23])
+    arguments::settings_from(&w[5..19], &f[19..31])
 }
 
 fn source_from(f: &[f32]) -> Vec3
-    requires { ⌜ 37 ≤ length (now f) ⌝ }
+    requires { ⌜ 45 ≤ length (now f) ⌝ }
 {
-    arguments::point_from(&f[26..29])
+    arguments::point_from(&f[34..37])
 }
 
 fn listener_from(f: &[f32]) -> Vec3
-    requires { ⌜ 37 ≤ length (now f) ⌝ }
+    requires { ⌜ 45 ≤ length (now f) ⌝ }
 {
-    arguments::point_from(&f[29..32])
+    arguments::point_from(&f[37..40])
 }
 
 // The query of a line whose parts end at a, b, c, d and e.
@@ -191,14 +191,14 @@ fn run_case(
     d: usize,
     e: usize,
 ) -> Answered
-    requires { ⌜ (37 ≤ a) × (a ≤ b) × (b ≤ c) × (c ≤ d) × (d ≤ e) × (e ≤ length (now w)) × (e ≤ length (now f)) × (e ≤ 2048) ⌝ }
+    requires { ⌜ (45 ≤ a) × (a ≤ b) × (b ≤ c) × (c ≤ d) × (d ≤ e) × (e ≤ length (now w)) × (e ≤ length (now f)) × (e ≤ 2048) ⌝ }
 {
     let settings = settings_from(w, f);
     let source = source_from(f);
     let listener = listener_from(f);
-    let room = w[23];
-    let count = w[24];
-    let separated = w[25] != 0;
+    let room = w[31];
+    let count = w[32];
+    let separated = w[33] != 0;
     query::trace_early_reflections(
         columns,
         handles,
@@ -222,7 +222,7 @@ fn run_case(
         out,
         settings,
         room,
-        &w[37..a],
+        &w[45..a],
         &f[a..b],
         &f[b..c],
         &w[c..d],
@@ -278,19 +278,19 @@ fn same_count(n: usize, w: u32) -> bool {
 
 // Whether the answer is the recorded one, whose packet stands at e.
 fn agrees(out: &[u8], w: &[u32], e: usize, r: Answered) -> bool
-    requires { ⌜ (37 ≤ e) × (e ≤ length (now w)) × (e ≤ 2048) ⌝ }
+    requires { ⌜ (45 ≤ e) × (e ≤ length (now w)) × (e ≤ 2048) ⌝ }
 {
-    if r.refusal != w[32] {
+    if r.refusal != w[40] {
         return false;
     }
-    if r.images != w[34] {
+    if r.images != w[42] {
         return false;
     }
-    if r.rays != w[35] {
+    if r.rays != w[43] {
         return false;
     }
-    if same_count(r.count, w[33]) {
-        if same_count(r.bytes, w[36]) {
+    if same_count(r.count, w[41]) {
+        if same_count(r.bytes, w[44]) {
             return same_packet(out, &w[e..], r.bytes);
         }
     }
@@ -330,7 +330,7 @@ fn print_answer(ok: bool, r: Answered) {
 
 // Runs a case in areas of its own, and compares.
 fn run_fresh(w: &[u32], f: &[f32], a: usize, b: usize, c: usize, d: usize, e: usize) -> bool
-    requires { ⌜ (37 ≤ a) × (a ≤ b) × (b ≤ c) × (c ≤ d) × (d ≤ e) × (e ≤ length (now w)) × (e ≤ length (now f)) × (e ≤ 2048) ⌝ }
+    requires { ⌜ (45 ≤ a) × (a ≤ b) × (b ≤ c) × (c ≤ d) × (d ≤ e) × (e ≤ length (now w)) × (e ≤ length (now f)) × (e ≤ 2048) ⌝ }
 {
     let mut columns = floats_1472();
     let mut handles = words_64();
@@ -412,7 +412,7 @@ fn run_words(w: &[u32], f: &[f32], digits: usize) -> bool
     let c = b + limited(w[2]);
     let d = c + limited(w[3]);
     let e = d + limited(w[4]);
-    let bytes = limited(w[36]);
+    let bytes = limited(w[44]);
     if LONGEST < e {
         return no_case();
     }

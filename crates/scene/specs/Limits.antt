@@ -1,4 +1,4 @@
--- The limits of document 01, section 'Scene and settings', each named once. A comparison with a NaN is false, so a NaN lies outside every limit.
+-- The limits of document 01, section 'Scene and settings', and of document 02's Notes 4, 5 and 12, each named once. A comparison with a NaN is false, so a NaN lies outside every limit.
 use Prim.Native.Nat.{ℕ}
 use lib.Ieee.{Float, binary32, le, lt, neg, ofBits}
 use lib.Dec.{ltb}
@@ -6,6 +6,7 @@ use mathlib.Core.Bool.{Bool, not, _&&_}
 use Rattle.float.specs.Literals.{zero32, one32}
 use Rattle.float.specs.Compare.{isFinite}
 use Rattle.bands.specs.declared.DistanceModel.{DistanceModel}
+use Rattle.air.specs.declared.Air.{Air}
 use Rattle.scene.specs.declared.Settings.{Settings}
 
 -- `max_reflection_planes` 0 to 256; C 0 to 250,000
@@ -55,6 +56,10 @@ maxCrossings = 8
 abbrev pub visibilityRadius : Float
 visibilityRadius = ofBits binary32 0x3d75_c28f
 
+-- the air's coefficients, in millionths of a decibel per metre: 0 to 1,000,000 (document 02, Note 5)
+abbrev pub mostCoefficient : ℕ
+mostCoefficient = 1000000
+
 -- from `low` to `high`
 unfoldable pub betweenOf : Float → Float → Float → Bool
 betweenOf x low high = le low x && le x high
@@ -88,10 +93,25 @@ modelNumbersOf m =
 unfoldable pub probeSettingsOf : ℕ → Float → Bool
 probeSettingsOf limit radius = not (ltb limit leastCrossings) && (not (ltb mostCrossings limit) && betweenOf radius zero32 one32)
 
+-- a coefficient of the air within its limit
+unfoldable pub airNumberOf : ℕ → Bool
+airNumberOf x = not (ltb mostCoefficient x)
+
+-- all eight, four and four
+unfoldable pub lowAirOf : Air → Bool
+lowAirOf a = airNumberOf (a .a0) && (airNumberOf (a .a1) && (airNumberOf (a .a2) && airNumberOf (a .a3)))
+
+unfoldable pub highAirOf : Air → Bool
+highAirOf a = airNumberOf (a .a4) && (airNumberOf (a .a5) && (airNumberOf (a .a6) && airNumberOf (a .a7)))
+
+-- the settings of Notes 12 and 5: the probes and the air
+unfoldable pub laterSettingsOf : Settings → Bool
+laterSettingsOf s = probeSettingsOf (s .«crossing_limit») (s .«probe_radius») && (lowAirOf (s .air) && highAirOf (s .air))
+
 -- every setting, and the candidate room c, within its limits; order and `max_reflections` may be any
 unfoldable pub settingsOf : Settings → ℕ → Bool
 settingsOf s c =
     countsOf (s .«max_reflection_planes») c
     && (ratesOf (s .«max_reflection_distance») (s .«temperature_celsius») (s .«sample_rate»)
     && (mergesOf (s .«plane_merge_cos») (s .«reflection_edge_fade») (s .«plane_merge_offset») (s .«plane_buried_distance»)
-    && (modelNumbersOf (s .«distance_model») && probeSettingsOf (s .«crossing_limit») (s .«probe_radius»))))
+    && (modelNumbersOf (s .«distance_model») && laterSettingsOf s)))

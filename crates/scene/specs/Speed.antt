@@ -1,4 +1,4 @@
--- The speed of sound by the thermometer, ISO 9613-1: "343.2 times the square root of (t + 273.15) / 293.15, each operation rounded once in f32 in that order".
+-- The speed of sound by the thermometer; document 02, Note 4: "343.2 times the square root of (t + 273.15) / 293.15, each operation rounded once in f32 in that order".
 -- `proofs/Speed.antt` proves each number the `f32` nearest to its decimal.
 use lib.Ieee.{Float, binary32, add, mul, div, ofBits}
 use Rattle.float.specs.Sqrt.{sqrtOf}

@@ -1,17 +1,19 @@
 // Settings and scene parts as a caller lends them, and the refusals 1 to 5. A scene is meshes of three words (vertices, indices, handle),
 // and behind them, mesh after mesh, 16 floats of transform, three floats a vertex and the indices; a material row is 16 floats.
+use air::Air;
 use bands::DistanceModel;
 ghost use mathlib.Core.Path.{_≡_};
 ghost use Prim.Native.Nat.{_+_, _≤_, _<_, min};
 ghost use lib.ListN.{length};
-ghost use Rattle.scene.specs.Limits.{mostTriples, betweenOf, aboveZeroOf, countsOf, ratesOf, mergesOf, modelNumberOf, modelNumbersOf, probeSettingsOf, settingsOf};
+ghost use Rattle.scene.specs.Limits.{mostTriples, betweenOf, aboveZeroOf, countsOf, ratesOf, mergesOf, modelNumberOf, modelNumbersOf};
+ghost use Rattle.scene.specs.Limits.{probeSettingsOf, airNumberOf, lowAirOf, highAirOf, laterSettingsOf, settingsOf};
 ghost use Rattle.scene.specs.Speed.{speedOf};
 ghost use Rattle.scene.specs.Scene.{scene, headers, tripleSum};
 ghost use Rattle.scene.specs.Areas.{shortOf};
 ghost use Rattle.scene.specs.Refusals.{meshesWhole, transformsRight, positionsRight, indicesRight, materialsRight, lengthsRightOf, unknownHandle, checkOf};
 
 // The settings of a query, by the Rust's names. `plane_merge_angle_deg` is its cosine, and whether it is above 0. `crossing_limit` and `probe_radius` are
-// the Rust's constants `OCCLUSION_MAX_CROSSINGS` and `REFLECTION_VISIBILITY_RADIUS`.
+// the Rust's constants `OCCLUSION_MAX_CROSSINGS` and `REFLECTION_VISIBILITY_RADIUS`; `air` is what the air takes in each band.
 pub struct Settings {
     pub max_reflection_order: u32,
     pub max_reflections: u32,
@@ -27,6 +29,7 @@ pub struct Settings {
     pub distance_model: DistanceModel,
     pub crossing_limit: u32,
     pub probe_radius: f32,
+    pub air: Air,
 }
 
 // The first refusal of 1 to 5 that applies, or how many whole triples the scene has.
@@ -39,13 +42,16 @@ const MOST_PLANES: u32 = 256;
 
 const MOST_CANDIDATES: u32 = 250_000;
 
+// Millionths of a decibel per metre.
+const MOST_COEFFICIENT: u32 = 1_000_000;
+
 const LEAST_TEMPERATURE: f32 = -20.0;
 
 const LEAST_CROSSINGS: u32 = 1;
 
 pub const MOST_CROSSINGS: u32 = 32;
 
-// The Rust's values of the last two settings.
+// The Rust's crossing limit and probe radius.
 pub const OCCLUSION_MAX_CROSSINGS: u32 = 8;
 
 pub const REFLECTION_VISIBILITY_RADIUS: f32 = 0.06;
@@ -228,6 +234,54 @@ fn probe_settings(limit: u32, radius: f32) -> bool
     between(radius, 0.0, 1.0)
 }
 
+fn air_number(x: u32) -> bool
+    ensures { λ r. ⌜ r ≡ airNumberOf x ⌝ }
+{
+    if x > MOST_COEFFICIENT {
+        return false;
+    }
+    true
+}
+
+// The first four of the air's coefficients, and the others.
+fn low_air(a: Air) -> bool
+    ensures { λ r. ⌜ r ≡ lowAirOf a ⌝ }
+{
+    if air_number(a.a0) {
+        if air_number(a.a1) {
+            if air_number(a.a2) {
+                return air_number(a.a3);
+            }
+        }
+    }
+    false
+}
+
+fn high_air(a: Air) -> bool
+    ensures { λ r. ⌜ r ≡ highAirOf a ⌝ }
+{
+    if air_number(a.a4) {
+        if air_number(a.a5) {
+            if air_number(a.a6) {
+                return air_number(a.a7);
+            }
+        }
+    }
+    false
+}
+
+// The probes and the air.
+fn later_settings(s: Settings) -> bool
+    ensures { λ r. ⌜ r ≡ laterSettingsOf s ⌝ }
+{
+    if probe_settings(s.crossing_limit, s.probe_radius) {
+        if low_air(s.air) {
+            return high_air(s.air);
+        }
+    }
+    false
+}
+
 fn within_limits(s: Settings, c: u32) -> bool
     ensures { λ r. ⌜ r ≡ settingsOf s c ⌝ }
 {
@@ -244,7 +298,7 @@ fn within_limits(s: Settings, c: u32) -> bool
                 s.plane_buried_distance,
             ) {
                 if model_numbers(s.distance_model) {
-                    return probe_settings(s.crossing_limit, s.probe_radius);
+                    return later_settings(s);
                 }
             }
         }

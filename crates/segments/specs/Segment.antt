@@ -1,6 +1,6 @@
 -- `segment_transmission` and `segment_soft_transmission`, each with the traces that it makes: document 01's 'rays counts each trace of the tree'.
 -- `trace` says what a ray hits, `pass` what a surface of a handle lets through, `limit` how many crossings of a half segment count, and
--- `radius` how wide the probes are set: the Rust's `OCCLUSION_MAX_CROSSINGS` and `REFLECTION_VISIBILITY_RADIUS`.
+-- `radius` how far from the middle the probes are set: the Rust's `OCCLUSION_MAX_CROSSINGS` and `REFLECTION_VISIBILITY_RADIUS`.
 use Prim.Native.Nat.{ℕ, zero, suc, _+_}
 use lib.Ieee.{Float, binary32, add, sub, mul, div, lt, ofBits}
 use mathlib.Core.Bool.{cond}

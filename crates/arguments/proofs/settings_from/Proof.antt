@@ -1,3 +1,4 @@
+-- `arguments::settings_from` meets its contract: each setting from its place.
 use Rattle.arguments.specs.Settings.{settingsFrom}
 use borrow.Author.Needs.{needs}
 use Rattle.arguments.proofs.settings_from.Statement.{statement}
@@ -15,6 +16,7 @@ settings-from-spec =
     (λ c. search needs)
     (λ c. search needs)
     (λ c. search needs)
+    (λ c κs. c .before .before .before .before .before .before .before .before .before .pre .0)
     (λ c. search needs)
     (λ c. search needs)
     (λ c. search needs)
@@ -27,5 +29,7 @@ settings-from-spec =
     (λ c. search needs)
     (λ c. search needs)
     (λ c. search needs)
-    (λ c. rw
-    (← c .before .before .before .before .before .before .before .before .before .before .before .before .before .before .before .before .before .curve-of .ensures)))
+    (λ c. rw (
+      ← c .before .before .before .before .before .before .before .before .before .before .before .before .before .before .before .before .before .before .curve-of .ensures,
+      ← c .before .before .before .before .before .before .before .before .before .before .before .before .air-from .ensures,
+    )))

@@ -1,4 +1,4 @@
--- `scene::within_limits` meets its contract: group by group, by the contracts of `counts`, `rates`, `merges`, `model_numbers` and `probe_settings`.
+-- `scene::within_limits` meets its contract: group by group, by the contracts of `counts`, `rates`, `merges`, `model_numbers` and `later_settings`.
 use Rattle.scene.specs.Limits.{settingsOf}
 use Rattle.scene.proofs.within_limits.Statement.{statement}
 use Rattle.scene.proofs.within_limits.Tie as tie
@@ -27,7 +27,7 @@ within-limits-spec =
       at-if3 .if3 .taken,
       ← at-if4 .before .model-numbers .ensures,
       at-if4 .if4 .taken,
-      ← c .probe-settings .ensures,
+      ← c .later-settings .ensures,
     ))
     (λ c.
     let at-if3 = c .before .before in

@@ -434,10 +434,12 @@ fn walls() {
 /// (`triangles_from_scene`, `build_flat_bvh`, `build_planes`), and `trace_early_reflections`.
 fn calls() {
     let with = |mut c: Case, order: u32, room: u32| { (c.settings.order, c.settings.room) = (order, room); c };
+    let damped = |mut c: Case| { c.settings.air = [121, 440, 1310, 2728, 4665, 9887, 29_666, 105_291]; c };
     for (name, c) in [
         ("booth, order 3", with(hall(0), 3, 4096)), ("booth, order 3", with(hall(0), 3, 250_000)), ("12 sheets, order 2", with(hall(12), 2, 4096)),
         ("booth, order 8", with(hall(0), 8, 4096)), ("booth, order 8", with(hall(0), 8, 250_000)), ("500 random triangles, order 1", with(soup(500), 1, 4096)),
-        ("4096 random triangles, order 1", with(soup(4096), 1, 4096)),
+        ("4096 random triangles, order 1", with(soup(4096), 1, 4096)), ("booth, order 3", with(hall(0), 3, 4096)),
+        ("booth with air, order 3", damped(with(hall(0), 3, 4096))), ("booth with air, order 8", damped(with(hall(0), 8, 4096))),
     ] {
         let (l, backend) = (lent(&c), oracle::built(&c, false));
         let theirs = oracle::run_built(&c, &backend);

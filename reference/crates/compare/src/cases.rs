@@ -42,7 +42,7 @@ impl Coverage {
         all.fates.iter_mut().zip(w.fates).for_each(|(a, b)| *a += b);
         all.orders.iter_mut().zip(w.orders).for_each(|(a, b)| *a += b);
         all.rays += w.rays;
-        all.most += w.most;
+        all.most.iter_mut().zip(w.most).for_each(|(a, b)| *a += b);
         all.dimmed += w.dimmed;
         all.bounces += w.bounces;
     }
@@ -100,7 +100,9 @@ impl Coverage {
         println!("    of order 7 and more: {}; at most {} images and {} taps in a result", w.deep, w.most_images, w.most_taps);
         println!("    packets: {}, {} of them with the bytes of the Rust's taps; refusals 1 to 7: {:?}; {} cases left out", w.packets, w.bytes, &w.refusals[1..], w.left_out);
         let w = &self.walked;
-        println!("  paths: {}, {} rays; {} with as many as may be", w.fates.iter().sum::<u64>(), w.rays, w.most);
+        println!("  paths: {}, {} rays", w.fates.iter().sum::<u64>(), w.rays);
+        let most: Vec<String> = w.most.iter().enumerate().filter(|(_, &n)| n > 0).map(|(limit, n)| format!("{n} under limit {limit}")).collect();
+        println!("    with as many rays as may be: {}", most.join(", "));
         for (name, n) in FATES.iter().zip(w.fates) {
             println!("    {name}: {n}");
         }

@@ -3,9 +3,9 @@ use crate::front;
 use oracle::{Case, Mesh, Table, IDENTITY};
 use port::{Traced, Tree, Work, COLUMNS, OUTPUT, TAPS, TAP_WORDS};
 use quasar_backends::cpu_simd::{CpuSimdComputeBackend, OracleTree, ORACLE_LAST};
-use quasar_core::air::AIR_FACTOR;
+use quasar_core::air::{air_absorption_db_per_m, AIR_FACTOR};
 use quasar_core::backend::{IAcousticComputeBackend, MaterialProvider, SpatialQuery};
-use quasar_core::bands::Band8;
+use quasar_core::bands::{Band8, FREQ_BAND_CENTRES};
 use quasar_core::distance::{DistanceCurve, DistanceModel};
 use quasar_core::emitter_pattern::{EmitterPattern, EmitterShape, EmitterTrace};
 use quasar_core::rays::RayInteractionContext;
@@ -239,7 +239,7 @@ fn refused() -> Vec<Row> {
 /// Case A with one setting just past its limit; those for which the two answer alike are in one row.
 fn settings() -> Vec<Row> {
     const MILLION: f32 = 1_000_000.0;
-    let heard: [fn(&mut oracle::Settings); 23] = [
+    let heard: [fn(&mut oracle::Settings); 24] = [
         |s| s.planes = 257,
         |s| s.room = 250_001,
         |s| s.max_distance = 1000f32.next_up(),
@@ -263,6 +263,7 @@ fn settings() -> Vec<Row> {
         |s| s.crossing_limit = 33,
         |s| s.probe_radius = 1f32.next_up(),
         |s| s.probe_radius = f32::NAN,
+        |s| s.air[7] = 1_000_001,
     ];
     let silent: [fn(&mut oracle::Settings); 3] = [|s| s.max_distance = 0.0, |s| s.max_distance = f32::NAN, |s| s.fade = f32::INFINITY];
     let one = |changes: &[fn(&mut oracle::Settings)], place, input| {
@@ -277,7 +278,7 @@ fn settings() -> Vec<Row> {
         one(
             &heard,
             "a setting past its limit",
-            "case A with 257 planes, or C 250,001; distance, temperature, rate, cosine or a number of the distance model one float past an end; fade, merge offset or buried distance NaN or infinite; crossing limit 0 or 33; probe radius past 1 or NaN",
+            "case A with 257 planes, or C 250,001; distance, temperature, rate, cosine or a number of the distance model one float past an end; fade, merge offset or buried distance NaN or infinite; crossing limit 0 or 33; probe radius past 1 or NaN; a coefficient of the air 1,000,001",
         ),
         one(&silent, "the same, nothing heard", "case A with distance 0 or NaN, or fade infinite"),
     ]
@@ -307,12 +308,16 @@ fn around() -> Vec<Row> {
     let table = Table(&a.materials);
     // the least whole degree at which an f64's cosine is another f32
     let (rust, double) = (black_box(17f32).to_radians().cos(), black_box(17f64).to_radians().cos() as f32);
+    // the published formulas in the Rust, and their coefficients in the port
     let air = {
+        let built = oracle::built(&a, false);
         AIR_FACTOR.with(|f| f.set(Some(|d| quasar_core::air_iso::air_absorption_gain(d, 20.0, 50.0))));
-        let gain = rust_gain(&a, &table);
+        let (taps, ..) = built.oracle_trace(&a.source, &a.listener, &table, a.separated);
         AIR_FACTOR.with(|f| f.set(None));
-        gain
+        taps[0].gain.0[7]
     };
+    let coefficients = FREQ_BAND_CENTRES.map(|f| (air_absorption_db_per_m(f, 20.0, 50.0) * 1e6).round() as u32);
+    let damped = case_a(|c| c.settings.air = coefficients);
     let up = EmitterTrace { pattern: Some(EmitterPattern::SoundCone { inner_deg: 90.0, outer_deg: 90.0, outer_gain_db: -50.0 }), forward: [0.0, 1.0, 0.0], shape: EmitterShape::Point };
     let corners = [[0.0, 0.0, 0.0], [4.0, 0.0, 0.0], [0.0, 4.0, 0.0], [0.0, 0.0, 4.0]];
     let mut shell = triangles(&corners, IDENTITY);
@@ -325,7 +330,7 @@ fn around() -> Vec<Row> {
     let skipped = ORACLE_LAST.with(|l| l.borrow().nodes);
     vec![
         Row("`plane_merge_angle_deg`", "17 degrees", format!("takes the f32 cosine, {:08x}", rust.to_bits()), format!("is given a cosine; from an f64 it is {:08x}", double.to_bits())),
-        Row("air", "case A at 20 degrees and 50 %: the gain at 8 kHz", air.to_string(), port_gain(&a).to_string()),
+        Row("air", "case A at 20 degrees and 50 %: the gain at 8 kHz", air.to_string(), format!("{} with {} millionths of a decibel per metre", port_gain(&damped), coefficients[7])),
         Row("absorption by angle", "case A, 0.75 below half a radian and else 0: the gain", rust_gain(&a, &Angled).to_string(), format!("one number a band: {}", port_gain(&a))),
         Row("emitter pattern", "case A, a cone of 90 degrees upwards, -50 dB outside", taps(queried(&a, Some(up), &table).1), port(&a)),
         Row("`separated`", "an opaque tetrahedron, source inside, listener outside", format!("`query_spatial` finds it: {skipped} images"), format!("is told: {} images, not told {}", images(&told), images(&shell))),

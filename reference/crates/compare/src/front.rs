@@ -34,7 +34,10 @@ pub const DAMAGES: [Damage; 1 + 2 * PARTS + AREAS] = {
 pub fn lent(c: &Case) -> Lent {
     let s = &c.settings;
     Lent {
-        counts: [s.order, s.max_reflections, s.planes, s.merge_on as u32, s.linear as u32, s.crossing_limit],
+        counts: {
+            let first = [s.order, s.max_reflections, s.planes, s.merge_on as u32, s.linear as u32, s.crossing_limit];
+            std::array::from_fn(|k| if k < 6 { first[k] } else { s.air[k - 6] })
+        },
         #[rustfmt::skip]
         floats: [
             s.fade, s.max_distance, s.temperature, s.rate, s.merge_cos, s.merge_offset, s.buried, s.reference, s.rolloff, s.min_distance, s.far_distance,

@@ -16,7 +16,7 @@ const MORE: usize = 120;
 const NEAR: usize = 6;
 
 /// What was compared of a scene: paths by fate, the rays traced for them, candidates by order.
-#[derive(Clone, Copy, Debug, Default)]
+#[derive(Clone, Copy, Debug)]
 pub struct Walked {
     pub fates: [u64; 8],
     pub rays: u64,
@@ -25,8 +25,14 @@ pub struct Walked {
     /// Candidates that a surface was in the way of, for some of their traces.
     pub dimmed: u64,
     pub orders: [u64; ORDER],
-    /// Paths for which as many rays were traced as may be.
-    pub most: u64,
+    /// Paths for which as many rays were traced as may be, by the crossing limit.
+    pub most: [u64; 33],
+}
+
+impl Default for Walked {
+    fn default() -> Walked {
+        Walked { fates: [0; 8], rays: 0, bounces: 0, dimmed: 0, orders: [0; ORDER], most: [0; 33] }
+    }
 }
 
 /// Planted slips of this stage: another fate, a ray more, a gain's last bit, the last bit of a bounce.
@@ -156,7 +162,8 @@ impl Sides<'_> {
         self.out.bounces += theirs.points.len() as u64;
         self.out.fates[theirs.fate.min(7) as usize] += 1;
         self.out.rays += theirs.rays;
-        self.out.most += (theirs.rays == 18 * (c.settings.crossing_limit as u64 + 1) * (seq.len() as u64 + 1)) as u64;
+        let limit = c.settings.crossing_limit as usize;
+        self.out.most[limit] += (theirs.rays == 18 * (limit as u64 + 1) * (seq.len() as u64 + 1)) as u64;
         if theirs.fate == 0 {
             self.out.orders[seq.len() - 1] += 1;
             self.out.dimmed += (theirs.rays > 18 * (seq.len() as u64 + 1)) as u64;

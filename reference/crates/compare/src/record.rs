@@ -129,7 +129,7 @@ fn add_kind(all: &mut Sample, kind: Kind, count: usize) {
     println!("{kind:?}: {taken} cases, {refusals} refused");
 }
 
-/// Adds `count` cases of a kind whose probe settings change the answer, or refuse it.
+/// Adds `count` cases of a kind whose probe settings or coefficients of the air change the answer, or refuse it.
 fn add_probed(all: &mut Sample, kind: Kind, count: usize) {
     let (mut taken, mut limits) = (0, Vec::new());
     for seed in 0..TRIES {
@@ -141,7 +141,7 @@ fn add_probed(all: &mut Sample, kind: Kind, count: usize) {
         let plain = {
             let d = Settings::default();
             let mut plain = c.clone();
-            (plain.settings.crossing_limit, plain.settings.probe_radius) = (d.crossing_limit, d.probe_radius);
+            (plain.settings.crossing_limit, plain.settings.probe_radius, plain.settings.air) = (d.crossing_limit, d.probe_radius, d.air);
             oracle::run(&plain, false)
         };
         let differs = plain.refusal != o.refusal || o.refusal == 0 && plain.packet() != o.packet();
@@ -152,11 +152,11 @@ fn add_probed(all: &mut Sample, kind: Kind, count: usize) {
             taken += 1;
         }
     }
-    println!("{kind:?} with probe settings: {taken} cases");
+    println!("{kind:?} with probe settings and air: {taken} cases");
 }
 
-/// Writes `stdin` and `stdout` to the folder of the program: the cases of the files that fit, then `count` of each kind, then `count` each of curtains
-/// and of limits with probe settings.
+/// Writes `stdin` and `stdout` to the folder of the program: the cases of the files that fit, then `count` of each kind, then up to `count`
+/// each of curtains, limits and booths with other probe settings and air.
 pub fn run(folder: &str, count: usize, files: &[&str]) {
     let mut all = Sample::default();
     for name in files {
@@ -173,7 +173,7 @@ pub fn run(folder: &str, count: usize, files: &[&str]) {
     }
     println!("{} cases of {} files", all.cases, files.len());
     KINDS.into_iter().for_each(|kind| add_kind(&mut all, kind, count));
-    [Kind::Curtains, Kind::Limits].into_iter().for_each(|kind| add_probed(&mut all, kind, count));
+    [Kind::Curtains, Kind::Limits, Kind::Booth].into_iter().for_each(|kind| add_probed(&mut all, kind, count));
     writeln!(all.printed, "{} cases, 0 differ", all.cases).unwrap();
     let head = "# The Rust's answers, recorded by `compare record`; crates/replay/src/main.rt says what stands in a line.\n";
     println!("{} cases, {} bytes", all.cases, head.len() + all.lines.len());

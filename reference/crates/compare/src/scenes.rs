@@ -320,11 +320,14 @@ fn limits(c: &mut Case, r: &mut Random) {
     c.settings.linear = r.chance(2);
 }
 
-/// Sheets across the way by the floor, about as many as half a segment may cross: in its first half, or in all four, so that every ray is traced that
-/// may be.
+/// Sheets across the way by the floor, about as many as half a segment may cross: in its first half; or in all four and with a bundle that is narrow
+/// enough to meet all of them, so that as many rays are traced as may be.
 fn thick(c: &mut Case, r: &mut Random) {
     let mut m = mesh(0);
-    let (halves, more) = if r.chance(4) { (4, 1) } else { (1, r.below(3)) };
+    let (halves, more) = if r.chance(2) { (4, 1) } else { (1, r.below(3)) };
+    if halves == 4 {
+        c.settings.probe_radius = c.settings.probe_radius.min(0.2);
+    }
     let sheets = c.settings.crossing_limit as usize + more - (halves == 1) as usize;
     for k in 0..halves * sheets {
         let (from, to) = [(-1.9, -1.1), (-0.9, -0.1), (0.1, 1.4), (1.6, 2.9)][k / sheets];
@@ -335,7 +338,24 @@ fn thick(c: &mut Case, r: &mut Random) {
     c.materials[0].transmission = [r.from(0.95, 1.0); 8];
 }
 
-/// The case of a kind and a seed with a temperature and probe settings, of numbers of their own, so that the scene stays what it is: half of the
+/// Source and listener one above the other, so that the paths by floor and ceiling are whole sixteenths of a metre long: every other one has half a
+/// millimetre. The coefficients are the least ones that the upper millimetre takes a step further.
+fn halves(c: &mut Case, r: &mut Random) {
+    let (low, high) = (r.below(16) as u32, 16 + r.below(16) as u32);
+    (c.source[1], c.listener[1]) = (low as f32 / 16.0, high as f32 / 16.0);
+    (c.listener[0], c.listener[2]) = (c.source[0], c.source[2]);
+    let up = (1000 * (low + high + 32)).div_ceil(16) as u64;
+    c.settings.air = std::array::from_fn(|_| ((25_000_000 + 50_000_000 * r.below(40) as u64).div_ceil(up) as u32).min(1_000_000));
+}
+
+/// Coefficients of the air: none, small, large, of all sizes.
+fn air(r: &mut Random) -> [u32; 8] {
+    let most = [0, 100, 20_000, 1_000_000, 1_000_000][r.below(5)];
+    let mixed = r.chance(2);
+    std::array::from_fn(|_| if mixed && r.chance(3) { 0 } else if r.chance(8) { most } else { r.below(most as usize + 1) as u32 })
+}
+
+/// The case of a kind and a seed with a temperature, coefficients of the air and probe settings, of numbers of their own, so that the scene stays what it is: half of the
 /// curtains are as thick as the limit, and some limits and radii are those that are refused.
 pub fn probed(kind: Kind, seed: u64) -> Case {
     let (mut c, mut r) = (case(kind, seed), Random::new(seed.wrapping_mul(64) + 32 + kind as u64));
@@ -347,12 +367,19 @@ pub fn probed(kind: Kind, seed: u64) -> Case {
     if kind != Kind::Limits {
         c.settings.temperature = [-20.0, 50.0, 20.0, r.from(-20.0, 50.0), r.from(-20.0, 50.0)][r.below(5)];
     }
+    if !r.chance(3) {
+        c.settings.air = air(&mut r);
+    }
+    if kind == Kind::Booth && r.chance(3) {
+        halves(&mut c, &mut r);
+    }
     if kind == Kind::Curtains && r.chance(2) {
         thick(&mut c, &mut r);
     }
     if kind == Kind::Limits && r.chance(4) {
-        match r.below(2) {
+        match r.below(3) {
             0 => c.settings.crossing_limit = [0, 1, 32, 33, u32::MAX][r.below(5)],
+            1 => c.settings.air[r.below(8)] = [0, 1, 999_999, 1_000_000, 1_000_001, u32::MAX][r.below(6)],
             _ => c.settings.probe_radius = { let x = [0.0, 1.0][r.below(2)]; around(&mut r, x) },
         }
     }

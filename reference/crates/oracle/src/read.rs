@@ -143,9 +143,10 @@ impl<'a> Reader<'a> {
         let linear = self.linear()?;
         let [reference, rolloff, min_distance, far_distance] = self.floats()?;
         let (crossing_limit, probe_radius) = self.probes()?;
+        let air = self.air()?;
         Ok(Settings {
             order, max_reflections, planes, fade, max_distance, temperature, rate, merge_cos, merge_on, merge_offset, buried, linear, reference, rolloff,
-            min_distance, far_distance, crossing_limit, probe_radius, room,
+            min_distance, far_distance, crossing_limit, probe_radius, air, room,
         })
     }
 
@@ -158,6 +159,17 @@ impl<'a> Reader<'a> {
         let limit = self.whole()?;
         let [radius] = self.floats()?;
         Ok((limit, radius))
+    }
+
+    /// The line `air` may be left out: the air takes nothing.
+    fn air(&mut self) -> Read<[u32; 8]> {
+        let mut air = [0; 8];
+        if self.reads("air") {
+            for a in &mut air {
+                *a = self.whole()?;
+            }
+        }
+        Ok(air)
     }
 
     fn row(&mut self) -> Read<Row> {

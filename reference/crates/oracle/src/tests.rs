@@ -167,8 +167,26 @@ fn probes_may_be_left_out() {
 }
 
 #[test]
+fn air_may_be_left_out() {
+    assert_eq!(one(FLOOR.as_bytes()).settings.air, [0; 8]);
+    let d = one(FLOOR.replace("materials 1", "air 1 2 3 4 5 6 7 1000000 # treble\nmaterials 1").as_bytes());
+    assert_eq!((d.settings.air, d.settings.crossing_limit), ([1, 2, 3, 4, 5, 6, 7, 1_000_000], 8));
+}
+
+/// The table that the program `air_table` prints, and document 02's halves.
+#[test]
+fn the_air_by_its_own_arithmetic() {
+    let printed = std::fs::read_to_string(top().join("crates/air_table/stdout")).unwrap();
+    let table: Vec<u64> = printed.lines().map(|l| l.parse().unwrap()).collect();
+    assert_eq!(table, (0..400).map(crate::air::factor).collect::<Vec<_>>());
+    assert_eq!((crate::air::factor(400), crate::air::factor(799), crate::air::factor(2889), crate::air::factor(2890)), (1_677_721, 168_740, 1, 0));
+    assert_eq!([0.0625, f32::from_bits(0x4145_872b), 1000.0].map(crate::air::millimetres), [63, 12_345, 1_000_000]);
+    assert_eq!((crate::air::steps(402_981, 12_345), crate::air::steps(402_981, 12_346), crate::air::steps(0, 1_000_000)), (99, 100, 0));
+}
+
+#[test]
 fn every_part_reaches_its_place() {
-    let c = one(b"case x counts 1 2 3 4 floats 5 6 7 8 9 10 11 merge 0 curve linear 12 13 14 15 probes 16 17 materials 2
+    let c = one(b"case x counts 1 2 3 4 floats 5 6 7 8 9 10 11 merge 0 curve linear 12 13 14 15 probes 16 17 air 18 19 20 21 22 23 24 25 materials 2
         m 1 2 3 4 5 6 7 8 9 10 11 12 13 14 15 16 m 0 0 0 0 0 0 0 0 1 1 1 1 1 1 1 1
         meshes 2 mesh 1 2 5 t 1 2 3 4 5 6 7 8 9 10 11 12 13 14 15 16 p 1 2 3 p 4 5 6 i 7 8 9 i 10 11
         mesh 0 0 0 t 0 0 0 0 0 0 0 0 0 0 0 0 0 0 0 0 source 1 2 3 listener 4 5 6 separated 1 end");
@@ -176,7 +194,7 @@ fn every_part_reaches_its_place() {
     assert_eq!((s.order, s.max_reflections, s.planes, s.room), (1, 2, 3, 4));
     assert_eq!([s.fade, s.max_distance, s.temperature, s.rate, s.merge_cos, s.merge_offset, s.buried], [5.0, 6.0, 7.0, 8.0, 9.0, 10.0, 11.0]);
     assert_eq!((s.merge_on, s.linear, s.reference, s.rolloff, s.min_distance, s.far_distance), (false, true, 12.0, 13.0, 14.0, 15.0));
-    assert_eq!((s.crossing_limit, s.probe_radius), (16, 17.0));
+    assert_eq!((s.crossing_limit, s.probe_radius, s.air), (16, 17.0, [18, 19, 20, 21, 22, 23, 24, 25]));
     assert_eq!(c.materials[0].absorption, [1.0, 2.0, 3.0, 4.0, 5.0, 6.0, 7.0, 8.0]);
     assert_eq!(c.materials[0].transmission, [9.0, 10.0, 11.0, 12.0, 13.0, 14.0, 15.0, 16.0]);
     assert_eq!((c.materials.len(), c.meshes.len()), (2, 2));
@@ -208,6 +226,9 @@ fn faults_name_the_line() {
         ("merge 1", "merge 2", "line 6: expected 0 or 1"),
         ("materials 1", "probes\nmaterials 1", "line 9: expected a whole number"),
         ("materials 1", "probes 8\nmaterials 1", "line 9: expected a float"),
+        ("materials 1", "air 1 2 3\nmaterials 1", "line 9: expected a whole number"),
+        ("materials 1", "air 0 0 0 0 0 0 0 0.5\nmaterials 1", "line 8: expected a whole number"),
+        ("materials 1", "air 0 0 0 0 0 0 0 0 probes 8 0.06\nmaterials 1", "line 8: expected `materials`"),
         ("materials 1", "probes 8 0.06 probes 8 0.06\nmaterials 1", "line 8: expected `materials`"),
         ("separated 0", "separated 2", "line 21: expected 0 or 1"),
         ("m 0.75", "m 0.75 0", "line 9: expected `meshes`"),
@@ -252,7 +273,7 @@ fn findings_are_read_to_their_bits() {
     for file in files {
         let text = std::fs::read_to_string(&file).unwrap();
         assert_eq!(bits(&text), text, "{}", file.display());
-        assert!(text.contains("\nprobes 8 3d75c28f\n"), "{}", file.display());
+        assert!(text.contains("\nprobes 8 3d75c28f\nair "), "{}", file.display());
     }
 }
 
