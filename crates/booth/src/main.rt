@@ -1,5 +1,5 @@
-// The echoes of a booth, as a person asks for them. Without arguments: a built-in booth, as a table. With two, `booth SCENE.case PACKET.bin`:
-// the scene and settings of a text (docs/BOOTH.md), the table, and the packet to a file. Bad input is answered in words.
+// The echoes of a booth, as a person asks for them. Without arguments: a built-in booth, as a table. `booth SCENE.case`: the scene and settings of
+// a text (docs/BOOTH.md). `booth SCENE.case PACKET.bin`: the same, and the packet to a file. Bad input is answered in words, on standard error.
 //
 // Proved: it is safe and ends, whatever the file holds. What it prints is the answer of `query`, whose contract says what that is.
 mod areas;
@@ -10,7 +10,6 @@ mod table;
 
 use air::Air;
 use answer::Answered;
-use libc::STDOUT_FILENO;
 use scene::Settings;
 use vector::Vec3;
 ghost use Prim.Native.Nat.{_*_, _≤_};
@@ -357,7 +356,17 @@ fn ask(
 
 // ---- a text
 
-// The packet to a file, if one is named.
+// Empties a file, or makes it; whether it could.
+fn emptied(path: &[u8]) -> bool {
+    let file = os::open_overwrite(path);
+    if file < 0 {
+        return false;
+    }
+    libc::close(file);
+    true
+}
+
+// The packet to a file, if one is named. One that is cut short is taken back.
 fn save(path: &[u8], packet: &[u8]) {
     if path.len() == 0 {
         return;
@@ -367,10 +376,14 @@ fn save(path: &[u8], packet: &[u8]) {
         os::fail(path);
         return;
     }
-    if io::write_all(file, packet) {} else {
+    let whole = io::write_all(file, packet);
+    if !whole {
         os::fail(path);
     }
     libc::close(file);
+    if !whole {
+        emptied(path);
+    }
 }
 
 // What is said of an answer: the refusal, or the table; the packet goes to the file.
@@ -461,6 +474,12 @@ fn room() -> [u8; 262_145] {
     [0u8; 262_145]
 }
 
+// Whether a file that gave no bytes cannot be read, as a directory.
+fn unread(file: i32) -> bool {
+    let mut byte = [0u8; 1];
+    libc::read(file, &mut byte) < 0
+}
+
 // Reads a whole file and runs it.
 fn run_file(scene: &[u8], path: &[u8]) {
     let file = os::open_read(scene);
@@ -470,15 +489,45 @@ fn run_file(scene: &[u8], path: &[u8]) {
     }
     let mut buf = room();
     let n = io::read_full(file, &mut buf);
+    if n == 0 {
+        if unread(file) {
+            os::fail(scene);
+            libc::close(file);
+            return;
+        }
+    }
     libc::close(file);
     if 262_144 < n {
-        io::write_all(STDOUT_FILENO, b"the scene is longer than 262,144 bytes\n");
+        table::say(b"the scene is longer than 262,144 bytes\n");
         return;
     }
     run(&buf[..n], path);
 }
 
-fn run_arguments() {
+// Reads a scene and writes a packet. The packet's file is emptied first, so that no failure leaves that of an earlier run.
+fn run_to_packet(scene: &[u8], path: &[u8]) {
+    if text::same(scene, path) {
+        table::say(b"the scene and the packet have the same name\n");
+        return;
+    }
+    if !emptied(path) {
+        os::fail(path);
+        return;
+    }
+    run_file(scene, path);
+}
+
+fn run_scene() {
+    let mut scene = io::buffer();
+    let n = os::arg(1, &mut scene);
+    if n == 0 {
+        table::print_usage();
+        return;
+    }
+    run_file(&scene[..n], b"");
+}
+
+fn run_both() {
     let mut scene = io::buffer();
     let n = os::arg(1, &mut scene);
     let mut path = io::buffer();
@@ -491,7 +540,7 @@ fn run_arguments() {
         table::print_usage();
         return;
     }
-    run_file(&scene[..n], &path[..m]);
+    run_to_packet(&scene[..n], &path[..m]);
 }
 
 fn main() {
@@ -500,8 +549,12 @@ fn main() {
         scene_text::run_built_in();
         return;
     }
+    if count == 2 {
+        run_scene();
+        return;
+    }
     if count == 3 {
-        run_arguments();
+        run_both();
         return;
     }
     table::print_usage();
