@@ -23,6 +23,7 @@ locked() { sed -n '/^name = "bivelondry"$/{n;s/^version = "\(.*\)"$/\1/p}' "$1";
 same bindings/rust/Cargo.toml "$(sed -n 's/^version = "\(.*\)"$/\1/p' rust/Cargo.toml)"
 same bindings/rust/Cargo.lock "$(locked rust/Cargo.lock)"
 same reference/Cargo.lock "$(locked ../reference/Cargo.lock)"
+same crates/booth/src/heading.rt "$(sed -n '/^fn print_version/{n;s/^ *print(b"\(.*\)");$/\1/p}' ../crates/booth/src/heading.rt)"
 same docs/CHANGES.md "$(sed -n 's/^This is version \([0-9.]*[0-9]\)\..*/\1/p' ../docs/CHANGES.md)"
 
 echo "-- install"

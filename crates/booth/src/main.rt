@@ -4,12 +4,16 @@
 // Proved: it is safe and ends, whatever the file holds. What it prints is the answer of `query`, whose contract says what that is.
 mod areas;
 mod forecast;
+mod heading;
 mod names;
+mod notes;
 mod scene_text;
 mod table;
 
 use air::Air;
 use answer::Answered;
+use libc::SEEK_END;
+use libc::SEEK_SET;
 use scene::Settings;
 use vector::Vec3;
 ghost use Prim.Native.Nat.{_*_, _≤_};
@@ -24,7 +28,7 @@ const MOST_CANDIDATES: u32 = 250000;
 // ---- the query
 
 // The float at k, 0 past the end.
-fn real(f: &[f32], k: usize) -> f32 {
+pub(crate) fn real(f: &[f32], k: usize) -> f32 {
     if k < f.len() { f[k] } else { 0.0 }
 }
 
@@ -82,7 +86,7 @@ fn settings_of(w: &[u32], f: &[f32]) -> Settings {
     }
 }
 
-fn point_of(f: &[f32], k: usize) -> Vec3 {
+pub(crate) fn point_of(f: &[f32], k: usize) -> Vec3 {
     if k < 1000 {
         return Vec3 {
             x: real(f, k),
@@ -266,6 +270,55 @@ fn name_walls(
     named.count
 }
 
+// How many triangles are left out, by loading the scene once more in areas of its own.
+fn print_left_out(
+    w: &[u32],
+    f: &[f32],
+    meshes: &[u32],
+    transforms: &[f32],
+    positions: &[f32],
+    indices: &[u32],
+    materials: &[f32],
+) {
+    let mut triangles = areas::fresh_triangles();
+    let mut handles = areas::fresh_handles();
+    let loaded = placing::load_scene(
+        settings_of(w, f),
+        room_of(casefile::word(w, 3)),
+        meshes,
+        transforms,
+        positions,
+        indices,
+        materials,
+        casefile::word(w, 7),
+        [
+            11776,
+            512,
+            11264,
+            4096,
+            512,
+            5632,
+            1536,
+            16384,
+            16384,
+            1536,
+            9728,
+            12288,
+            5632,
+            1537,
+            59392,
+            513,
+            6144,
+            2560,
+            9216,
+            3465,
+        ],
+        &mut triangles,
+        &mut handles,
+    );
+    notes::print_loaded(loaded);
+}
+
 // The query, and the planes where it is not refused.
 fn trace_and_name(
     out: &mut [u8],
@@ -296,17 +349,18 @@ fn trace_and_name(
         indices,
         materials,
     );
+    print_left_out(w, f, meshes, transforms, positions, indices, materials);
     Named { answer, planes }
 }
 
 // The order that the query searches to.
-fn order_of(w: &[u32], f: &[f32]) -> u32 {
+pub(crate) fn order_of(w: &[u32], f: &[f32]) -> u32 {
     let order = front::search_order(settings_of(w, f));
     if order < 9 { order as u32 } else { 0 }
 }
 
 // A count of a case, cut to what its area holds.
-fn limited(n: u32, most: usize) -> usize
+pub(crate) fn limited(n: u32, most: usize) -> usize
     ensures { λ r. ⌜ r ≤ most ⌝ }
 {
     let wide = n as usize;
@@ -316,7 +370,7 @@ fn limited(n: u32, most: usize) -> usize
     most
 }
 
-// The forecast and the query of a case that was read: the parts of its areas that it fills.
+// What stands above the table, and the query, of a case that was read: the parts of its areas that it fills.
 fn ask(
     out: &mut [u8],
     plane_floats: &mut [f32],
@@ -329,11 +383,12 @@ fn ask(
     positions: &[f32],
     indices: &[u32],
     materials: &[f32],
+    s: &[u8],
 ) -> Named
     requires { ⌜ (192 ≤ length (now meshes)) × (1024 ≤ length (now transforms)) × (6144 ≤ length (now positions)) × (1536 ≤ length (now indices)) ×
         (1024 ≤ length (now materials)) ⌝ }
 {
-    forecast::print_forecast(w);
+    heading::print_before(s, w, f, materials);
     let rows = 16 * limited(casefile::word(w, 7), 64);
     let mesh_words = 3 * limited(casefile::word(w, 8), 64);
     let mesh_floats = 16 * limited(casefile::word(w, 8), 64);
@@ -360,10 +415,19 @@ fn ask(
 fn emptied(path: &[u8]) -> bool {
     let file = os::open_overwrite(path);
     if file < 0 {
+        os::fail(path);
         return false;
     }
     libc::close(file);
     true
+}
+
+// The same of a file that may not be named.
+fn cleared(path: &[u8]) -> bool {
+    if path.len() == 0 {
+        return true;
+    }
+    emptied(path)
 }
 
 // The packet to a file, if one is named. One that is cut short is taken back.
@@ -422,6 +486,7 @@ fn report(
         r,
     );
     save(path, &out[..bytes]);
+    notes::print_notes(on, planes, r, front::list_limit(settings_of(w, f)));
 }
 
 // Reads a text, asks, and says what the answer is.
@@ -463,6 +528,7 @@ pub(crate) fn run(s: &[u8], path: &[u8]) {
         &positions,
         &indices,
         &materials,
+        s,
     );
     report(&out, &plane_floats, &plane_words, &on, named, &w, &f, path);
 }
@@ -480,11 +546,53 @@ fn unread(file: i32) -> bool {
     libc::read(file, &mut byte) < 0
 }
 
+// Whether an open file has these bytes, which are some. One without a length, as a pipe or a terminal, is not read.
+fn has_bytes(file: i32, bytes: &[u8]) -> bool {
+    if libc::lseek(file, 0, SEEK_END) < 1 {
+        return false;
+    }
+    libc::lseek(file, 0, SEEK_SET);
+    let mut buf = room();
+    let n = io::read_full(file, &mut buf);
+    text::same(&buf[..n], bytes)
+}
+
+// Whether the file that is named has the bytes of the scene, as where both names are of one file.
+fn is_scene(path: &[u8], bytes: &[u8]) -> bool {
+    if path.len() == 0 {
+        return false;
+    }
+    let file = os::open_update(path);
+    if file < 0 {
+        return false;
+    }
+    let same = has_bytes(file, bytes);
+    libc::close(file);
+    same
+}
+
+// Runs a scene's bytes. The packet's file is emptied first, so that no failure leaves the packet of an earlier run.
+fn run_bytes(bytes: &[u8], path: &[u8]) {
+    if is_scene(path, bytes) {
+        table::say(b"the packet would overwrite the scene\n");
+        return;
+    }
+    if !cleared(path) {
+        return;
+    }
+    if 262_144 < bytes.len() {
+        table::say(b"the scene is longer than 262,144 bytes\n");
+        return;
+    }
+    run(bytes, path);
+}
+
 // Reads a whole file and runs it.
 fn run_file(scene: &[u8], path: &[u8]) {
     let file = os::open_read(scene);
     if file < 0 {
         os::fail(scene);
+        cleared(path);
         return;
     }
     let mut buf = room();
@@ -493,25 +601,18 @@ fn run_file(scene: &[u8], path: &[u8]) {
         if unread(file) {
             os::fail(scene);
             libc::close(file);
+            cleared(path);
             return;
         }
     }
     libc::close(file);
-    if 262_144 < n {
-        table::say(b"the scene is longer than 262,144 bytes\n");
-        return;
-    }
-    run(&buf[..n], path);
+    run_bytes(&buf[..n], path);
 }
 
-// Reads a scene and writes a packet. The packet's file is emptied first, so that no failure leaves that of an earlier run.
-fn run_to_packet(scene: &[u8], path: &[u8]) {
+// Two names, which must not be equal.
+fn run_names(scene: &[u8], path: &[u8]) {
     if text::same(scene, path) {
         table::say(b"the scene and the packet have the same name\n");
-        return;
-    }
-    if !emptied(path) {
-        os::fail(path);
         return;
     }
     run_file(scene, path);
@@ -540,7 +641,7 @@ fn run_both() {
         table::print_usage();
         return;
     }
-    run_to_packet(&scene[..n], &path[..m]);
+    run_names(&scene[..n], &path[..m]);
 }
 
 fn main() {

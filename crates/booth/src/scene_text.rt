@@ -3,7 +3,7 @@
 // A room of twelve metres with a carpet, ceiling tiles and plaster walls, and three free panels of wood: 18 triangles.
 pub fn run_built_in() {
     crate::run(
-        b"case booth                     # 12 m long, 3 m high, 5 m wide
+        b"case built-in                  # 12 m long, 3 m high, 5 m wide
 counts 3 16 32 4096            # order, most taps, most planes, room for candidates
 floats 0.1 50 20 48000 3f7f069e 0.25 0.05
 merge 1

@@ -33,4 +33,7 @@ report-spec =
     print-table-requires
     slice-aggregate-save
     (λ c κs. tt)
+    (λ c κs. tt)
+    (λ c κs. tt)
+    (λ c κs. tt)
     (λ c. tt))
