@@ -29,7 +29,7 @@ fn print_scene(s: &[u8], order: u32, celsius: f32, rate: f32) {
     print(b" degrees, sound at ");
     print_float(scene::speed_of_sound(celsius), 2, 0);
     print(b" metres a second, ");
-    print_float(rate, 0, 0);
+    print_float(rate, 1, 0);
     print_count(b" samples a second, order ", order as u64);
     print(b".\n");
 }
