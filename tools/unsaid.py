@@ -9,7 +9,8 @@ The house rule: each public function equates what it returns and what every area
   contract   it has no `ensures` at all (it has no line under the next three kinds)
   result     no `ensures` names the result in an equation or a record: it stands nowhere, or in a bound, in its length, or before an arrow alone
   fields     the result is a struct of which some fields stand in an equation or a record, and the ones listed do not
-  area       a `&mut` parameter whose `.exit` no `ensures` mentions, or whose length alone one mentions
+  area       a `&mut` parameter whose `.exit` no `ensures` mentions, or whose length alone one mentions; `Open` (crates/order/specs/Open.antt) says that it is open
+  open       not a finding: the `&mut` parameters that an `Open` names (a record of specs/ may have more)
   requires   it asks something of its caller
   own        no other crate calls it, and C does not: it could be private
 
@@ -21,7 +22,7 @@ import sys
 sys.dont_write_bytecode = True
 from rattle_source import fields, functions, is_library, parts, sources, without_comments
 
-KINDS = 'contract', 'result', 'fields', 'area', 'requires', 'own'
+KINDS = 'contract', 'result', 'fields', 'area', 'open', 'requires', 'own'
 OPEN = re.compile(r'\b(?:not|nothing is) said\b')
 WORD = r'(?<![\w«·′-])«?{}»?(?![\w·′-])'
 
@@ -107,11 +108,20 @@ def of_result(f, structs):
             yield 'fields', f'{f.result}: {", ".join(untold)}'
 
 
+def lent(f):
+    """The `&mut` parameters."""
+    return [name for name, kind in f.parameters if re.match(r"&(?:'\w+ )?mut\b", kind)]
+
+
+def of_open(f):
+    """Those that an `Open` names."""
+    text = ' '.join(f.ensures)
+    return [name for name in lent(f) if re.search(rf'\bOpen \(now \(«?{name}»? \.entry\)\)', text)]
+
+
 def of_areas(f):
     """The `&mut` parameters of which nothing is said."""
-    for name, kind in f.parameters:
-        if not re.match(r"&(?:'\w+ )?mut\b", kind):
-            continue
+    for name in lent(f):
         leaves = re.compile(WORD.format(re.escape(name)) + r'\s*\.exit')
         before = [text[:m.start()] for _, said in ensured(f) for _, text in said for m in leaves.finditer(text)]
         if not before:
@@ -145,6 +155,8 @@ def main():
                 found[kind].append(f'{name} -> {what}{mark}')
             if areas := list(of_areas(f)):
                 found['area'].append(f'{name}: {", ".join(areas)}{mark}')
+            if areas := of_open(f):
+                found['open'].append(f'{name}: {", ".join(areas)}')
         if f.requires:
             found['requires'].append(f'{name}: {len(f.requires)} of them')
         outside, inside = callers(f, everything, texts)

@@ -1,6 +1,6 @@
 -- Storing edges: a point, an edge, and runs of edges after one another (`Appended`).
 use mathlib.Core.Path.{_≡_, refl, sym, ap, _∙_}
-use mathlib.Core.Logic.{inl}
+use mathlib.Core.Logic.{inl, inr, ⊎-elim}
 use mathlib.Core.Bool.{Bool, true, false}
 use mathlib.Core.List.{List, [], _∷_, _++_, flatMap, append-nil}
 use Prim.Native.Nat.{ℕ, zero, suc, _+_, _*_, _<_, _≤_}
@@ -44,9 +44,9 @@ edge-stored l l1 l2 k a b ea eb keep =
     let z = keep (6 * k + 2) (inl (omega arith)) in
     rw (eb, x, y, z) (ap (λ (v : Vec3). record { start = v; end = b }) ea)
 
-pub edge-before : (l l1 l2 : List Float) (k : ℕ) → Beside (6 * k) 3 l l1 → Beside (6 * k + 3) 3 l1 l2 → (i : ℕ) → i < edgeFloats * k → getD l2 i nan ≡ getD l i nan
+pub edge-beside : (l l1 l2 : List Float) (k : ℕ) → Beside (6 * k) 3 l l1 → Beside (6 * k + 3) 3 l1 l2 → Beside (edgeFloats * k) edgeFloats l l2
 unfolding Beside
-edge-before l l1 l2 k p q i h = q i (inl (omega arith)) ∙ p i (inl h)
+edge-beside l l1 l2 k p q i h = ⊎-elim (λ b. q i (inl (omega (arith, b))) ∙ p i (inl b)) (λ a. q i (inr (omega (arith, a))) ∙ p i (inr (omega (arith, a)))) h
 
 -- ---- runs of edges
 
@@ -72,11 +72,11 @@ edges-append l k (suc a) b =
 
 pub appended-none : (l : List Float) (k : ℕ) → Appended l l k k []
 unfolding edgesIn
-appended-none l k = record { count = sym (add-zero k); stored = refl; before = λ q h. refl }
+appended-none l k = record { count = sym (add-zero k); stored = refl; before = λ q h. refl; after = λ q h. refl }
 
-pub appended-one : (old new : List Float) (k : ℕ) (e : Edge) → edgeIn new k ≡ e → ((q : ℕ) → q < edgeFloats * k → getD new q nan ≡ getD old q nan) → Appended old new k (k + 1) (e ∷ [])
-unfolding edgesIn
-appended-one old new k e s b = record { count = refl; stored = ap (λ (x : Edge). x ∷ []) s; before = b }
+pub appended-one : (old new : List Float) (k : ℕ) (e : Edge) → edgeIn new k ≡ e → Beside (edgeFloats * k) edgeFloats old new → Appended old new k (k + 1) (e ∷ [])
+unfolding edgesIn Beside
+appended-one old new k e s b = record { count = refl; stored = ap (λ (x : Edge). x ∷ []) s; before = λ q h. b q (inl h); after = λ q h. b q (inr (omega (arith, h))) }
 
 pub appended-more : (l0 l1 l2 : List Float) (k r s : ℕ) (es fs : List Edge) → Appended l0 l1 k r es → Appended l1 l2 r s fs → Appended l0 l2 k s (es ++ fs)
 appended-more l0 l1 l2 k r s es fs a b =
@@ -90,6 +90,7 @@ appended-more l0 l1 l2 k r s es fs a b =
           ∙ ap (λ (x : List Edge). x ++ edgesIn l2 (k + length es) (length fs)) (edges-same l1 l2 r k (length es) (b .before) (omega arith) ∙ a .stored)
           ∙ ap (λ (i : ℕ). es ++ edgesIn l2 i (length fs)) (sym ca) ∙ ap (λ (x : List Edge). es ++ x) (b .stored);
       before = λ q h. b .before q (omega arith) ∙ a .before q h;
+      after = λ q h. b .after q h ∙ a .after q (omega arith);
     }
 
 -- three sides of a triangle

@@ -1,5 +1,5 @@
 -- Edges by number: edge 3 t + j is side j of triangle t, in its plane. What the contracts of the code cite.
-use Prim.Native.Nat.{ℕ, zero, suc, _+_, _*_, _<_}
+use Prim.Native.Nat.{ℕ, zero, suc, _+_, _*_, _<_, _≤_}
 use mathlib.Core.Path.{_≡_}
 use mathlib.Core.Bool.{Bool}
 use mathlib.Core.List.{List, [], _∷_, flatMap}
@@ -69,8 +69,9 @@ borderSides area n first uses t =
 unfoldable pub borderIn : List Float → ℕ → List ℕ → List ℕ → List ℕ → List Edge
 borderIn area n first uses is = flatMap (borderSides area n first uses) is
 
--- the edges es stand from edge number k on, up to r; those before k are as they were
+-- the edges es stand from edge number k on, up to r; what stands before k and from r on is as it was
 pub record Appended (old new : List Float) (k r : ℕ) (es : List Edge) : Type 0 where
   pub count : r ≡ k + length es
   pub stored : edgesIn new k (length es) ≡ es
   pub before : (q : ℕ) → q < edgeFloats * k → getD new q nan ≡ getD old q nan
+  pub after : (q : ℕ) → edgeFloats * r ≤ q → getD new q nan ≡ getD old q nan

@@ -6,6 +6,7 @@ ghost use lib.Ieee.{Float, nan};
 ghost use lib.ListN.{length, getD, set};
 ghost use mathlib.Core.List.{List, []};
 ghost use Rattle.columns.specs.Columns.{vecAtOf};
+ghost use Rattle.order.specs.Open.{Open};
 ghost use Rattle.order.specs.Sort.{Below};
 ghost use Rattle.faces.specs.Triples.{lesser, greater};
 ghost use Rattle.faces.specs.Numbers.{keyAt, Numbered};
@@ -31,7 +32,10 @@ pub fn edge_numbers(
     requires { ⌜ (3 * n ≤ 4294967296) × (9 * n ≤ length (now triangles)) ⌝ }
     requires { ⌜ (length (now keys) ≡ 3 * n) × (length (now «low_keys») ≡ 3 * n) × (length (now index) ≡ 3 * n) ⌝ }
     requires { ⌜ (3 * n ≤ length (now words)) × (3 * n ≤ length (now scratch)) × (3 * n ≤ length (now numbers)) ⌝ }
-    ensures { λ _. ⌜ Numbered edgeKey (now (triangles .entry)) n n (now (numbers .exit)) ⌝ }
+    ensures numbers { λ _. ⌜ Numbered edgeKey (now (triangles .entry)) n n (now (numbers .exit)) ⌝ }
+    ensures rest { λ _.
+        ⌜ Open (now (keys .entry)) (now (keys .exit)) × Open (now («low_keys» .entry)) (now («low_keys» .exit)) × Open (now (index .entry)) (now (index .exit)) ×
+        Open (now (words .entry)) (now (words .exit)) × Open (now (scratch .entry)) (now (scratch .exit)) ⌝ }
 {
     faces::corner_numbers(
         triangles,
@@ -129,6 +133,9 @@ pub fn count_edges(
     ensures { λ _.
         ⌜ ((area : List Float) (k : ℕ) → m ≤ k → Numbered edgeKey area n k (now (numbers .entry)) →
         OnceCounted area n (now (of .entry)) m (now (first .exit)) (now (uses .exit))) ⌝ }
+    ensures rest { λ _.
+        ⌜ Open (now (keys .entry)) (now (keys .exit)) × Open (now («low_keys» .entry)) (now («low_keys» .exit)) × Open (now (index .entry)) (now (index .exit)) ×
+        Open (now (words .entry)) (now (words .exit)) × Open (now (scratch .entry)) (now (scratch .exit)) ⌝ }
 {
     edge_keys(numbers, n, of, m, keys, low_keys);
     faces::first_indexes(keys, low_keys, index, words, scratch, first);
@@ -163,7 +170,7 @@ fn put_edge(triangles: &[f32], n: usize, p: usize, q: usize, plane_edges: &mut [
     requires { ⌜ (p + 2 * n < length (now triangles)) × (q + 2 * n < length (now triangles)) ⌝ }
     requires { ⌜ edgeFloats * k + edgeFloats ≤ length (now «plane_edges») ⌝ }
     ensures { λ _. ⌜ edgeIn (now («plane_edges» .exit)) k ≡ edgeAt (now (triangles .entry)) n p q ⌝ }
-    ensures { λ _. ⌜ ((i : ℕ) → i < edgeFloats * k → getD (now («plane_edges» .exit)) i nan ≡ getD (now («plane_edges» .entry)) i nan) ⌝ }
+    ensures { λ _. ⌜ Beside (edgeFloats * k) edgeFloats (now («plane_edges» .entry)) (now («plane_edges» .exit)) ⌝ }
 {
     put_point(triangles, n, p, plane_edges, 6 * k);
     put_point(triangles, n, q, plane_edges, 6 * k + 3);

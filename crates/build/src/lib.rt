@@ -5,6 +5,7 @@ use vector::Vec3;
 ghost use mathlib.Core.Path.{_≡_};
 ghost use Prim.Native.Nat.{ℕ, _+_, _-_, _*_, _^_, _<_, _≤_};
 ghost use lib.ListN.{length};
+ghost use Rattle.order.specs.Open.{Open};
 ghost use Rattle.geometry.specs.Aabb.{unionOf};
 ghost use Rattle.split.specs.Split.{aabbAtOf, centroidAtOf};
 ghost use Rattle.build.specs.Tree.{leafOf, buildSahOf};
@@ -205,10 +206,12 @@ pub fn build_sah(
     requires { ⌜ Listed (now extents) n lo hi (now «leaf_order») ⌝ }
     requires { ⌜ Sorts (now kx) (now ky) (now kz) (now extents) n (now words) (now scratch) (now areas) ⌝ }
     requires { ⌜ Room lo hi (now boxes) (now nodes) next ⌝ }
-    ensures { λ r.
+    ensures built { λ r.
         ⌜ Built (buildSahOf (aabbAtOf (now (extents .entry))) (centroidAtOf (now (extents .entry))) levels (part lo hi (now («leaf_order» .entry))))
         (levels + 1) n lo hi next r (now («leaf_order» .entry)) (now («leaf_order» .exit)) (now (boxes .entry)) (now (boxes .exit)) (now (nodes .entry))
         (now (nodes .exit)) ⌝ }
+    ensures rest { λ _.
+        ⌜ Open (now (words .entry)) (now (words .exit)) × Open (now (scratch .entry)) (now (scratch .exit)) × Open (now (areas .entry)) (now (areas .exit)) ⌝ }
 {
     let at = split_node(
         kx,

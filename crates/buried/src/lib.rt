@@ -11,6 +11,7 @@ ghost use Prim.Native.Nat.{ℕ, suc, _+_, _*_, _<_, _≤_};
 ghost use lib.Dec.{eqb};
 ghost use lib.Ieee.{neg};
 ghost use lib.ListN.{length, getD, set};
+ghost use Rattle.order.specs.Open.{Open};
 ghost use Rattle.float.specs.Literals.{one32};
 ghost use Rattle.vector.specs.Vector.{add3Of, scale3Of};
 ghost use Rattle.geometry.specs.declared.Triangle.{Triangle};
@@ -345,6 +346,8 @@ pub fn open_patches(
         openOf (probeOf tri k) (trianglesIn (now (triangles .entry)) (now (handles .entry)) n m) reach (patchesIn (now (rows .entry)) (now (of .entry)) m np))
         ⌝ }
     ensures { λ r. ⌜ (r ≤ np) × Numbered (now (of .exit)) m r ⌝ }
+    ensures rest { λ _.
+        ⌜ Open (now (areas .entry)) (now (areas .exit)) × Open (now (largest .entry)) (now (largest .exit)) × Open (now (flags .entry)) (now (flags .exit)) ⌝ }
 {
     if reach > 0.0 {} else {
         return np;

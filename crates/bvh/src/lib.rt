@@ -9,6 +9,7 @@ ghost use mathlib.Core.Bool.{true, false};
 ghost use Prim.Native.Nat.{ℕ, _+_, _*_, _<_, _≤_};
 ghost use lib.ListN.{length, getD, take};
 ghost use lib.Seq.{sets};
+ghost use Rattle.order.specs.Open.{Open};
 ghost use Rattle.order.specs.Sort.{Below};
 ghost use Rattle.vector.specs.Vector.{axisOf};
 ghost use Rattle.geometry.specs.Slab.{paddedOf};
@@ -306,10 +307,13 @@ pub fn build_flat_bvh(
 ) -> usize
     requires { ⌜ Lent (now triangles) (now handles) n (now extents) (now keys) (now «leaf_order») (now words) (now scratch) (now areas) (now boxes) (now nodes) ⌝ }
     requires { ⌜ 22 * length (now «leaf_order») ≤ length (now tree) ⌝ }
-    ensures { λ r.
+    ensures built { λ r.
         ⌜ BvhOf (now (triangles .entry)) (now (handles .entry)) n (length (now («leaf_order» .entry))) (now (boxes .exit)) (now (nodes .exit))
         (now («leaf_order» .exit)) (paddedIn (length (now («leaf_order» .entry))) (now (tree .exit)))
         (rowsIn (length (now («leaf_order» .entry))) (now (tree .exit))) r ⌝ }
+    ensures rest { λ _.
+        ⌜ Open (now (extents .entry)) (now (extents .exit)) × Open (now (keys .entry)) (now (keys .exit)) × Open (now (words .entry)) (now (words .exit)) ×
+        Open (now (scratch .entry)) (now (scratch .exit)) × Open (now (areas .entry)) (now (areas .exit)) ⌝ }
 {
     let count = build_tree(
         triangles,

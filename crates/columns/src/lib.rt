@@ -139,13 +139,3 @@ pub fn clear_u32(area: &mut [u32])
         i += 1;
     }
 }
-
-pub fn clear_u64(area: &mut [u64])
-    ensures { λ _. ⌜ now (area .exit) ≡ replicate (length (now (area .entry))) 0 ⌝ }
-{
-    let mut i = 0;
-    while i < area.len() {
-        area[i] = 0;
-        i += 1;
-    }
-}

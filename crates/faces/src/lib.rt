@@ -6,6 +6,7 @@ ghost use Prim.Native.Nat.{ℕ, _+_, _*_, _/_, _%_, _<_, _≤_};
 ghost use lib.Dec.{eqb};
 ghost use lib.Ieee.{binary32, ofFields};
 ghost use lib.ListN.{length, getD};
+ghost use Rattle.order.specs.Open.{Open};
 ghost use Rattle.order.specs.Sort.{Below};
 ghost use Rattle.order.specs.Runs.{upTo, headOr, firstAt, runStart, runStarts};
 ghost use Rattle.columns.specs.Columns.{columnCount, vecAtOf};
@@ -88,7 +89,9 @@ pub fn first_indexes(
     requires { ⌜ length (now keys) ≤ length (now words) ⌝ }
     requires { ⌜ length (now keys) ≤ length (now scratch) ⌝ }
     requires { ⌜ length (now keys) ≤ length (now first) ⌝ }
-    ensures { λ _. ⌜ ((i : ℕ) → i < length (now (keys .entry)) → getD (now (first .exit)) i 0 ≡ firstAt (keyAt (now (keys .entry)) (now («low_keys» .entry))) i) ⌝ }
+    ensures firsts { λ _. ⌜ ((i : ℕ) → i < length (now (keys .entry)) → getD (now (first .exit)) i 0 ≡ firstAt (keyAt (now (keys .entry)) (now («low_keys» .entry))) i) ⌝ }
+    ensures rest { λ _.
+        ⌜ Open (now (index .entry)) (now (index .exit)) × Open (now (words .entry)) (now (words .exit)) × Open (now (scratch .entry)) (now (scratch .exit)) ⌝ }
 {
     count_up(index);
     order::sort_by_key(low_keys, index, words, scratch);
@@ -169,7 +172,7 @@ fn face_keys(numbers: &[u32], n: usize, keys: &mut [u64], low_keys: &mut [u64])
 
 // first[i] becomes i exactly where no earlier triangle has the three corner keys of triangle i, in any order. `numbers` becomes the number
 // of each corner: the first corner with its key. Once they are known the corner keys are dead, and the face keys take their place.
-pub fn first_faces(
+fn first_faces(
     vhi: &mut [u64],
     vlo: &mut [u64],
     n: usize,
@@ -273,7 +276,7 @@ fn point_keys(
 }
 
 // The keys of all corners in steps of 1 / scale: corner c of triangle i goes to c * n + i.
-pub fn corner_keys(triangles: &[f32], n: usize, scale: f32, keys: &mut [u64], low_keys: &mut [u64])
+fn corner_keys(triangles: &[f32], n: usize, scale: f32, keys: &mut [u64], low_keys: &mut [u64])
     requires { ⌜ 9 * n ≤ length (now triangles) ⌝ }
     requires { ⌜ length (now keys) ≡ 3 * n ⌝ }
     requires { ⌜ length (now «low_keys») ≡ 3 * n ⌝ }
@@ -311,7 +314,10 @@ pub fn corner_numbers(
     requires { ⌜ 3 * n ≤ length (now words) ⌝ }
     requires { ⌜ 3 * n ≤ length (now scratch) ⌝ }
     requires { ⌜ 3 * n ≤ length (now numbers) ⌝ }
-    ensures { λ _. ⌜ Numbered (keyBy scale) (now (triangles .entry)) n n (now (numbers .exit)) ⌝ }
+    ensures numbers { λ _. ⌜ Numbered (keyBy scale) (now (triangles .entry)) n n (now (numbers .exit)) ⌝ }
+    ensures rest { λ _.
+        ⌜ Open (now (keys .entry)) (now (keys .exit)) × Open (now («low_keys» .entry)) (now («low_keys» .exit)) × Open (now (index .entry)) (now (index .exit)) ×
+        Open (now (words .entry)) (now (words .exit)) × Open (now (scratch .entry)) (now (scratch .exit)) ⌝ }
 {
     corner_keys(triangles, n, scale, keys, low_keys);
     first_indexes(keys, low_keys, index, words, scratch, numbers);
@@ -340,6 +346,9 @@ pub fn duplicates(
     requires { ⌜ n ≤ length (now first) ⌝ }
     ensures { λ _. ⌜ ((i : ℕ) → i < n → eqb (getD (now (first .exit)) i 0) i ≡ isFirst (facesIn (now (triangles .entry)) n) i) ⌝ }
     ensures { λ _. ⌜ Numbered vertexKey (now (triangles .entry)) n n (now (numbers .exit)) ⌝ }
+    ensures rest { λ _.
+        ⌜ Open (now (vhi .entry)) (now (vhi .exit)) × Open (now (vlo .entry)) (now (vlo .exit)) × Open (now (index .entry)) (now (index .exit)) ×
+        Open (now (words .entry)) (now (words .exit)) × Open (now (scratch .entry)) (now (scratch .exit)) ⌝ }
 {
     corner_keys(triangles, n, 1000.0, vhi, vlo);
     first_faces(vhi, vlo, n, index, words, scratch, numbers, first);

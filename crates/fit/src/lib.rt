@@ -12,6 +12,7 @@ ghost use Prim.Native.Nat.{ℕ, suc, _+_, _*_, _<_, _≤_};
 ghost use lib.Dec.{eqb};
 ghost use lib.ListN.{length, getD};
 ghost use lib.Ieee.{nan};
+ghost use Rattle.order.specs.Open.{Open};
 ghost use Rattle.order.specs.Sort.{Below};
 ghost use Rattle.columns.specs.Columns.{columnCount, triangleAtOf};
 ghost use Rattle.patches.specs.Triangles.{trianglesIn};
@@ -478,6 +479,9 @@ pub fn group_planes(
         ⌜ ((g : ℕ) → g < ng →
         trisOf (rowOf (now («group_floats» .exit)) (now («group_words» .exit)) g) (now («plane_triangles» .exit)) ≡ trisIn (now («plane_of» .exit)) m g) ⌝ }
     ensures { λ _. ⌜ Numbered (now («plane_of» .exit)) m ng ⌝ }
+    ensures rest { λ _.
+        ⌜ Open (now («group_of» .entry)) (now («group_of» .exit)) × Open (now (words .entry)) (now (words .exit)) × Open (now (scratch .entry)) (now (scratch .exit)) ×
+        Open (now (mstarts .entry)) (now (mstarts .exit)) ⌝ }
 {
     name_groups(queue, offsets, np, ng, group_of);
     name_planes(of, m, group_of, plane_of);

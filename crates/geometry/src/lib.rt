@@ -4,10 +4,10 @@ use vector::Ray;
 use vector::Vec3;
 ghost use mathlib.Core.Path.{_≡_};
 ghost use Rattle.geometry.specs.Aabb.{lowOf, highOf, newEmptyOf, unionOf, growOf, fromPointOf, fromCornersOf, extentOf, surfaceAreaOf};
-ghost use Rattle.geometry.specs.Slab.{padOf, paddedOf, narrowOf, axisOf, slabOf, intersectTOf};
+ghost use Rattle.geometry.specs.Slab.{padOf, paddedOf};
 ghost use Rattle.geometry.specs.Triangle.{crossOf, shapeOf, triangleAreaOf, thirdOf, centroidOf};
-ghost use Rattle.geometry.specs.Intersect.{edgesOf, parallelOf, outsideOf, withinOf, solveOf, crossingOf, intersectMaxOf};
-ghost use Rattle.geometry.specs.Contains.{dotsOf, insideOf, containsOf, containsPointOf};
+ghost use Rattle.geometry.specs.Intersect.{edgesOf, parallelOf, outsideOf, withinOf, solveOf, crossingOf};
+ghost use Rattle.geometry.specs.Contains.{dotsOf, insideOf, containsOf};
 
 const BARY_EPS: f32 = 1e-5;
 
@@ -47,7 +47,7 @@ pub struct Dots {
     pub denom: f32,
 }
 
-// A part of a ray, by its two distances.
+// A part of a ray, by its two distances: what the definition of the test of a box goes by.
 pub enum Span {
     Open(f32, f32),
     Closed,
@@ -153,7 +153,7 @@ pub fn surface_area(b: Aabb) -> f32
     2.0 * (dx * dy + dx * dz + dy * dz)
 }
 
-// ---- a ray and a box
+// ---- what a ray is tested against
 
 fn pad(low: f32, high: f32) -> f32
     ensures { λ r. ⌜ r ≡ padOf low high ⌝ }
@@ -180,66 +180,6 @@ pub fn padded(b: Aabb) -> Aabb
             z: b.max.z + z,
         },
     }
-}
-
-// The part of a span that lies between two distances.
-fn narrow(t1: f32, t2: f32, tmin: f32, tmax: f32) -> Span
-    ensures { λ r. ⌜ r ≡ narrowOf t1 t2 tmin tmax ⌝ }
-{
-    let near = float::max(tmin, float::min(t1, t2));
-    let far = float::min(tmax, float::max(t1, t2));
-    if near > far {
-        return Span::Closed;
-    }
-    Span::Open(near, far)
-}
-
-fn axis(low: f32, high: f32, o: f32, d: f32, tmin: f32, tmax: f32) -> Span
-    ensures { λ r. ⌜ r ≡ axisOf low high o d tmin tmax ⌝ }
-{
-    if float::abs(d) < 1e-20 {
-        if o < low {
-            return Span::Closed;
-        }
-        if o > high {
-            return Span::Closed;
-        }
-        return Span::Open(tmin, tmax);
-    }
-    let inv_d = 1.0 / d;
-    narrow((low - o) * inv_d, (high - o) * inv_d, tmin, tmax)
-}
-
-// The slab test against a box that is padded already.
-pub fn intersect_padded(b: Aabb, ray: Ray, t_max: f32) -> Entry
-    ensures { λ r. ⌜ r ≡ slabOf b ray «t_max» ⌝ }
-{
-    let x = axis(
-        b.min.x,
-        b.max.x,
-        ray.origin.x,
-        ray.direction.x,
-        ray.min_distance,
-        t_max,
-    );
-    let Span::Open(xa, xb) = x else {
-        return Entry::Miss;
-    };
-    let y = axis(b.min.y, b.max.y, ray.origin.y, ray.direction.y, xa, xb);
-    let Span::Open(ya, yb) = y else {
-        return Entry::Miss;
-    };
-    let z = axis(b.min.z, b.max.z, ray.origin.z, ray.direction.z, ya, yb);
-    let Span::Open(za, _) = z else {
-        return Entry::Miss;
-    };
-    Entry::At(za)
-}
-
-pub fn intersect_t(b: Aabb, ray: Ray, t_max: f32) -> Entry
-    ensures { λ r. ⌜ r ≡ intersectTOf b ray «t_max» ⌝ }
-{
-    intersect_padded(padded(b), ray, t_max)
 }
 
 // ---- triangles
@@ -370,12 +310,6 @@ pub fn intersect_edges(a: Vec3, e: Edges, ray: Ray, t_max: f32) -> Crossing
     solve(e, h, vector::sub3(ray.origin, a), 1.0 / det, ray, t_max)
 }
 
-pub fn intersect_max(t: Triangle, ray: Ray, t_max: f32) -> Crossing
-    ensures { λ r. ⌜ r ≡ intersectMaxOf t ray «t_max» ⌝ }
-{
-    intersect_edges(t.a, edges_of(t.a, t.b, t.c), ray, t_max)
-}
-
 // ---- a point and a triangle
 
 pub fn dots_of(e: Edges) -> Dots
@@ -417,11 +351,4 @@ pub fn contains(a: Vec3, e: Edges, d: Dots, p: Vec3) -> bool
         );
     }
     false
-}
-
-pub fn contains_point(t: Triangle, p: Vec3) -> bool
-    ensures { λ r. ⌜ r ≡ containsPointOf t p ⌝ }
-{
-    let e = edges_of(t.a, t.b, t.c);
-    contains(t.a, e, dots_of(e), p)
 }

@@ -10,6 +10,7 @@ ghost use lib.Ieee.{lt};
 ghost use Rattle.float.specs.Literals.{zero32};
 ghost use lib.Dec.{eqb, ltb};
 ghost use lib.ListN.{length, getD, take};
+ghost use Rattle.order.specs.Open.{Open};
 ghost use Rattle.order.specs.Sort.{sortBy, Below};
 ghost use Rattle.order.specs.Runs.{headOr, upTo};
 ghost use Rattle.columns.specs.Columns.{columnCount, triangleAtOf};
@@ -628,6 +629,10 @@ pub fn merge_patches(
     ensures { λ r.
         ⌜ ((s : Settings) → s .mergeOn ≡ on → s .mergeCos ≡ least → s .mergeOffset ≡ most → groupsIn (now (queue .exit)) (now (offsets .exit)) r ≡
         groupsOf s (trianglesIn (now (triangles .entry)) (now (handles .entry)) n m) (patchesIn (now (rows .entry)) (now (of .entry)) m np)) ⌝ }
+    ensures rest { λ _.
+        ⌜ Open (now (keys .entry)) (now (keys .exit)) × Open (now (words .entry)) (now (words .exit)) × Open (now (scratch .entry)) (now (scratch .exit)) ×
+        Open (now (tsorted .entry)) (now (tsorted .exit)) × Open (now (tstarts .entry)) (now (tstarts .exit)) × Open (now (asorted .entry)) (now (asorted .exit)) ×
+        Open (now (astarts .entry)) (now (astarts .exit)) × Open (now (order .entry)) (now (order .exit)) × Open (now (assigned .entry)) (now (assigned .exit)) ⌝ }
 {
     links::patch_rows(of, m, np as u32, words, scratch, tsorted, tstarts);
     seeds(rows, np, tsorted, tstarts, keys, words, scratch, order);

@@ -8,6 +8,7 @@ ghost use mathlib.Core.List.{[], map, foldl};
 ghost use Prim.Native.Nat.{ℕ, _+_, _*_, _<_, _≤_};
 ghost use lib.ListN.{length, getD, take};
 ghost use lib.Ieee.{Float};
+ghost use Rattle.order.specs.Open.{Open};
 ghost use Rattle.order.specs.Sort.{sortBy, keyOf, Below};
 ghost use Rattle.order.specs.Runs.{headOr, upTo};
 ghost use Rattle.geometry.specs.declared.Aabb.{Aabb};
@@ -255,9 +256,11 @@ pub fn rank_planes(
     requires { ⌜ length (now index) < 4294967296 ⌝ }
     requires { ⌜ length (now index) ≤ length (now words) ⌝ }
     requires { ⌜ length (now index) ≤ length (now scratch) ⌝ }
-    ensures { λ _.
+    ensures ranked { λ _.
         ⌜ now (index .exit) ≡ rankingOf (trianglesIn (now (triangles .entry)) (now (handles .entry)) n m)
         (planesIn (now («group_floats» .entry)) (now («group_words» .entry)) (now («plane_triangles» .entry)) [] (length (now (index .entry)))) ⌝ }
+    ensures rest { λ _.
+        ⌜ Open (now (keys .entry)) (now (keys .exit)) × Open (now (words .entry)) (now (words .exit)) × Open (now (scratch .entry)) (now (scratch .exit)) ⌝ }
 {
     let b = scene_box(triangles, handles, n, m);
     put_keys(

@@ -7,6 +7,7 @@ ghost use mathlib.Core.List.{[], _∷_, _++_, map};
 ghost use Prim.Native.Nat.{ℕ, _+_, _*_, _<_, _≤_};
 ghost use lib.Dec.{eqb};
 ghost use lib.ListN.{length, getD, take};
+ghost use Rattle.order.specs.Open.{Open};
 ghost use Rattle.order.specs.Radix.{upper};
 ghost use Rattle.order.specs.Sort.{Sorted};
 ghost use Rattle.order.specs.Runs.{anyBy, upTo};
@@ -180,6 +181,7 @@ pub fn patch_rows(
     requires { ⌜ np < length (now starts) ⌝ }
     ensures { λ _. ⌜ RowBounds np (now (sorted .exit)) (now (starts .exit)) ⌝ }
     ensures { λ _. ⌜ ((p : ℕ) → p < np → rowIn (now (sorted .exit)) (now (starts .exit)) p ≡ trisIn (now (of .entry)) m p) ⌝ }
+    ensures rest { λ _. ⌜ Open (now (words .entry)) (now (words .exit)) × Open (now (scratch .entry)) (now (scratch .exit)) ⌝ }
 {
     let k = patch_words(of, m, np, words);
     make_rows(words, k, scratch, np as usize, sorted, starts);
@@ -357,6 +359,9 @@ pub fn adjacency(
     ensures { λ _.
         ⌜ ((p : ℕ) → p < np →
         rowIn (now (sorted .exit)) (now (starts .exit)) p ≡ filterBy (isJoined (now (numbers .entry)) n vertices (now (of .entry)) m np p) (upTo np)) ⌝ }
+    ensures rest { λ _.
+        ⌜ Open (now (words .entry)) (now (words .exit)) × Open (now (scratch .entry)) (now (scratch .exit)) × Open (now (vsorted .entry)) (now (vsorted .exit)) ×
+        Open (now (vstarts .entry)) (now (vstarts .exit)) ⌝ }
 {
     let k = vertex_words(numbers, n, of, m, np, words);
     make_rows(words, k, scratch, vertices, vsorted, vstarts);

@@ -189,7 +189,7 @@ fn line_end(text: &[u8]) -> usize
 }
 
 // Three decimals on one line with one space between them; every other text is refused.
-pub fn read_request(text: &[u8]) -> Request
+fn read_request(text: &[u8]) -> Request
     ensures { λ r. ⌜ r ≡ request.requestOf (now (text .entry)) ⌝ }
 {
     if text.len() > TEXT {

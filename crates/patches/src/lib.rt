@@ -10,6 +10,7 @@ ghost use mathlib.Core.List.{List, [], _∷_, map, flatMap};
 ghost use Prim.Native.Nat.{ℕ, suc, _+_, _-_, _*_, _<_, _≤_};
 ghost use lib.Dec.{eqb};
 ghost use lib.ListN.{length, getD, set};
+ghost use Rattle.order.specs.Open.{Open};
 ghost use Rattle.geometry.specs.declared.Triangle.{Triangle};
 ghost use Rattle.columns.specs.Columns.{columnCount, triangleAtOf};
 ghost use Rattle.faces.specs.Key.{stepOf, sameKey};
@@ -74,7 +75,7 @@ pub fn canonical(n: Vec3) -> Vec3
 }
 
 // A triangle's offset along its canonical normal.
-pub fn offset_of(t: Triangle) -> f32
+fn offset_of(t: Triangle) -> f32
     ensures { λ r. ⌜ r ≡ offsetOf t ⌝ }
 {
     let d = vector::dot3(t.normal, t.a);
@@ -490,6 +491,8 @@ pub fn coplanar_patches(
     ensures { λ r. ⌜ patchesIn (now (rows .exit)) (now (of .exit)) m r ≡ patchesOf (trianglesIn (now (triangles .entry)) (now (handles .entry)) n m) ⌝ }
     ensures { λ r. ⌜ (r ≤ m) × Numbered (now (of .exit)) m r ⌝ }
     ensures { λ r. ⌜ ((i : ℕ) → i < m → eqb (getD (now (first .entry)) i 0) i ≡ false → getD (now (of .exit)) i noneOf ≡ noneOf) ⌝ }
+    ensures rest { λ _.
+        ⌜ Open (now (cells .entry)) (now (cells .exit)) × Open (now (heads .entry)) (now (heads .exit)) × Open (now (next .entry)) (now (next .exit)) ⌝ }
 {
     columns::clear_u32(heads);
     let mut np = 0;

@@ -6,6 +6,7 @@ ghost use mathlib.Core.Path.{_≡_};
 ghost use Prim.Native.Nat.{ℕ, _*_, _/_, _<_, _≤_};
 ghost use lib.ListN.{length};
 ghost use mathlib.Core.List.{[]};
+ghost use Rattle.order.specs.Open.{Open};
 ghost use Rattle.geometry.specs.declared.Triangle.{Triangle};
 ghost use Rattle.build.specs.Tree.{Tree};
 ghost use Rattle.trace.specs.Trace.{Held};
@@ -208,7 +209,7 @@ fn fresh() -> [u32; SEATS]
 }
 
 // `build_planes`: the mirror planes of the m triangles, in the order of their importance; there are as many as is returned.
-// They stand in plane_floats, plane_words, plane_triangles and plane_edges (mirror's `plane_at` reads them); what the other areas then hold is not said.
+// They stand in plane_floats, plane_words, plane_triangles and plane_edges (mirror's `plane_at` reads them).
 pub fn build_planes(
     triangles: &[f32],
     handles: &[u32],
@@ -247,6 +248,11 @@ pub fn build_planes(
     ensures { λ r.
         ⌜ (r ≤ settings .«max_reflection_planes») ×
         PlanesHeld (now («plane_floats» .exit)) (now («plane_words» .exit)) (now («plane_triangles» .exit)) (now («plane_edges» .exit)) m r ⌝ }
+    ensures rest { λ _.
+        ⌜ Open (now (keys .entry)) (now (keys .exit)) × Open (now («low_keys» .entry)) (now («low_keys» .exit)) × Open (now (words .entry)) (now (words .exit)) ×
+        Open (now (scratch .entry)) (now (scratch .exit)) × Open (now (index .entry)) (now (index .exit)) × Open (now (numbers .entry)) (now (numbers .exit)) ×
+        Open (now (adjacency .entry)) (now (adjacency .exit)) × Open (now (queue .entry)) (now (queue .exit)) × Open (now (offsets .entry)) (now (offsets .exit)) ×
+        Open (now (floats .entry)) (now (floats .exit)) ⌝ }
 {
     let mut first = fresh();
     let mut next = fresh();

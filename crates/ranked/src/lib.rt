@@ -6,6 +6,7 @@ ghost use lib.ListN.{length, getD, take};
 ghost use mathlib.Core.List.{[], map};
 ghost use Rattle.patches.specs.Triangles.{trianglesIn};
 ghost use Rattle.ranked.specs.Areas.{TrianglesLent, EdgesRoom, GroupPlanes, withEdges, borderedIn, RankedLent, RankedRoom};
+ghost use Rattle.order.specs.Open.{Open};
 ghost use Rattle.order.specs.Sort.{Below};
 ghost use Rattle.mirror.specs.Rows.{edgeFloats, trisOf, planeIn, planesIn, PlanesHeld};
 ghost use Rattle.importance.specs.Importance.{rankedOf};
@@ -181,6 +182,10 @@ pub fn ranked_planes(
         (let ts = trianglesIn (now (triangles .entry)) (now (handles .entry)) n m in map (borderedOf ts)
         (rankedOf ts most (planesIn (now («group_floats» .entry)) (now («group_words» .entry)) (now («plane_triangles» .entry)) [] ng))) ⌝ }
     ensures { λ r. ⌜ (r ≤ most) × PlanesHeld (now («plane_floats» .exit)) (now («plane_words» .exit)) (now («plane_triangles» .entry)) (now («plane_edges» .exit)) m r ⌝ }
+    ensures rest { λ _.
+        ⌜ Open (now (keys .entry)) (now (keys .exit)) × Open (now («low_keys» .entry)) (now («low_keys» .exit)) × Open (now (index .entry)) (now (index .exit)) ×
+        Open (now (words .entry)) (now (words .exit)) × Open (now (scratch .entry)) (now (scratch .exit)) × Open (now (numbers .entry)) (now (numbers .exit)) ×
+        Open (now (queue .entry)) (now (queue .exit)) × Open (now (offsets .entry)) (now (offsets .exit)) × Open (now (next .entry)) (now (next .exit)) ⌝ }
 {
     importance::rank_planes(
         triangles,

@@ -3,6 +3,7 @@ ghost use mathlib.Core.Path.{_≡_};
 ghost use mathlib.Core.List.{List};
 ghost use Prim.Native.Nat.{ℕ, _≤_};
 ghost use lib.ListN.{length, take};
+ghost use Rattle.order.specs.Open.{Open};
 ghost use Rattle.scene.specs.Scene.{Scene};
 ghost use Rattle.bvh.specs.Bvh.{paddedIn, rowsIn};
 ghost use Rattle.scene_bvh.specs.SceneTree.{clearedFrom, Roomy, SceneLoaded, SceneTree};
@@ -33,10 +34,13 @@ pub fn scene_bvh(
 ) -> usize
     requires { ⌜ Roomy (now triangles) (now handles) n m (now extents) (now keys) (now «leaf_order») (now words) (now scratch) (now areas) (now boxes) (now nodes)
         (now tree) ⌝ }
-    ensures { λ r.
+    ensures stands { λ r.
         ⌜ ((s : Scene) (found : List ℕ) → SceneLoaded s (now (triangles .entry)) found n m → now (handles .entry) ≡ clearedFrom m found →
         SceneTree s (now (triangles .entry)) (now (handles .entry)) n m (paddedIn m (now (tree .exit))) (now (nodes .exit))
         (take m (now («leaf_order» .exit))) (rowsIn m (now (tree .exit))) r) ⌝ }
+    ensures rest { λ _.
+        ⌜ Open (now (extents .entry)) (now (extents .exit)) × Open (now (keys .entry)) (now (keys .exit)) × Open (now (words .entry)) (now (words .exit)) ×
+        Open (now (scratch .entry)) (now (scratch .exit)) × Open (now (areas .entry)) (now (areas .exit)) × Open (now (boxes .entry)) (now (boxes .exit)) ⌝ }
 {
     bvh::build_flat_bvh(
         triangles,

@@ -4,6 +4,7 @@ use mathlib.Core.Path.{_≡_}
 use mathlib.Core.List.{List}
 use lib.Ieee.{Float}
 use lib.ListN.{length, take}
+use Rattle.order.specs.Open.{Open}
 use Rattle.geometry.specs.declared.Triangle.{Triangle}
 use Rattle.scene.specs.declared.Settings.{Settings}
 use Rattle.scene.specs.Scene.{Scene}
@@ -55,12 +56,15 @@ pub record PlanesStand
   pub most : r ≤ st .«max_reflection_planes»
   pub held : PlanesHeld plane-floats plane-words plane-triangles plane-edges m r
 
--- the tree of the scene that was loaded, its triangles, and its planes. What stands in these areas beside them, and in the others, is open: a step serves
--- itself of areas that earlier ones are done with
+-- the tree of the scene that was loaded, its triangles, and its planes. What stands in these areas beside them is open, and so are the others (`rest`): a
+-- step serves itself of areas that earlier ones are done with
 pub record SceneBuilt
     (st : Settings) (n m : ℕ) (columns : List Float) (handles : List ℕ) (tree : List Float) (nodes leaf-order : List ℕ) (plane-floats : List Float) (plane-words plane-triangles : List ℕ)
-    (plane-edges : List Float) (r : Built)
+    (plane-edges : List Float)
+    (keys keys′ low-keys low-keys′ words words′ scratch scratch′ index index′ numbers numbers′ adjacency adjacency′ queue queue′ offsets offsets′ : List ℕ) (floats floats′ : List Float)
+    (r : Built)
     : Type 0 where
   pub tree-stands : (s : Scene) (found : List ℕ) → SceneLoaded s columns found n m → handles ≡ clearedFrom m found →
       SceneTree s columns handles n m (paddedIn m tree) nodes (take m leaf-order) (rowsIn m tree) (r .nodes)
   pub planes-stand : PlanesStand st n m columns handles plane-floats plane-words plane-triangles plane-edges (r .planes)
+  pub rest : Open keys keys′ × Open low-keys low-keys′ × Open words words′ × Open scratch scratch′ × Open index index′ × Open numbers numbers′ × Open adjacency adjacency′ × Open queue queue′ × Open offsets offsets′ × Open floats floats′

@@ -10,7 +10,7 @@ pub struct Built {
 }
 
 // Tree and planes of a loaded scene of at least one triangle, its handles made ready by `clear_from`. The tree stands in tree, nodes and leaf_order,
-// the planes in plane_floats, plane_words, plane_triangles and plane_edges; what the other areas then hold is not said. Areas of the planes serve the tree
+// the planes in plane_floats, plane_words, plane_triangles and plane_edges. Areas of the planes serve the tree
 // before: keys holds those of the three axes, plane_floats the triangles' boxes, plane_edges their surface areas, floats the boxes of the nodes.
 pub fn build_scene(
     tree: &mut [f32],
@@ -39,7 +39,10 @@ pub fn build_scene(
     requires { ⌜ PlanesReady n m (now triangles) (now handles) (now tree) (now nodes) (now «leaf_order») (now keys) (now «low_keys») (now words) (now scratch)
         (now index) (now numbers) (now adjacency) (now queue) (now offsets) (now «plane_triangles») (now «plane_words») (now «plane_floats») (now floats) (now «plane_edges») ⌝ }
     ensures { λ r. ⌜ SceneBuilt settings n m (now (triangles .entry)) (now (handles .entry)) (now (tree .exit)) (now (nodes .exit)) (now («leaf_order» .exit))
-        (now («plane_floats» .exit)) (now («plane_words» .exit)) (now («plane_triangles» .exit)) (now («plane_edges» .exit)) r ⌝ }
+        (now («plane_floats» .exit)) (now («plane_words» .exit)) (now («plane_triangles» .exit)) (now («plane_edges» .exit))
+        (now (keys .entry)) (now (keys .exit)) (now («low_keys» .entry)) (now («low_keys» .exit)) (now (words .entry)) (now (words .exit)) (now (scratch .entry)) (now (scratch .exit))
+        (now (index .entry)) (now (index .exit)) (now (numbers .entry)) (now (numbers .exit)) (now (adjacency .entry)) (now (adjacency .exit))
+        (now (queue .entry)) (now (queue .exit)) (now (offsets .entry)) (now (offsets .exit)) (now (floats .entry)) (now (floats .exit)) r ⌝ }
 {
     let nodes_count = scene_bvh::scene_bvh(
         triangles,

@@ -6,6 +6,7 @@ ghost use mathlib.Core.Path.{_≡_};
 ghost use Prim.Native.Nat.{ℕ, _+_, _-_, _*_, _<_, _≤_};
 ghost use lib.Ieee.{nan};
 ghost use lib.ListN.{length, getD, drop};
+ghost use Rattle.order.specs.Open.{Open};
 ghost use Rattle.order.specs.Sort.{Below};
 ghost use Rattle.vector.specs.Vector.{axisOf};
 ghost use Rattle.geometry.specs.Aabb.{fromPointOf, surfaceAreaOf};
@@ -39,7 +40,7 @@ fn aabb_at(extents: &[f32], i: usize) -> Aabb
 }
 
 // The centroid of triangle i.
-pub fn centroid_at(extents: &[f32], i: usize) -> Vec3
+fn centroid_at(extents: &[f32], i: usize) -> Vec3
     requires { ⌜ 9 * i + 9 ≤ length (now extents) ⌝ }
     ensures { λ r. ⌜ r ≡ centroidAtOf (now (extents .entry)) i ⌝ }
 {
@@ -281,9 +282,11 @@ pub fn split(
     areas: &mut [f32],
 ) -> usize
     requires { ⌜ Splits (now kx) (now ky) (now kz) (now extents) n (now part) (now words) (now scratch) (now areas) ⌝ }
-    ensures { λ r.
+    ensures divides { λ r.
         ⌜ (divided (now (part .exit)) r ≡ splitOf (aabbAtOf (now (extents .entry))) (centroidAtOf (now (extents .entry))) (now (part .entry))) ×
         Below n (now (part .exit)) × (r < length (now (part .entry))) ⌝ }
+    ensures rest { λ _.
+        ⌜ Open (now (words .entry)) (now (words .exit)) × Open (now (scratch .entry)) (now (scratch .exit)) × Open (now (areas .entry)) (now (areas .exit)) ⌝ }
 {
     let c = search_axes(kx, ky, kz, extents, n, part, words, scratch, areas);
     let at = c.at;

@@ -8,6 +8,7 @@ ghost use lib.ListN.{length, getD, drop};
 ghost use lib.Seq.{sets};
 ghost use lib.Dec.{T};
 ghost use lib.Ieee.{isNan, nan};
+ghost use Rattle.order.specs.Open.{Open};
 ghost use Rattle.packet.specs.Limits.{mostTaps, tapWords, fixedWords, areaWords};
 ghost use Rattle.packet.specs.Tap.{wordsOf, allWords};
 ghost use Rattle.packet.specs.Writer.{writeLength};
@@ -134,8 +135,7 @@ fn fresh_taps() -> [u32; 896]
     [0u32; 896]
 }
 
-// Ranks the candidates of the first n rows and writes the packet of those that are kept. What keys, index, words and scratch
-// hold afterwards is not said.
+// Ranks the candidates of the first n rows and writes the packet of those that are kept.
 pub fn write_taps(
     candidate_floats: &[f32],
     candidate_words: &[u32],
@@ -160,6 +160,9 @@ pub fn write_taps(
         ⌜ now (out .exit) ≡
         packetOf images rays (ranked speed rate limit (candidatesIn n (now («candidate_floats» .entry)) (now («candidate_words» .entry)))) ++ drop (r .bytes)
         (now (out .entry)) ⌝ }
+    ensures rest { λ _.
+        ⌜ Open (now (keys .entry)) (now (keys .exit)) × Open (now (index .entry)) (now (index .exit)) × Open (now (words .entry)) (now (words .exit)) ×
+        Open (now (scratch .entry)) (now (scratch .exit)) ⌝ }
 {
     let mut kept = fresh_positions();
     let mut taps = fresh_taps();

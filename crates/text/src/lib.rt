@@ -187,7 +187,7 @@ fn negated(x: Number) -> Number
 }
 
 // A decimal: a minus or none, one to seven digits, among them a point or none with a digit on each side.
-pub fn decimal(word: &[u8]) -> Number
+fn decimal(word: &[u8]) -> Number
     ensures { λ r. ⌜ r ≡ numbers.decimalOf (now (word .entry)) ⌝ }
 {
     if word.len() == 0 {

@@ -43,7 +43,7 @@ returns-3 c = let a = c .before .before .before .before .before .before .before 
     ∙ ap (λ (l : ℕ). ended (speedOf (st .«temperature_celsius»)) (st .«sample_rate») l w) (c .before .before .before .before .before .before .before .before .before .before .before .before .before .before .before .before .before .list-limit .ensures)
     ∙ by-none (a .refusal) q (c .before .before .before .before .before .before .before .before .before .before .before .before .before .before .before .before .before .before .before .if1 .left)
     in
-    let s = sent-answer (f .images) (f .rays) (ranked (v .result) (st .«sample_rate») limit cs) (t .result .count) (t .result .bytes) (a .out .now) (t .last .1 .1 .1 .1 .1 .1 .1 .1 .1 .1 .1 .1 .0) (t .ensures .0) (t .ensures .1 .0) (t .ensures .1 .1) in
+    let s = sent-answer (f .images) (f .rays) (ranked (v .result) (st .«sample_rate») limit cs) (t .result .count) (t .result .bytes) (a .out .now) (t .last .1 .1 .1 .1 .1 .1 .1 .1 .1 .1 .1 .1 .0) (t .ensures .0) (t .ensures .1 .0) (t .ensures .1 .1 .0) in
     record { answer = s .answer ∙ ap answeredOf e; output = s .output ∙ ap (λ (q : Query). outputOf q (a .out .now)) e }
 
 pub send-spec : {M : Type 1} → statement M

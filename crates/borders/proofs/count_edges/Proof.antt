@@ -24,17 +24,35 @@ count-uses-requires c κs = let a = c .before .before .before .before .before .b
     let kh = c .before .before .before .before .before .before .before .before .before .before .before .before .before .before .before .before .before .before .before .before .before .edge-keys .kept .1 .1 .1 .1 .0 in let kf = c .before .before .before .before .before .before .before .before .before .before .first-indexes .kept .1 .1 .1 .1 .1 .0 in
     let hi = c .before .before .before .before .before .before .before .before .before .before .before .before .before .before .before .before .before .before .before .before .before .edge-keys .last .1 .1 .1 .1 .0 in let lo = c .before .before .before .before .before .before .before .before .before .before .before .before .before .before .before .before .before .before .before .before .before .edge-keys .last .1 .1 .1 .1 .1 .0 in let first = c .before .before .before .before .before .before .before .before .before .before .first-indexes .last .1 .1 .1 .1 .1 .0 in
     let len : length first ≡ 3 * a .m = omega arith in
-    (omega arith, (omega arith, rw len (firsts-low (a .m) (keyAt hi lo) first len (λ e h. c .before .before .before .before .before .before .before .before .before .before .first-indexes .ensures e (omega (arith, h, kh, q))))))
+    (omega arith, (omega arith, rw len (firsts-low (a .m) (keyAt hi lo) first len (λ e h. c .before .before .before .before .before .before .before .before .before .before .first-indexes .ensures .0 e (omega (arith, h, kh, q))))))
+
+same-length : tie.Need-same-length
+same-length c = search needs
+
+same-length-2 : tie.Need-same-length-2
+same-length-2 c = search needs
+
+same-length-3 : tie.Need-same-length-3
+same-length-3 c = search needs
+
+same-length-4 : tie.Need-same-length-4
+same-length-4 c = search needs
+
+same-length-5 : tie.Need-same-length-5
+same-length-5 c = search needs
 
 returns : tie.Need-returns
 returns c = let a = c .before .before .before .before .before .before .before .before .before .before .before .before .before .before .before .before .before .before .before .before .before .before .before .before .before .before .before .before .before .before .before .before .before .before .before .before .args in let p = c .before .before .before .before .before .before .before .before .before .before .before .before .before .before .before .before .before .before .before .before .before .before .before .before .before .before .before .before .before .before .before .before .before .before .before .before .pre .0 in let o = c .before .before .before .before .before .before .before .before .before .before .before .before .before .before .before .before .before .before .before .before .before .before .before .before .before .before .before .before .before .before .before .before .before .before .before .before .pre .1 .0 in let q = c .before .before .before .before .before .before .before .before .before .before .before .before .before .before .before .before .before .before .before .before .before .before .before .before .before .before .before .before .before .before .before .before .before .before .before .before .pre .1 .1 .0 in let f = c .before .before .before .before .before .before .before .before .before .before .before .before .before .before .before .before .before .before .before .before .before .before .before .before .before .before .before .before .before .before .before .before .before .before .before .before .pre .1 .1 .1 .1 in
     let kh = c .before .before .before .before .before .before .before .before .before .before .before .before .before .before .before .before .before .before .before .before .before .before .before .before .edge-keys .kept .1 .1 .1 .1 .0 in let kf = c .before .before .before .before .before .before .before .before .before .before .before .before .before .first-indexes .kept .1 .1 .1 .1 .1 .0 in
     let hi = c .before .before .before .before .before .before .before .before .before .before .before .before .before .before .before .before .before .before .before .before .before .before .before .before .edge-keys .last .1 .1 .1 .1 .0 in let lo = c .before .before .before .before .before .before .before .before .before .before .before .before .before .before .before .before .before .before .before .before .before .before .before .before .edge-keys .last .1 .1 .1 .1 .1 .0 in let first = c .before .before .before .before .before .before .before .before .before .before .before .before .before .first-indexes .last .1 .1 .1 .1 .1 .0 in let uses = c .before .before .count-uses .last .1 .0 in
     let len : length first ≡ 3 * a .m = omega arith in
-    let firsts : (e : ℕ) → e < 3 * a .m → getD first e 0 ≡ firstAt (keyAt hi lo) e = λ e h. c .before .before .before .before .before .before .before .before .before .before .before .before .before .first-indexes .ensures e (omega (arith, h, kh, q)) in (
+    let firsts : (e : ℕ) → e < 3 * a .m → getD first e 0 ≡ firstAt (keyAt hi lo) e = λ e h. c .before .before .before .before .before .before .before .before .before .before .before .before .before .first-indexes .ensures .0 e (omega (arith, h, kh, q)) in (
       firsts-low (a .m) (keyAt hi lo) first len firsts,
-      λ area k h num. once-counted area (a .n) k (a .m) (a .numbers .now) (a .of .now) num (p .1) h (o .0) (o .1) (keyAt hi lo) first uses (c .before .before .before .before .before .before .before .before .before .before .before .before .before .before .before .before .before .before .before .before .before .before .before .before .edge-keys .ensures .1) firsts
-          (λ e l. c .before .before .count-uses .ensures e (omega (arith, l, len)) ∙ ap (countIn first e) len),
+      (
+        λ area k h num. once-counted area (a .n) k (a .m) (a .numbers .now) (a .of .now) num (p .1) h (o .0) (o .1) (keyAt hi lo) first uses (c .before .before .before .before .before .before .before .before .before .before .before .before .before .before .before .before .before .before .before .before .before .before .before .before .edge-keys .ensures .1) firsts
+            (λ e l. c .before .before .count-uses .ensures e (omega (arith, l, len)) ∙ ap (countIn first e) len),
+        (same-length c, same-length-2 c, same-length-3 c, same-length-4 c, same-length-5 c),
+      ),
     )
 
 pub count-edges-spec : {M : Type 1} → statement M
@@ -44,11 +62,11 @@ count-edges-spec =
     edge-keys-requires
     first-indexes-requires
     count-uses-requires
-    (λ c. search needs)
-    (λ c. search needs)
-    (λ c. search needs)
-    (λ c. search needs)
-    (λ c. search needs)
+    same-length
+    same-length-2
+    same-length-3
+    same-length-4
+    same-length-5
     (λ c. search needs)
     (λ c. search needs)
     returns)

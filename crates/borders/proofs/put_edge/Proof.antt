@@ -3,7 +3,7 @@ use mathlib.Core.Path.{_∙_}
 use native.Mathlib.Omega.{arith}
 use borrow.Author.Needs.{needs}
 use Rattle.columns.specs.Columns.{vecAtOf}
-use Rattle.borders.proofs.Storing.{edge-before, edge-stored}
+use Rattle.borders.proofs.Storing.{edge-beside, edge-stored}
 use Rattle.borders.specs.Uses.{edgeAt}
 use Rattle.borders.proofs.put_edge.Statement.{statement}
 use Rattle.borders.proofs.put_edge.Tie as tie
@@ -21,7 +21,7 @@ returns : tie.Need-returns
 unfolding edgeAt
 returns c = let a = c .before .before .before .before .before .before .before .before .before .before .args in let l = c .before .before .before .before .before .before .put-point .last .1 .1 .1 .0 in let m = c .before .before .put-point2 .last .1 .1 .1 .0 in (
   edge-stored (a .plane-edges .now) l m (a .k) (vecAtOf (a .triangles .now) (a .n) (a .p)) (vecAtOf (a .triangles .now) (a .n) (a .q)) (c .before .before .before .before .before .before .put-point .ensures .0) (c .before .before .put-point2 .ensures .0) (c .before .before .put-point2 .ensures .1),
-  edge-before (a .plane-edges .now) l m (a .k) (c .before .before .before .before .before .before .put-point .ensures .1) (c .before .before .put-point2 .ensures .1),
+  edge-beside (a .plane-edges .now) l m (a .k) (c .before .before .before .before .before .before .put-point .ensures .1) (c .before .before .put-point2 .ensures .1),
 )
 
 pub put-edge-spec : {M : Type 1} → statement M

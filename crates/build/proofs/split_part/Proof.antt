@@ -59,7 +59,7 @@ returns c =
     let L = c .before .before .before .before .before .before .before .before .before .before .before .before .before .before .before .before .before .before .before .before .before .pre .0 in
     let some = L .some in
     law.back-split (a .lo) (a .hi) (a .leaf-order .now) (c .before .before .before .before .before .before .before .before .split .last .1 .1 .1 .1 .1 .0) (omega arith) (L .within) (c .before .before .before .before .before .before .before .before .split .kept .1 .1 .1 .1 .1 .0)
-    (aabbAtOf (a .extents .now)) (centroidAtOf (a .extents .now)) (a .n) (c .before .before .before .before .before .before .before .before .split .result) (L .inside) (c .before .before .before .before .before .before .before .before .split .ensures .0) (c .before .before .before .before .before .before .before .before .split .ensures .1) (c .before .before .before .before .before .before .before .before .split .ensures .2)
+    (aabbAtOf (a .extents .now)) (centroidAtOf (a .extents .now)) (a .n) (c .before .before .before .before .before .before .before .before .split .result) (L .inside) (c .before .before .before .before .before .before .before .before .split .ensures .0 .0) (c .before .before .before .before .before .before .before .before .split .ensures .0 .1) (c .before .before .before .before .before .before .before .before .split .ensures .0 .2)
 
 pub split-part-spec : {M : Type 1} → statement M
 split-part-spec =

@@ -1,5 +1,5 @@
 -- `buried::open_patches` meets its contract: the passes together give the definition's (`opened-is`).
-use mathlib.Core.Path.{sym}
+use mathlib.Core.Path.{refl, sym}
 use Prim.Native.Nat.{_≤_}
 use native.Mathlib.Omega.{arith}
 use lib.ListN.{length}
@@ -14,7 +14,7 @@ use Rattle.buried.proofs.open_patches.Tie as tie
 
 returns : tie.Need-returns
 unfolding openOf
-returns c = (λ tri k h. sym (rw (c .if1 .left)), (omega arith, c .before .before .before .before .before .before .before .before .before .before .before .before .pre .1 .1 .1 .1))
+returns c = (λ tri k h. sym (rw (c .if1 .left)), ((omega arith, c .before .before .before .before .before .before .before .before .before .before .before .before .pre .1 .1 .1 .1), (refl, refl, refl)))
 
 largest-triangles-requires : tie.Need-largest-triangles-requires
 largest-triangles-requires c κs = let q = c .before .before .before .before .before .before .before .before .before .before .before .before .before .before .before .pre .1 .0 in (c .before .before .before .before .before .before .before .before .before .before .before .before .before .before .before .pre .0, ((q .0, q .1, q .2), c .before .before .before .before .before .before .before .before .before .before .before .before .before .before .before .pre .1 .1 .1 .1))
@@ -30,13 +30,22 @@ renumber-requires : tie.Need-renumber-requires
 renumber-requires c κs = let a = c .before .before .before .before .before .before .before .before .before .before .before .before .before .before .before .before .before .before .before .before .before .before .before .before .before .before .before .before .before .before .before .before .before .before .before .args in let p = c .before .before .before .before .before .before .before .before .before .before .before .before .before .before .before .before .before .before .before .before .before .before .before .before .before .before .before .before .before .before .before .before .before .before .before .pre .0 in let q = c .before .before .before .before .before .before .before .before .before .before .before .before .before .before .before .before .before .before .before .before .before .before .before .before .before .before .before .before .before .before .before .before .before .before .before .pre .1 .0 in let k = c .before .before .before .before .before .before .close-rows .kept .1 .1 .1 .0 in let l = c .before .before .before .before .before .before .before .before .before .before .before .before .before .before .before .before .before .before .before .largest-triangles .kept .1 .1 .1 .1 .1 .1 .1 .0 in
     (p .4, numbered-wider (a .of .now) (a .m) (a .np) (length (c .before .before .before .before .before .before .close-rows .last .1 .1 .1 .0)) (c .before .before .before .before .before .before .before .before .before .before .before .before .before .before .before .before .before .before .before .before .before .before .before .before .before .before .before .before .before .before .before .before .before .before .before .pre .1 .1 .1 .1) (omega arith))
 
+same-length : tie.Need-same-length
+same-length c = search needs
+
+same-length-2 : tie.Need-same-length-2
+same-length-2 c = search needs
+
+same-length-3 : tie.Need-same-length-3
+same-length-3 c = search needs
+
 returns-2 : tie.Need-returns-2
 returns-2 c = let a = c .before .before .before .before .before .before .before .before .before .before .before .before .before .before .before .before .before .before .before .before .before .before .before .before .before .before .before .before .before .before .before .before .before .before .before .before .before .before .args in let q = c .before .before .before .before .before .before .before .before .before .before .before .before .before .before .before .before .before .before .before .before .before .before .before .before .before .before .before .before .before .before .before .before .before .before .before .before .before .before .pre .1 .0 in let f = c .before .before .before .before .before .before .before .before .before .before .before .before .before .before .before .mark-open .last .1 .1 .1 .1 .1 .1 .1 .1 .1 .1 .1 .0 in let old = c .before .before .before .before .before .before .before .before .before .before .before .before .before .before .before .before .before .before .before .before .before .before .before .before .before .before .before .before .before .before .before .before .before .before .before .before .before .before .pre .1 .1 .1 .1 in
     let far : a .np ≤ noneOf = omega (arith, c .before .before .before .before .before .before .before .before .before .before .before .before .before .before .before .before .before .before .before .before .before .before .before .before .before .before .before .before .before .before .before .before .before .before .before .before .before .before .pre .0 .3, q .0) in
     let le = open-le f (a .np) in
     let er = c .before .before .before .before .before .before .before .before .before .close-rows .ensures .0 in (
       λ tri k h. opened-is (a .triangles .now) (a .handles .now) (a .n) (a .m) (a .of .now) (a .np) (c .before .before .before .before .before .before .before .before .before .before .before .before .before .before .before .before .before .before .before .before .before .before .largest-triangles .last .1 .1 .1 .1 .1 .1 .0) (c .before .before .before .before .before .before .before .before .before .before .before .before .before .before .before .before .before .before .before .before .before .before .largest-triangles .last .1 .1 .1 .1 .1 .1 .1 .0) (c .before .before .before .before .before .before .before .before .before .before .before .before .before .before .before .before .before .before .before .before .before .before .before .before .before .before .before .before .before .before .before .before .before .before .before .before .before .before .pre .0 .3) (c .before .before .before .before .before .before .before .before .before .before .before .before .before .before .before .before .before .before .before .before .before .before .largest-triangles .ensures) (probeOf tri k) (a .reach) (a .rows .now) (c .before .before .before .before .before .before .before .before .before .close-rows .last .1 .1 .0) (c .before .before .renumber .last .0) f (c .before .before .before .before .before .before .before .before .before .close-rows .last .1 .1 .1 .0) (c .before .before .before .before .before .before .before .before .before .close-rows .result) (q .0) (c .before .before .before .before .before .before .before .before .before .before .before .before .before .before .before .before .before .before .before .before .before .before .before .before .before .before .if1 .taken) (λ p g. c .before .before .before .before .before .before .before .before .before .before .before .before .before .before .before .mark-open .ensures p g tri k h) er (c .before .before .before .before .before .before .before .before .before .close-rows .ensures .1 .0) (c .before .before .before .before .before .before .before .before .before .close-rows .ensures .1 .1) old (c .before .before .renumber .ensures),
-      (omega arith, rw er (numbered-new f (a .np) far (c .before .before .before .before .before .before .before .before .before .close-rows .last .1 .1 .1 .0) (c .before .before .before .before .before .before .before .before .before .close-rows .ensures .1 .0) (a .m) (a .of .now) (c .before .before .renumber .last .0) old (c .before .before .renumber .ensures))),
+      ((omega arith, rw er (numbered-new f (a .np) far (c .before .before .before .before .before .before .before .before .before .close-rows .last .1 .1 .1 .0) (c .before .before .before .before .before .before .before .before .before .close-rows .ensures .1 .0) (a .m) (a .of .now) (c .before .before .renumber .last .0) old (c .before .before .renumber .ensures))), (same-length c, same-length-2 c, same-length-3 c)),
     )
 
 pub open-patches-spec : {M : Type 1} → statement M
@@ -48,9 +57,9 @@ open-patches-spec =
     mark-open-requires
     close-rows-requires
     renumber-requires
-    (λ c. search needs)
-    (λ c. search needs)
-    (λ c. search needs)
+    same-length
+    same-length-2
+    same-length-3
     (λ c. search needs)
     (λ c. search needs)
     returns-2)

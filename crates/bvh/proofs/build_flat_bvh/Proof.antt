@@ -36,12 +36,14 @@ same-length-8 : tie.Need-same-length-8
 same-length-8 c = c .before .before .before .before .before .before .before .before .before .before .before .before .before .before .before .before .before .build-tree .kept .1 .1 .1 .1 .1 .1 .1 .1 .1 .1 .0
 
 returns : tie.Need-returns
-returns c =
-    record {
-      built = λ f. absurd (law.nothing-built _ _ _ _ _ _ _ _ (c .before .before .before .before .before .before .before .before .before .before .before .before .before .before .before .before .before .build-tree .ensures) (c .if1 .taken) f);
-      traced = λ f. absurd (law.nothing-built _ _ _ _ _ _ _ _ (c .before .before .before .before .before .before .before .before .before .before .before .before .before .before .before .before .before .build-tree .ensures) (c .if1 .taken) f);
-      none = λ _. refl;
-    }
+returns c = (
+  record {
+    built = λ f. absurd (law.nothing-built _ _ _ _ _ _ _ _ (c .before .before .before .before .before .before .before .before .before .before .before .before .before .before .before .before .before .build-tree .ensures) (c .if1 .taken) f);
+    traced = λ f. absurd (law.nothing-built _ _ _ _ _ _ _ _ (c .before .before .before .before .before .before .before .before .before .before .before .before .before .before .before .before .before .build-tree .ensures) (c .if1 .taken) f);
+    none = λ _. refl;
+  },
+  (same-length c, same-length-2 c, same-length-4 c, same-length-5 c, same-length-6 c),
+)
 
 put-traced-requires : tie.Need-put-traced-requires
 put-traced-requires c κs =
@@ -86,13 +88,15 @@ returns-2 c =
     let q = c .before .before .before .before .before .before .before .before .before .before .before .before .before .before .before .before .before .before .before .before .before .before .before .before .before .before .before .before .before .before .before .before .before .before .before .before .before .before .before .before .before .before .before .pre .1 in
     let w = law.some-built _ _ _ _ _ _ _ _ (c .before .before .before .before .before .before .before .before .before .before .before .before .before .before .before .before .before .before .before .before .before .before .before .build-tree .ensures) (c .before .before .before .before .before .before .if1 .left) in
     let t = c .before .before .put-traced .last .1 .1 .1 .1 .1 .0 in
-    let room : 22 * m ≤ length t = let e = c .before .before .put-traced .kept .1 .1 .1 .1 .1 .0 in omega arith in
-    record {
-      built = λ _. w;
-      traced = λ _. law.traced-in (a .triangles .now) (a .handles .now) (a .n) m (c .before .before .before .before .before .before .before .before .before .before .before .before .before .before .before .before .before .before .before .before .before .before .before .build-tree .last .1 .1 .1 .1 .1 .1 .1 .1 .1 .0) (c .before .before .before .before .before .before .before .before .before .before .before .before .before .before .before .before .before .before .before .before .before .before .before .build-tree .last .1 .1 .1 .1 .1 .1 .1 .1 .1 .1 .0) (c .before .before .before .before .before .before .before .before .before .before .before .before .before .before .before .before .before .before .before .before .before .before .before .build-tree .last .1 .1 .1 .1 .1 .0) t (c .before .before .before .before .before .before .before .before .before .before .before .before .before .before .before .before .before .before .before .before .before .before .before .build-tree .result)
-          w room (c .before .before .put-traced .ensures .0) (c .before .before .put-traced .ensures .1);
-      none = λ f. c .before .before .before .before .before .before .before .before .before .before .before .before .before .before .before .before .before .before .before .before .before .before .before .build-tree .ensures .none f;
-    }
+    let room : 22 * m ≤ length t = let e = c .before .before .put-traced .kept .1 .1 .1 .1 .1 .0 in omega arith in (
+      record {
+        built = λ _. w;
+        traced = λ _. law.traced-in (a .triangles .now) (a .handles .now) (a .n) m (c .before .before .before .before .before .before .before .before .before .before .before .before .before .before .before .before .before .before .before .before .before .before .before .build-tree .last .1 .1 .1 .1 .1 .1 .1 .1 .1 .0) (c .before .before .before .before .before .before .before .before .before .before .before .before .before .before .before .before .before .before .before .before .before .before .before .build-tree .last .1 .1 .1 .1 .1 .1 .1 .1 .1 .1 .0) (c .before .before .before .before .before .before .before .before .before .before .before .before .before .before .before .before .before .before .before .before .before .before .before .build-tree .last .1 .1 .1 .1 .1 .0) t (c .before .before .before .before .before .before .before .before .before .before .before .before .before .before .before .before .before .before .before .before .before .before .before .build-tree .result)
+            w room (c .before .before .put-traced .ensures .0) (c .before .before .put-traced .ensures .1);
+        none = λ f. c .before .before .before .before .before .before .before .before .before .before .before .before .before .before .before .before .before .before .before .before .before .before .before .build-tree .ensures .none f;
+      },
+      (same-length-9 c, same-length-10 c, same-length-12 c, same-length-13 c, same-length-14 c),
+    )
 
 pub build-flat-bvh-spec : {M : Type 1} → statement M
 build-flat-bvh-spec =

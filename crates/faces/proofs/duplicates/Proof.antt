@@ -27,6 +27,15 @@ same-length c = c .before .before .before .before .before .before .before .befor
 same-length-2 : tie.Need-same-length-2
 same-length-2 c = c .before .before .before .before .before .before .before .before .before .before .before .before .before .before .first-faces .kept .1 .0 ∙ c .before .before .before .before .before .before .before .before .before .before .before .before .before .before .before .before .before .before .before .before .before .before .before .before .before .before .corner-keys .kept .1 .1 .1 .1 .0
 
+same-length-3 : tie.Need-same-length-3
+same-length-3 c = search needs
+
+same-length-4 : tie.Need-same-length-4
+same-length-4 c = search needs
+
+same-length-5 : tie.Need-same-length-5
+same-length-5 c = search needs
+
 returns : tie.Need-returns
 unfolding vertexKey
 returns c =
@@ -35,7 +44,7 @@ returns c =
     let f = c .before .before .before .before .before .before .before .before .before .before .before .before .before .before .first-faces in
     let key = keyAt (k .last .1 .1 .1 .0) (k .last .1 .1 .1 .1 .0) in (
       λ i h. first-at (g .triangles .now) (g .n) key (k .ensures .1 .0) (k .ensures .1 .1 .0) (k .ensures .1 .1 .1) i (getD (f .last .1 .1 .1 .1 .1 .1 .1 .0) i 0) h (f .ensures .1 i h),
-      numbered (g .triangles .now) (g .n) vertexStepsPerMetre key _ (k .ensures .1 .0) (k .ensures .1 .1 .0) (k .ensures .1 .1 .1) (f .ensures .0),
+      (numbered (g .triangles .now) (g .n) vertexStepsPerMetre key _ (k .ensures .1 .0) (k .ensures .1 .1 .0) (k .ensures .1 .1 .1) (f .ensures .0), (same-length c, same-length-2 c, same-length-3 c, same-length-4 c, same-length-5 c)),
     )
 
 pub duplicates-spec : {M : Type 1} → statement M
@@ -46,9 +55,9 @@ duplicates-spec =
     first-faces-requires
     same-length
     same-length-2
-    (λ c. search needs)
-    (λ c. search needs)
-    (λ c. search needs)
+    same-length-3
+    same-length-4
+    same-length-5
     (λ c. search needs)
     (λ c. search needs)
     returns)

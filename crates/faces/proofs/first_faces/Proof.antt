@@ -108,12 +108,12 @@ returns c =
     let th = room (s .args .n) (s .args .vhi .now) (f .last .1 .1 .0) (s .pre .1 .0) (f .kept .1 .1 .0) in
     let tl = room (s .args .n) (s .args .vlo .now) (f .last .1 .1 .1 .0) (s .pre .1 .1 .0) (f .kept .1 .1 .1 .0) in
     let kh = ap length th ∙ kept-length (s .args .n) (s .args .vhi .now) (f .last .1 .1 .0) (s .pre .1 .0) (f .kept .1 .1 .0) in
-    let named : (q : ℕ) → q < 3 * s .args .n → getD (g .last .1 .1 .1 .1 .1 .0) q 0 ≡ firstAt (keyAt (s .args .vhi .now) (s .args .vlo .now)) q = λ q l. g .ensures q (omega (arith, s .pre .1 .0, l)) in (
+    let named : (q : ℕ) → q < 3 * s .args .n → getD (g .last .1 .1 .1 .1 .1 .0) q 0 ≡ firstAt (keyAt (s .args .vhi .now) (s .args .vlo .now)) q = λ q l. g .ensures .0 q (omega (arith, s .pre .1 .0, l)) in (
       named,
       λ i h.
           new-is (s .args .n) (keyAt (s .args .vhi .now) (s .args .vlo .now)) (keyAt (f .last .1 .1 .0) (f .last .1 .1 .1 .0)) (g .last .1 .1 .1 .1 .1 .0) (s .pre .0)
           named (f .ensures .1) i (getD (c .before .before .before .before .before .before .before .before .first-indexes2 .last .1 .1 .1 .1 .1 .0) i 0) h
-          (c .before .before .before .before .before .before .before .before .first-indexes2 .ensures i (omega (arith, kh, h)) ∙ ap (λ (z : List ℕ). firstAt (keyAt z (take (s .args .n) (f .last .1 .1 .1 .0 ++ drop (s .args .n) (s .args .vlo .now)))) i) th ∙ ap (λ (z : List ℕ). firstAt (keyAt (f .last .1 .1 .0) z) i) tl),
+          (c .before .before .before .before .before .before .before .before .first-indexes2 .ensures .0 i (omega (arith, kh, h)) ∙ ap (λ (z : List ℕ). firstAt (keyAt z (take (s .args .n) (f .last .1 .1 .1 .0 ++ drop (s .args .n) (s .args .vlo .now)))) i) th ∙ ap (λ (z : List ℕ). firstAt (keyAt (f .last .1 .1 .0) z) i) tl),
     )
 
 pub first-faces-spec : {M : Type 1} → statement M

@@ -28,7 +28,7 @@ sort-by-key-requires-2 c κs =
       omega (arith, len, c .before .before .before .before .before .before .before .before .before .sort-by-key .kept .1 .0, c .before .before .before .before .before .before .before .before .before .sort-by-key .kept .1 .1 .0, g .pre .1 .1 .1 .0, g .pre .1 .1 .1 .1 .0),
       (
         omega (arith, len, c .before .before .before .before .before .before .before .before .before .sort-by-key .kept .1 .0, c .before .before .before .before .before .before .before .before .before .sort-by-key .kept .1 .1 .1 .0, g .pre .1 .1 .1 .0, g .pre .1 .1 .1 .1 .1 .0),
-        sorted-below (keyOf (g .args .low-keys .now)) (length (g .args .keys .now)) xs (c .before .before .before .before .before .before .before .before .before .sort-by-key .last .1 .0) (c .before .before .before .before .before .before .before .before .before .sort-by-key .ensures) (counted-below n (length (g .args .keys .now)) xs (c .before .before .before .before .before .before .before .before .before .before .before .before .before .before .before .count-up .ensures) (g .pre .1 .1 .1 .0)),
+        sorted-below (keyOf (g .args .low-keys .now)) (length (g .args .keys .now)) xs (c .before .before .before .before .before .before .before .before .before .sort-by-key .last .1 .0) (c .before .before .before .before .before .before .before .before .before .sort-by-key .ensures .0) (counted-below n (length (g .args .keys .now)) xs (c .before .before .before .before .before .before .before .before .before .before .before .before .before .before .before .count-up .ensures) (g .pre .1 .1 .1 .0)),
       ),
     )
 
@@ -42,17 +42,28 @@ mark-run-starts-requires c κs =
         g .pre .1 .1 .0,
         (
           g .pre .1 .1 .1 .1 .1 .1,
-          sorted-below (keyOf (g .args .keys .now)) (length (g .args .keys .now)) (c .before .before .before .before .before .before .before .before .before .before .before .before .before .before .before .before .before .before .sort-by-key .last .1 .0) (c .before .before .before .before .before .before .before .before .sort-by-key2 .last .1 .0) (c .before .before .before .before .before .before .before .before .sort-by-key2 .ensures)
-              (sorted-below (keyOf (g .args .low-keys .now)) (length (g .args .keys .now)) xs (c .before .before .before .before .before .before .before .before .before .before .before .before .before .before .before .before .before .before .sort-by-key .last .1 .0) (c .before .before .before .before .before .before .before .before .before .before .before .before .before .before .before .before .before .before .sort-by-key .ensures) (counted-below n (length (g .args .keys .now)) xs (c .before .before .before .before .before .before .before .before .before .before .before .before .before .before .before .before .before .before .before .before .before .before .before .before .count-up .ensures) (g .pre .1 .1 .1 .0))),
+          sorted-below (keyOf (g .args .keys .now)) (length (g .args .keys .now)) (c .before .before .before .before .before .before .before .before .before .before .before .before .before .before .before .before .before .before .sort-by-key .last .1 .0) (c .before .before .before .before .before .before .before .before .sort-by-key2 .last .1 .0) (c .before .before .before .before .before .before .before .before .sort-by-key2 .ensures .0)
+              (sorted-below (keyOf (g .args .low-keys .now)) (length (g .args .keys .now)) xs (c .before .before .before .before .before .before .before .before .before .before .before .before .before .before .before .before .before .before .sort-by-key .last .1 .0) (c .before .before .before .before .before .before .before .before .before .before .before .before .before .before .before .before .before .before .sort-by-key .ensures .0) (counted-below n (length (g .args .keys .now)) xs (c .before .before .before .before .before .before .before .before .before .before .before .before .before .before .before .before .before .before .before .before .before .before .before .before .count-up .ensures) (g .pre .1 .1 .1 .0))),
         ),
       ),
     )
 
+same-length : tie.Need-same-length
+same-length c = search needs
+
+same-length-2 : tie.Need-same-length-2
+same-length-2 c = search needs
+
+same-length-3 : tie.Need-same-length-3
+same-length-3 c = search needs
+
 returns : tie.Need-returns
 returns c =
-    let g = c .before .before .before .before .before .before .before .before .before .before .before .before .before .before .before .before .before .before .before .before .before .before .before .before .before .before .before .before .before .before .before .before .before .before .before in
-    indexes-are (g .args .keys .now) (g .args .low-keys .now) (c .before .before .before .before .before .before .before .before .before .before .before .before .before .before .before .before .before .before .before .before .before .before .before .before .before .before .before .count-up .last .0) (c .before .before .before .before .before .before .before .before .before .before .before .before .before .before .before .before .before .before .before .before .before .sort-by-key .last .1 .0) (c .before .before .before .before .before .before .before .before .before .before .before .sort-by-key2 .last .1 .0) (g .args .first .now) (c .before .before .mark-run-starts .last .1 .1 .1 .0)
-    (c .before .before .before .before .before .before .before .before .before .before .before .before .before .before .before .before .before .before .before .before .before .before .before .before .before .before .before .count-up .ensures ∙ ap upTo (g .pre .1 .1 .1 .0)) (c .before .before .before .before .before .before .before .before .before .before .before .before .before .before .before .before .before .before .before .before .before .sort-by-key .ensures) (c .before .before .before .before .before .before .before .before .before .before .before .sort-by-key2 .ensures) (c .before .before .mark-run-starts .ensures) (g .pre .1 .1 .0) (g .pre .1 .1 .1 .1 .1 .1)
+    let g = c .before .before .before .before .before .before .before .before .before .before .before .before .before .before .before .before .before .before .before .before .before .before .before .before .before .before .before .before .before .before .before .before .before .before .before in (
+      indexes-are (g .args .keys .now) (g .args .low-keys .now) (c .before .before .before .before .before .before .before .before .before .before .before .before .before .before .before .before .before .before .before .before .before .before .before .before .before .before .before .count-up .last .0) (c .before .before .before .before .before .before .before .before .before .before .before .before .before .before .before .before .before .before .before .before .before .sort-by-key .last .1 .0) (c .before .before .before .before .before .before .before .before .before .before .before .sort-by-key2 .last .1 .0) (g .args .first .now) (c .before .before .mark-run-starts .last .1 .1 .1 .0)
+          (c .before .before .before .before .before .before .before .before .before .before .before .before .before .before .before .before .before .before .before .before .before .before .before .before .before .before .before .count-up .ensures ∙ ap upTo (g .pre .1 .1 .1 .0)) (c .before .before .before .before .before .before .before .before .before .before .before .before .before .before .before .before .before .before .before .before .before .sort-by-key .ensures .0) (c .before .before .before .before .before .before .before .before .before .before .before .sort-by-key2 .ensures .0) (c .before .before .mark-run-starts .ensures) (g .pre .1 .1 .0) (g .pre .1 .1 .1 .1 .1 .1),
+      (same-length c, same-length-2 c, same-length-3 c),
+    )
 
 pub first-indexes-spec : {M : Type 1} → statement M
 first-indexes-spec =
@@ -62,8 +73,8 @@ first-indexes-spec =
     sort-by-key-requires
     sort-by-key-requires-2
     mark-run-starts-requires
-    (λ c. search needs)
-    (λ c. search needs)
-    (λ c. search needs)
+    same-length
+    same-length-2
+    same-length-3
     (λ c. search needs)
     returns)

@@ -27,7 +27,7 @@ put-planes-requires c κs =
     let p = c .before .before .before .before .before .before .before .before .before .before .before .before .before .before .before .before .before .before .before .before .before .before .before .before .before .before .before .before .before .before .before .before .before .before .before .before .before .before .before .before .before .before .before .before .before .pre in
     let r = c .before .before .before .before .before .before .before .before .before .before .before .before .before .before .before .before .patch-rows in
     let k = r .kept .1 .1 .1 .1 .1 in
-    (p .0, (p .1 .1 .0 .0, (runs-are (c .before .before .before .before .before .before .before .before .before .before .before .before .before .before .before .before .before .before .before .before .before .before .before .before .name-planes .last .1 .1 .1 .0) (r .last .1 .1 .1 .1 .1 .0) (r .last .1 .1 .1 .1 .1 .1 .0) (c .before .before .before .before .before .before .unpack .last .0) (c .before .before .before .before .before .before .before .before .before .before .before .before .before .before .before .before .before .before .before .before .before .before .before .before .before .before .before .before .before .before .before .before .before .before .before .before .before .before .before .before .before .before .before .before .before .args .m) (c .before .before .before .before .before .before .before .before .before .before .before .before .before .before .before .before .before .before .before .before .before .before .before .before .before .before .before .before .before .before .before .before .before .before .before .before .before .before .before .before .before .before .before .before .before .args .n) (c .before .before .before .before .before .before .before .before .before .before .before .before .before .before .before .before .before .before .before .before .before .before .before .before .before .before .before .before .before .before .before .before .before .before .before .before .before .before .before .before .before .before .before .before .before .args .ng) (r .ensures .0) (r .ensures .1) (c .before .before .before .before .before .before .unpack .ensures) (p .1 .0 .0) (omega (arith, p .1 .1 .1 .1 .1 .0 .1, k .1 .0)), p .1 .1 .1 .1 .1 .1)))
+    (p .0, (p .1 .1 .0 .0, (runs-are (c .before .before .before .before .before .before .before .before .before .before .before .before .before .before .before .before .before .before .before .before .before .before .before .before .name-planes .last .1 .1 .1 .0) (r .last .1 .1 .1 .1 .1 .0) (r .last .1 .1 .1 .1 .1 .1 .0) (c .before .before .before .before .before .before .unpack .last .0) (c .before .before .before .before .before .before .before .before .before .before .before .before .before .before .before .before .before .before .before .before .before .before .before .before .before .before .before .before .before .before .before .before .before .before .before .before .before .before .before .before .before .before .before .before .before .args .m) (c .before .before .before .before .before .before .before .before .before .before .before .before .before .before .before .before .before .before .before .before .before .before .before .before .before .before .before .before .before .before .before .before .before .before .before .before .before .before .before .before .before .before .before .before .before .args .n) (c .before .before .before .before .before .before .before .before .before .before .before .before .before .before .before .before .before .before .before .before .before .before .before .before .before .before .before .before .before .before .before .before .before .before .before .before .before .before .before .before .before .before .before .before .before .args .ng) (r .ensures .0) (r .ensures .1 .0) (c .before .before .before .before .before .before .unpack .ensures) (p .1 .0 .0) (omega (arith, p .1 .1 .1 .1 .1 .0 .1, k .1 .0)), p .1 .1 .1 .1 .1 .1)))
 
 same-length : tie.Need-same-length
 same-length c = c .before .before .before .before .before .before .before .before .before .before .before .before .before .before .before .before .before .before .before .before .before .before .before .before .before .before .before .before .before .before .before .before .before .before .name-groups .kept .1 .1 .1 .1 .0
@@ -66,12 +66,12 @@ returns c =
     let floats = c .before .before .before .before .put-planes .last .1 .1 .1 .1 .1 .1 .1 .1 .1 .1 .0 in
     let words = c .before .before .before .before .put-planes .last .1 .1 .1 .1 .1 .1 .1 .1 .1 .1 .1 .0 in
     let groups = c .before .before .before .before .before .before .before .before .before .before .before .before .before .before .before .before .before .before .before .before .before .before .before .before .before .before .before .before .before .before .before .before .before .before .name-groups .last .1 .1 .1 .1 .0 in
-    let runs = runs-are planes sorted mstarts members (a .m) (a .n) (a .ng) (r .ensures .0) (r .ensures .1) (c .before .before .before .before .before .before .before .before .before .before .before .unpack .ensures) (p .1 .0 .0) (omega (arith, p .1 .1 .1 .1 .1 .0 .1, k .1 .0)) in
-    let run : (g : ℕ) → g < a .ng → groupIn members mstarts g ≡ trisIn planes (a .m) g = λ g l. run-is planes sorted mstarts members (a .m) (a .ng) g (r .ensures .1) (c .before .before .before .before .before .before .before .before .before .before .before .unpack .ensures) l in (
+    let runs = runs-are planes sorted mstarts members (a .m) (a .n) (a .ng) (r .ensures .0) (r .ensures .1 .0) (c .before .before .before .before .before .before .before .before .before .before .before .unpack .ensures) (p .1 .0 .0) (omega (arith, p .1 .1 .1 .1 .1 .0 .1, k .1 .0)) in
+    let run : (g : ℕ) → g < a .ng → groupIn members mstarts g ≡ trisIn planes (a .m) g = λ g l. run-is planes sorted mstarts members (a .m) (a .ng) g (r .ensures .1 .0) (c .before .before .before .before .before .before .before .before .before .before .before .unpack .ensures) l in (
       planes-are (a .triangles .now) (a .handles .now) (a .n) (a .m) (a .rows .now) (a .of .now) (a .np) (a .queue .now) (a .offsets .now) (a .ng) groups planes members mstarts floats words (p .1 .1 .0 .0) (p .1 .1 .0 .1) (c .before .before .before .before .before .before .before .before .before .before .before .before .before .before .before .before .before .before .before .before .before .before .before .before .before .before .before .before .before .before .before .before .before .before .name-groups .ensures .0) (c .before .before .before .before .before .before .before .before .before .before .before .before .before .before .before .before .before .before .before .before .before .before .before .before .before .before .before .before .before .name-planes .ensures) runs run (c .before .before .before .before .put-planes .ensures),
       (
         planes-held (a .triangles .now) (a .handles .now) (a .n) (a .m) (a .rows .now) (a .of .now) (a .np) (a .queue .now) (a .offsets .now) (a .ng) groups planes members mstarts floats words (p .1 .1 .0 .0) (p .1 .1 .0 .1) (c .before .before .before .before .before .before .before .before .before .before .before .before .before .before .before .before .before .before .before .before .before .before .before .before .before .before .before .before .before .before .before .before .before .before .name-groups .ensures .0) (c .before .before .before .before .before .before .before .before .before .before .before .before .before .before .before .before .before .before .before .before .before .before .before .before .before .before .before .before .before .name-planes .ensures) runs run (c .before .before .before .before .put-planes .ensures) (omega (arith, p .1 .1 .1 .1 .1 .1 .0, c .before .before .before .before .put-planes .kept .1 .1 .1 .1 .1 .1 .1 .1 .1 .1 .0)) (omega (arith, p .1 .1 .1 .1 .1 .1 .1, c .before .before .before .before .put-planes .kept .1 .1 .1 .1 .1 .1 .1 .1 .1 .1 .1 .0)),
-        (tris-is (a .triangles .now) (a .handles .now) (a .n) (a .m) (a .rows .now) (a .of .now) (a .np) (a .queue .now) (a .offsets .now) (a .ng) groups planes members mstarts floats words (p .1 .1 .0 .0) (p .1 .1 .0 .1) (c .before .before .before .before .before .before .before .before .before .before .before .before .before .before .before .before .before .before .before .before .before .before .before .before .before .before .before .before .before .before .before .before .before .before .name-groups .ensures .0) (c .before .before .before .before .before .before .before .before .before .before .before .before .before .before .before .before .before .before .before .before .before .before .before .before .before .before .before .before .before .name-planes .ensures) runs run (c .before .before .before .before .put-planes .ensures), planes-numbered (a .of .now) groups planes (a .m) (a .ng) (c .before .before .before .before .before .before .before .before .before .before .before .before .before .before .before .before .before .before .before .before .before .before .before .before .before .before .before .before .before .name-planes .ensures) (c .before .before .before .before .before .before .before .before .before .before .before .before .before .before .before .before .before .before .before .before .before .before .before .before .before .before .before .before .before .before .before .before .before .before .name-groups .ensures .1)),
+        (tris-is (a .triangles .now) (a .handles .now) (a .n) (a .m) (a .rows .now) (a .of .now) (a .np) (a .queue .now) (a .offsets .now) (a .ng) groups planes members mstarts floats words (p .1 .1 .0 .0) (p .1 .1 .0 .1) (c .before .before .before .before .before .before .before .before .before .before .before .before .before .before .before .before .before .before .before .before .before .before .before .before .before .before .before .before .before .before .before .before .before .before .name-groups .ensures .0) (c .before .before .before .before .before .before .before .before .before .before .before .before .before .before .before .before .before .before .before .before .before .before .before .before .before .before .before .before .before .name-planes .ensures) runs run (c .before .before .before .before .put-planes .ensures), (planes-numbered (a .of .now) groups planes (a .m) (a .ng) (c .before .before .before .before .before .before .before .before .before .before .before .before .before .before .before .before .before .before .before .before .before .before .before .before .before .before .before .before .before .name-planes .ensures) (c .before .before .before .before .before .before .before .before .before .before .before .before .before .before .before .before .before .before .before .before .before .before .before .before .before .before .before .before .before .before .before .before .before .before .name-groups .ensures .1), (same-length c, same-length-2 c, same-length-3 c, same-length-6 c))),
       ),
     )
 

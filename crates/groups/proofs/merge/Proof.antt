@@ -50,7 +50,7 @@ grow-groups-requires c κs =
           (
             st .pre .1 .1 .1 .0 .2,
             (
-              table-is (a .np) (a .np) (a .np) (ad .last .1 .1 .1 .1 .1 .1 .1 .1 .1 .1 .0) (ad .last .1 .1 .1 .1 .1 .1 .1 .1 .1 .1 .1 .0) (isJoined (a .numbers .now) (a .n) (a .vertices) (a .of .now) (a .m) (a .np)) (ad .ensures .0) (omega (arith, ad .kept .1 .1 .1 .1 .1 .1 .1 .1 .1 .1 .1 .0, st .pre .1 .1 .1 .1 .1 .1 .1 .0 .1)) (ad .ensures .1) (omega arith),
+              table-is (a .np) (a .np) (a .np) (ad .last .1 .1 .1 .1 .1 .1 .1 .1 .1 .1 .0) (ad .last .1 .1 .1 .1 .1 .1 .1 .1 .1 .1 .1 .0) (isJoined (a .numbers .now) (a .n) (a .vertices) (a .of .now) (a .m) (a .np)) (ad .ensures .0) (omega (arith, ad .kept .1 .1 .1 .1 .1 .1 .1 .1 .1 .1 .1 .0, st .pre .1 .1 .1 .1 .1 .1 .1 .0 .1)) (ad .ensures .1 .0) (omega arith),
               (st .pre .1 .1 .1 .1 .1 .0, (rw e (queue-none (a .np) (length (a .assigned .now)) (ad .last .1 .1 .1 .1 .1 .1 .1 .1 .0 ++ drop (3 * a .m) (a .queue .now)) (w .0) (omega (arith, room, w .1))), omega (arith, ad .kept .1 .1 .1 .1 .1 .1 .1 .1 .1 .0, w .2))),
             ),
           ),
@@ -91,7 +91,7 @@ returns c =
       (
         gg .ensures .1 .0,
         λ adj same.
-            gg .ensures .1 .1 adj (rows-adjacent (a .np) (ad .last .1 .1 .1 .1 .1 .1 .1 .1 .1 .1 .0) (ad .last .1 .1 .1 .1 .1 .1 .1 .1 .1 .1 .1 .0) (isJoined (a .numbers .now) (a .n) (a .vertices) (a .of .now) (a .m) (a .np)) adj (ad .ensures .1) same)
+            gg .ensures .1 .1 adj (rows-adjacent (a .np) (ad .last .1 .1 .1 .1 .1 .1 .1 .1 .1 .1 .0) (ad .last .1 .1 .1 .1 .1 .1 .1 .1 .1 .1 .1 .0) (isJoined (a .numbers .now) (a .n) (a .vertices) (a .of .now) (a .m) (a .np)) adj (ad .ensures .1 .0) same)
             ∙ ap (groupsFrom (a .np) adj f (take (a .np) (a .order .now))) (ap (freeOf (a .np)) e ∙ free-all (a .np) (length (a .assigned .now)) (st .pre .1 .1 .1 .1 .1 .1 .1 .1 .0 .0)),
       ),
     )

@@ -1,5 +1,5 @@
 -- `groups::merge_patches` meets its contract: the rows of patches, the seeds, and the groups (`merged-is`, `alone-is`).
-use mathlib.Core.Path.{sym, _∙_}
+use mathlib.Core.Path.{refl, sym, _∙_}
 use Prim.Native.Nat.{_-_}
 use native.Mathlib.Omega.{arith}
 use lib.ListN.{take}
@@ -28,7 +28,7 @@ seeds-requires : tie.Need-seeds-requires
 seeds-requires c κs =
     let st = c .before .before .before .before .before .before .before .before .before .before .before .before .before .before .before .before .before .before .before .before .before .before .before .before .before .before .before .before .before .before .before .before .before .before .before in let tris = c .before .before .before .before .before .before .before .before .before .before .before .before .before .before .patch-rows in
     let s = st .pre .1 .0 in
-    (omega (arith, s .0, s .3), (st .pre .1 .1 .0, (table-tris (st .args .np) (st .args .m) 4096 (st .args .of .now) (tris .last .1 .1 .1 .1 .1 .0) (tris .last .1 .1 .1 .1 .1 .1 .0) (tris .ensures .0) (omega (arith, tris .kept .1 .1 .1 .1 .1 .1 .0, st .pre .1 .1 .1 .1 .1 .1 .0 .1, st .pre .1 .0 .3)) (tris .ensures .1) (s .0), (omega (arith, st .pre .1 .1 .1 .1 .1 .0 .0, s .3), (omega (arith, st .pre .1 .1 .1 .1 .1 .0 .1, s .3, tris .kept .1 .1 .1 .0), (omega (arith, st .pre .1 .1 .1 .1 .1 .0 .2, s .3, tris .kept .1 .1 .1 .1 .0), omega (arith, st .pre .1 .1 .1 .1 .1 .1 .1 .1 .0 .0, s .3)))))))
+    (omega (arith, s .0, s .3), (st .pre .1 .1 .0, (table-tris (st .args .np) (st .args .m) 4096 (st .args .of .now) (tris .last .1 .1 .1 .1 .1 .0) (tris .last .1 .1 .1 .1 .1 .1 .0) (tris .ensures .0) (omega (arith, tris .kept .1 .1 .1 .1 .1 .1 .0, st .pre .1 .1 .1 .1 .1 .1 .0 .1, st .pre .1 .0 .3)) (tris .ensures .1 .0) (s .0), (omega (arith, st .pre .1 .1 .1 .1 .1 .0 .0, s .3), (omega (arith, st .pre .1 .1 .1 .1 .1 .0 .1, s .3, tris .kept .1 .1 .1 .0), (omega (arith, st .pre .1 .1 .1 .1 .1 .0 .2, s .3, tris .kept .1 .1 .1 .1 .0), omega (arith, st .pre .1 .1 .1 .1 .1 .1 .1 .1 .0 .0, s .3)))))))
 
 merge-requires : tie.Need-merge-requires
 merge-requires c κs =
@@ -41,7 +41,7 @@ merge-requires c κs =
       (
         st .pre .1 .1 .0,
         (
-          table-tris (st .args .np) (st .args .m) (st .args .n) (st .args .of .now) (tris .last .1 .1 .1 .1 .1 .0) (tris .last .1 .1 .1 .1 .1 .1 .0) (tris .ensures .0) (omega (arith, tris .kept .1 .1 .1 .1 .1 .1 .0, st .pre .1 .1 .1 .1 .1 .1 .0 .1, st .pre .1 .0 .3)) (tris .ensures .1) (s .1),
+          table-tris (st .args .np) (st .args .m) (st .args .n) (st .args .of .now) (tris .last .1 .1 .1 .1 .1 .0) (tris .last .1 .1 .1 .1 .1 .1 .0) (tris .ensures .0) (omega (arith, tris .kept .1 .1 .1 .1 .1 .1 .0, st .pre .1 .1 .1 .1 .1 .1 .0 .1, st .pre .1 .0 .3)) (tris .ensures .1 .0) (s .1),
           (
             (s .0, s .1, omega (arith, s .0, s .3), s .2),
             (
@@ -98,11 +98,14 @@ returns c =
       mg .ensures .0,
       (
         mg .ensures .1 .0,
-        λ s eo ec em.
-            merged-is s (a .triangles .now) (a .handles .now) (a .n) (a .m) (a .rows .now) (a .of .now) (a .np) (tris .last .1 .1 .1 .1 .1 .0) (tris .last .1 .1 .1 .1 .1 .1 .0) (a .on) (a .least) (a .most) eo ec em (tris .ensures .1) (take (a .np) (sd .last .1 .1 .1 .1 .1 .1 .1 .0)) (sd .ensures)
-            (groupsIn (mg .last .1 .1 .1 .1 .1 .1 .1 .1 .1 .1 .1 .1 .1 .1 .1 .1 .1 .1 .1 .0) (mg .last .1 .1 .1 .1 .1 .1 .1 .1 .1 .1 .1 .1 .1 .1 .1 .1 .1 .1 .1 .1 .0) (mg .result)) (sym (c .before .before .before .before .before .before .before .before .before .before .before .before .before .before .before .before .before .before .before .before .before .before .before .before .before .before .is-merging .ensures) ∙ c .before .before .before .before .before .before .before .before .before .before .before .before .before .before .before .before .before .before .before .before .before .before .before .before .before .if1 .taken)
-            (mg .ensures .1 .1 (isAdjacent (runsOf (trianglesIn (a .triangles .now) (a .handles .now) (a .n) (a .m)) (patchesIn (a .rows .now) (a .of .now) (a .m) (a .np))))
-            (λ p q hp hq. joined-adjacent (a .triangles .now) (a .handles .now) (a .n) (a .m) (a .rows .now) (a .of .now) (a .np) (a .numbers .now) (a .vertices) (st .pre .1 .1 .1 .1 .0) (d .1) (s0 .2) (omega (arith, s0 .0, s0 .3)) p q)),
+        (
+          λ s eo ec em.
+              merged-is s (a .triangles .now) (a .handles .now) (a .n) (a .m) (a .rows .now) (a .of .now) (a .np) (tris .last .1 .1 .1 .1 .1 .0) (tris .last .1 .1 .1 .1 .1 .1 .0) (a .on) (a .least) (a .most) eo ec em (tris .ensures .1 .0) (take (a .np) (sd .last .1 .1 .1 .1 .1 .1 .1 .0)) (sd .ensures)
+              (groupsIn (mg .last .1 .1 .1 .1 .1 .1 .1 .1 .1 .1 .1 .1 .1 .1 .1 .1 .1 .1 .1 .0) (mg .last .1 .1 .1 .1 .1 .1 .1 .1 .1 .1 .1 .1 .1 .1 .1 .1 .1 .1 .1 .1 .0) (mg .result)) (sym (c .before .before .before .before .before .before .before .before .before .before .before .before .before .before .before .before .before .before .before .before .before .before .before .before .before .before .is-merging .ensures) ∙ c .before .before .before .before .before .before .before .before .before .before .before .before .before .before .before .before .before .before .before .before .before .before .before .before .before .if1 .taken)
+              (mg .ensures .1 .1 (isAdjacent (runsOf (trianglesIn (a .triangles .now) (a .handles .now) (a .n) (a .m)) (patchesIn (a .rows .now) (a .of .now) (a .m) (a .np))))
+              (λ p q hp hq. joined-adjacent (a .triangles .now) (a .handles .now) (a .n) (a .m) (a .rows .now) (a .of .now) (a .np) (a .numbers .now) (a .vertices) (st .pre .1 .1 .1 .1 .0) (d .1) (s0 .2) (omega (arith, s0 .0, s0 .3)) p q)),
+          (same-length c, same-length-2 c, same-length-3 c, same-length-4 c, same-length-5 c, same-length-6 c, same-length-7 c, same-length-8 c, same-length-9 c),
+        ),
       ),
     )
 
@@ -143,9 +146,12 @@ returns-2 c =
       omega arith,
       (
         c .before .before .before .before .each-alone .ensures .0,
-        λ s eo ec em.
-            alone-is s (a .triangles .now) (a .handles .now) (a .n) (a .m) (a .rows .now) (a .of .now) (a .np) (tris .last .1 .1 .1 .1 .1 .0) (tris .last .1 .1 .1 .1 .1 .1 .0) (a .on) (a .least) (a .most) eo ec em (tris .ensures .1) (take (a .np) (sd .last .1 .1 .1 .1 .1 .1 .1 .0)) (sd .ensures)
-            (groupsIn (c .before .before .before .before .each-alone .last .1 .1 .0) (c .before .before .before .before .each-alone .last .1 .1 .1 .0) (a .np)) (sym (c .before .before .before .before .before .before .before .before .before .is-merging .ensures) ∙ c .before .before .before .before .before .before .before .before .if1 .left) (c .before .before .before .before .each-alone .ensures .1),
+        (
+          λ s eo ec em.
+              alone-is s (a .triangles .now) (a .handles .now) (a .n) (a .m) (a .rows .now) (a .of .now) (a .np) (tris .last .1 .1 .1 .1 .1 .0) (tris .last .1 .1 .1 .1 .1 .1 .0) (a .on) (a .least) (a .most) eo ec em (tris .ensures .1 .0) (take (a .np) (sd .last .1 .1 .1 .1 .1 .1 .1 .0)) (sd .ensures)
+              (groupsIn (c .before .before .before .before .each-alone .last .1 .1 .0) (c .before .before .before .before .each-alone .last .1 .1 .1 .0) (a .np)) (sym (c .before .before .before .before .before .before .before .before .before .is-merging .ensures) ∙ c .before .before .before .before .before .before .before .before .if1 .left) (c .before .before .before .before .each-alone .ensures .1),
+          (same-length-12 c, same-length-13 c, same-length-14 c, same-length-15 c, same-length-16 c, refl, refl, same-length-17 c, refl),
+        ),
       ),
     )
 

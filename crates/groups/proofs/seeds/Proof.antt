@@ -37,7 +37,7 @@ same-length-4 c =
 returns : tie.Need-returns
 returns c =
     let st = c .before .before .before .before .before .before .before .before .before .before .before .before .before .before .before .before .before .before .before .before .before .before .before .before .before in let sk = c .before .before .before .before .before .before .before .before .before .before .before .before .before .before .before .seed-keys in
-    seeds-sorted (sk .last .1 .1 .1 .1 .0) (sk .last .1 .1 .1 .1 .1 .0) (c .before .before .before .before .before .before .sort-by-key .last .1 .0) (seedKeyIn (st .args .rows .now) (st .args .tsorted .now) (st .args .tstarts .now)) (st .args .np) (sk .ensures .0) (sk .ensures .1) (c .before .before .before .before .before .before .sort-by-key .ensures)
+    seeds-sorted (sk .last .1 .1 .1 .1 .0) (sk .last .1 .1 .1 .1 .1 .0) (c .before .before .before .before .before .before .sort-by-key .last .1 .0) (seedKeyIn (st .args .rows .now) (st .args .tsorted .now) (st .args .tstarts .now)) (st .args .np) (sk .ensures .0) (sk .ensures .1) (c .before .before .before .before .before .before .sort-by-key .ensures .0)
 
 pub seeds-spec : {M : Type 1} → statement M
 seeds-spec =

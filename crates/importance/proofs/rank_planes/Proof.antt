@@ -24,13 +24,22 @@ sort-by-key-requires c κs =
     let keys = k .1 _ (c .before .before .before .before .before .before .before .before .before .before .before .before .centre .ensures) (c .before .before .before .before .before .before .before .before .before .before .before .half-diag .ensures) in
     (rw (k .0, upTo-length _) (p .0), (rw (k .0, upTo-length _) (p .1), rw (k .0, keys, length-upTo _ _) (upTo-positions _)))
 
+same-length : tie.Need-same-length
+same-length c = search needs
+
+same-length-3 : tie.Need-same-length-3
+same-length-3 c = search needs
+
+same-length-4 : tie.Need-same-length-4
+same-length-4 c = search needs
+
 returns : tie.Need-returns
 returns c =
     let s = c .before .before .before .before .before .before .before .before .before .before .before .before .before .before .before .before .before .before .before .before .before .before .before .before .before .before .before .before .before .before in
     let k = c .before .before .before .before .before .before .before .before .before .before .before .before .before .before .before .put-keys .ensures in
     let box = c .before .before .before .before .before .before .before .before .before .before .before .before .before .before .before .before .before .before .before .before .scene-box .ensures in
     let keys = k .1 _ (c .before .before .before .before .before .before .before .before .before .before .before .before .before .before .before .before .before .before .before .centre .ensures ∙ ap centreOf box) (c .before .before .before .before .before .before .before .before .before .before .before .before .before .before .before .before .before .before .half-diag .ensures ∙ ap halfDiagOf box) in
-    c .before .before .before .before .before .before .sort-by-key .ensures ∙ ranking-is _ _ _ _ _ _ _ _ (s .pre .1 .1 .1 .0) _ _ keys (k .0)
+    (c .before .before .before .before .before .before .sort-by-key .ensures .0 ∙ ranking-is _ _ _ _ _ _ _ _ (s .pre .1 .1 .1 .0) _ _ keys (k .0), (same-length c, same-length-3 c, same-length-4 c))
 
 pub rank-planes-spec : {M : Type 1} → statement M
 rank-planes-spec =
@@ -41,8 +50,8 @@ rank-planes-spec =
     (λ c κs. tt)
     put-keys-requires
     sort-by-key-requires
+    same-length
     (λ c. search needs)
-    (λ c. search needs)
-    (λ c. search needs)
-    (λ c. search needs)
+    same-length-3
+    same-length-4
     returns)

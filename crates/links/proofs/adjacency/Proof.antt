@@ -39,16 +39,31 @@ make-rows-requires-2 c κs =
     let v = r .1 .1 .1 .1 .0 in
     (omega (arith, k, v, q .0, q .1 .1 .0, r .0, c .before .before .before .before .before .before .before .before .before .before .before .before .before .before .before .before .before .before .before .before .before .before .before .before .before .vertex-words .kept .1 .1 .1 .1 .1 .0, lr .kept .1 .1 .1 .0), (omega (arith, k, v, q .0, q .1 .1 .1 .0, r .1 .1 .0), (omega (arith, k, v, q .0, q .1 .1 .1 .1 .0), (omega (arith, k, v, q .0, p .1 .0), (omega (arith, p .0), q .1 .1 .1 .1 .1)))))
 
+same-length : tie.Need-same-length
+same-length c = search needs
+
+same-length-2 : tie.Need-same-length-2
+same-length-2 c = search needs
+
+same-length-3 : tie.Need-same-length-3
+same-length-3 c = search needs
+
+same-length-4 : tie.Need-same-length-4
+same-length-4 c = search needs
+
 returns : tie.Need-returns
 returns c =
     let st = c .before .before .before .before .before .before .before .before .before .before .before .before .before .before .before .before .before .before .before .before .before .before .before .before .before .before .before .before .before .before .before .before .before .before .before .before .before .before .before .before .before .before .before .before in let mr = c .before .before .before .before .before .before .before .before .before .before .before .before .before .before .before .before .before .before .before .before .before .before .before .before .before .before .before .make-rows in let vw = c .before .before .before .before .before .before .before .before .before .before .before .before .before .before .before .before .before .before .before .before .before .before .before .before .before .before .before .before .before .before .before .before .before .before .vertex-words in let lr = c .before .before .before .before .before .before .before .before .before .before .before .before .before .before .before .link-rows in
     let a = st .args in (
       c .before .before .before .before .before .before .before .before .make-rows2 .ensures .bounds,
-      λ p h.
-          c .before .before .before .before .before .before .before .before .make-rows2 .ensures .are p h
-          ∙ joined-is (a .numbers .now) (a .n) (a .of .now) (a .m) (a .np) (a .vertices) (rowIn (mr .last .1 .1 .1 .1 .0) (mr .last .1 .1 .1 .1 .1 .0)) (lr .last .1 .1 .1 .0) (lr .result) p (lr .ensures .1)
-          (λ v l. mr .ensures .are v l ∙ run-is (a .numbers .now) (a .n) (a .of .now) (a .m) (a .np) (vw .last .1 .1 .1 .1 .1 .0) (vw .result) v (vw .ensures .1))
-          ∙ joined-cut (a .numbers .now) (a .n) (a .of .now) (a .m) (a .np) (a .vertices) p (st .pre .0),
+      (
+        λ p h.
+            c .before .before .before .before .before .before .before .before .make-rows2 .ensures .are p h
+            ∙ joined-is (a .numbers .now) (a .n) (a .of .now) (a .m) (a .np) (a .vertices) (rowIn (mr .last .1 .1 .1 .1 .0) (mr .last .1 .1 .1 .1 .1 .0)) (lr .last .1 .1 .1 .0) (lr .result) p (lr .ensures .1)
+            (λ v l. mr .ensures .are v l ∙ run-is (a .numbers .now) (a .n) (a .of .now) (a .m) (a .np) (vw .last .1 .1 .1 .1 .1 .0) (vw .result) v (vw .ensures .1))
+            ∙ joined-cut (a .numbers .now) (a .n) (a .of .now) (a .m) (a .np) (a .vertices) p (st .pre .0),
+        (same-length c, same-length-2 c, same-length-3 c, same-length-4 c),
+      ),
     )
 
 pub adjacency-spec : {M : Type 1} → statement M
@@ -59,10 +74,10 @@ adjacency-spec =
     make-rows-requires
     link-rows-requires
     make-rows-requires-2
-    (λ c. search needs)
-    (λ c. search needs)
-    (λ c. search needs)
-    (λ c. search needs)
+    same-length
+    same-length-2
+    same-length-3
+    same-length-4
     (λ c. search needs)
     (λ c. search needs)
     returns)

@@ -19,10 +19,16 @@ make-rows-requires c κs =
     let k = c .before .before .before .before .before .before .patch-words .ensures .0 in
     (omega (arith, p .0, k, c .before .before .before .before .before .before .patch-words .kept .1 .1 .1 .0), (omega (arith, p .1 .0, k), (omega (arith, p .1 .1 .0, k), (omega (arith, k, st .pre .0), (omega (arith, st .pre .1 .0), p .1 .1 .1)))))
 
+same-length : tie.Need-same-length
+same-length c = search needs
+
+same-length-2 : tie.Need-same-length-2
+same-length-2 c = search needs
+
 returns : tie.Need-returns
 returns c =
     let st = c .before .before .before .before .before .before .before .before .before .before .before .before .before .before .before .before .before .before .before .before .before .before in let mr = c .before .before .before .before .before .before .before .before .make-rows in
-    (mr .ensures .bounds, λ p h. mr .ensures .are p h ∙ patch-row (st .args .of .now) (c .before .before .before .before .before .before .before .before .before .before .before .before .before .before .before .patch-words .last .1 .1 .1 .0) (c .before .before .before .before .before .before .before .before .before .before .before .before .before .before .before .patch-words .result) (st .args .m) (st .args .np) p (c .before .before .before .before .before .before .before .before .before .before .before .before .before .before .before .patch-words .ensures .1) (st .pre .0) (st .pre .1 .1 .0) h)
+    (mr .ensures .bounds, (λ p h. mr .ensures .are p h ∙ patch-row (st .args .of .now) (c .before .before .before .before .before .before .before .before .before .before .before .before .before .before .before .patch-words .last .1 .1 .1 .0) (c .before .before .before .before .before .before .before .before .before .before .before .before .before .before .before .patch-words .result) (st .args .m) (st .args .np) p (c .before .before .before .before .before .before .before .before .before .before .before .before .before .before .before .patch-words .ensures .1) (st .pre .0) (st .pre .1 .1 .0) h, (same-length c, same-length-2 c)))
 
 pub patch-rows-spec : {M : Type 1} → statement M
 patch-rows-spec =
@@ -30,8 +36,8 @@ patch-rows-spec =
     (tie.spec
     patch-words-requires
     make-rows-requires
-    (λ c. search needs)
-    (λ c. search needs)
+    same-length
+    same-length-2
     (λ c. search needs)
     (λ c. search needs)
     returns)

@@ -33,7 +33,7 @@ returns : tie.Need-returns
 returns c =
     let c6 = c .before .before .before .before .before .before in
     let c11 = c6 .before .before .before .before .before in
-    c .neighbours-differ .ensures ∙ ap noneRepeats (c6 .sort-words .ensures ∙ ap (sortBy upper) (c11 .number-keys .ensures)) ∙ sorted-keys _
+    c .neighbours-differ .ensures ∙ ap noneRepeats (c6 .sort-words .ensures .0 ∙ ap (sortBy upper) (c11 .number-keys .ensures)) ∙ sorted-keys _
 
 pub sorted-numbers-differ-spec : {M : Type 1} → statement M
 sorted-numbers-differ-spec =

@@ -54,7 +54,8 @@ same-length-5 c = c .before .loop .inv .len-of
 
 returns : tie.Need-returns Inv-loop μ-loop
 returns c = let a = c .before .before .before .before .before .before .before .before .before .before .before .before .before .before .args in let l = c .before .loop in
-    filling-all (a .triangles .now) (a .handles .now) (a .n) (a .first .now) (a .m) (a .rows .now) (a .of .now) (a .cells .now) (a .next .now) (l .rows) (l .of) (l .cells) (l .heads) (l .next) (l .t) (l .np) (l .inv) (c .loop-test .left) (c .before .before .before .before .before .before .before .before .before .before .before .before .before .before .pre .0 .2) (c .before .before .before .before .before .before .before .before .before .before .before .before .before .before .pre .1 .1)
+    let all = filling-all (a .triangles .now) (a .handles .now) (a .n) (a .first .now) (a .m) (a .rows .now) (a .of .now) (a .cells .now) (a .next .now) (l .rows) (l .of) (l .cells) (l .heads) (l .next) (l .t) (l .np) (l .inv) (c .loop-test .left) (c .before .before .before .before .before .before .before .before .before .before .before .before .before .before .pre .0 .2) (c .before .before .before .before .before .before .before .before .before .before .before .before .before .before .pre .1 .1) in
+    (all .0, (all .1 .0, (all .1 .1, (same-length c, same-length-2 c, same-length-3 c))))
 
 pub coplanar-patches-spec : {M : Type 1} → statement M
 coplanar-patches-spec =

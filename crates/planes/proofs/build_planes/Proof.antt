@@ -164,7 +164,7 @@ unfolding planesOf
 returns c = let a = c .before .before .before .before .before .before .before .before .before .before .before .before .before .before .before .before .before .before .before .before .before .before .before .before .before .before .before .before .before .before .before .before .before .before .before .before .before .before .before .before .before .before .before .before .before .before .before .before .before .before .before .before .before .before .before .before .before .before .before .before .before .before .before .before .before .before .before .before .before .before .before .before .before .before .before .before .before .before .before .before .before .before .before .before .before .before .before .before .before .before .before .before .before .before .before .before .before .before .before .before .before .before .before .before .before .before .before .before .before .before .before .before .before .before .before .before .before .before .before .before .before .before .before .before .before .before .before .before .before .before .before .before .before .args in let s = planeSettings (a .settings) in let ts = trianglesIn (a .triangles .now) (a .handles .now) (a .n) (a .m) in
     let r = c .before .before .before .before .before .before .before .before .before .before .before .before .before .before .before .before .before .before .before .before .before .before .before .ranked-planes .ensures in (
       λ tri k h. r .0 ∙ ap (λ (ps : List Plane). map (borderedOf ts) (rankedOf ts (s .most) ps)) (c .before .before .before .before .before .before .before .before .before .before .before .before .before .before .before .before .before .before .before .before .before .before .before .before .before .before .before .before .before .before .before .before .before .before .before .before .before .before .before .before .before .before .before .before .before .before .before .before .before .before .before .before .before .before .before .before .before .before .before .before .before .before .before .group-planes .ensures .0 s refl refl refl ∙ ap (groupPlanesOf s ts) (c .before .before .before .before .before .before .before .before .before .before .before .before .before .before .before .before .before .before .before .before .before .before .before .before .before .before .before .before .before .before .before .before .before .before .before .before .before .before .before .before .before .before .before .before .before .before .before .before .before .before .before .before .before .before .before .before .before .before .before .before .before .before .before .before .before .before .before .before .before .before .before .before .before .before .before .before .before .before .before .before .before .before .before .before .before .before .before .before .before .before .before .before .before .before .before .before .before .before .open-patches .ensures .0 s tri k refl h)),
-      (r .1 .0, r .1 .1),
+      (r .1 .0, (same-length c, same-length-2 c, same-length-3 c, same-length-4 c, same-length-5 c, same-length-6 c, same-length-7 c, same-length-8 c, same-length-9 c, same-length-10 c)),
     )
 
 pub build-planes-spec : {M : Type 1} → statement M

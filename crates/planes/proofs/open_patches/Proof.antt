@@ -98,7 +98,7 @@ returns : tie.Need-returns
 unfolding openPatchesOf
 returns c = let r = c .before .before .before .before .before .before .before .before .before .before .open-patches .ensures in let q = c .before .before .before .before .before .before .before .before .before .before .before .before .before .before .before .before .before .before .before .before .before .before .before .before .before .coplanar-patches in (
   λ s tri k b h. r .0 tri k h ∙ rw (← b, q .ensures .0),
-  ((le-trans (r .1 .0) (q .ensures .1 .0 .0), r .1 .1), c .before .before .before .before .before .before .before .before .before .before .before .before .before .before .before .before .before .before .before .before .before .before .before .before .before .before .before .before .before .before .before .before .before .before .before .before .before .before .before .before .before .before .before .before .before .before .duplicates .ensures .1),
+  ((le-trans (r .1 .0 .0) (q .ensures .1 .0 .0), r .1 .0 .1), c .before .before .before .before .before .before .before .before .before .before .before .before .before .before .before .before .before .before .before .before .before .before .before .before .before .before .before .before .before .before .before .before .before .before .before .before .before .before .before .before .before .before .before .before .before .before .duplicates .ensures .1 .0),
 )
 
 pub open-patches-spec : {M : Type 1} → statement M

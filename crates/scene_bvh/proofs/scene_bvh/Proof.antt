@@ -50,7 +50,7 @@ returns c =
     let a = c .before .before .before .before .before .before .before .before .before .before .before .before .before .before .before .before .before .before .before .before .before .before .before .before .before .before .before .before .before .before .before .before .before .before .before .before .before .before .before .args in
     let R = c .before .before .before .before .before .before .before .before .before .before .before .before .before .before .before .before .before .before .before .before .before .before .before .before .before .before .before .before .before .before .before .before .before .before .before .before .before .before .before .pre in
     let b = c .before .before .before .before .before .before .before .before .before .before .before .before .before .before .before .before .before .before .build-flat-bvh in
-    returned (a .triangles .now) (a .handles .now) (a .n) (a .m) (a .extents .now) (a .keys .now) (a .leaf-order .now) (a .words .now) (a .scratch .now) (a .areas .now) (a .boxes .now) (a .nodes .now) (a .tree .now) R (b .last .1 .1 .1 .1 .1 .1 .1 .1 .1 .0) (b .last .1 .1 .1 .1 .1 .1 .1 .1 .1 .1 .0) (b .last .1 .1 .1 .1 .1 .0) (b .last .1 .1 .1 .1 .1 .1 .1 .1 .1 .1 .1 .0) (b .result) (b .kept .1 .1 .1 .1 .1 .0) (b .ensures)
+    (returned (a .triangles .now) (a .handles .now) (a .n) (a .m) (a .extents .now) (a .keys .now) (a .leaf-order .now) (a .words .now) (a .scratch .now) (a .areas .now) (a .boxes .now) (a .nodes .now) (a .tree .now) R (b .last .1 .1 .1 .1 .1 .1 .1 .1 .1 .0) (b .last .1 .1 .1 .1 .1 .1 .1 .1 .1 .1 .0) (b .last .1 .1 .1 .1 .1 .0) (b .last .1 .1 .1 .1 .1 .1 .1 .1 .1 .1 .1 .0) (b .result) (b .kept .1 .1 .1 .1 .1 .0) (b .ensures .0), (same-length c, same-length-2 c, same-length-4 c, same-length-5 c, same-length-6 c, same-length-7 c))
 
 pub scene-bvh-spec : {M : Type 1} → statement M
 scene-bvh-spec =

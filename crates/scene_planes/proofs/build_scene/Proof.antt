@@ -66,7 +66,7 @@ part-build-planes-end-2 c = let h = c .before .before .before .before .before .b
 
 build-planes-requires : tie.Need-build-planes-requires
 build-planes-requires c κs = let h = c .before .before .before .before .before .before .before .before .before .before .before .before .before .before .before .before .before .before .before .before .before .before .before .before .before .before .before .before .before .before .before .before .before .before .before .before .before .before .before .before .before .before .before .before .before .before .before .before .before .before .before .before .before .before .before .before .before .before .before .before .before .before .before .before .before .before .pre in let t = h .lent in let p = h .for-planes in let a = c .before .before .before .before .before .before .before .before .before .before .before .before .before .before .before .before .before .before .before .before .before .before .before .before .before .before .before .before .before .before .before .before .before .before .before .before .before .before .before .before .before .before .before .before .before .before .before .before .before .before .before .before .before .before .before .before .before .before .before .before .before .before .before .before .before .before .args in let b = c .before .before .before .before .before .before .before .before .before .before .before .before .before .before .before .before .before .before .before .before .before .before .before .before .before .before .before .before .before .before .before .before .before .before .before .before .before .scene-bvh in
-    let w = scene-tree-from-zero (h .scene) (a .triangles .now) (a .handles .now) (a .n) (a .m) (b .last .1 .1 .1 .1 .1 .1 .1 .1 .1 .1 .1 .0) (take (a .m) (b .last .1 .1 .1 .1 .1 .1 .0)) (b .last .1 .1 .1 .1 .1 .1 .1 .1 .1 .1 .1 .1 .0) (b .result) (b .ensures (h .scene) (h .found) (h .loaded) (h .cleared)) in (
+    let w = scene-tree-from-zero (h .scene) (a .triangles .now) (a .handles .now) (a .n) (a .m) (b .last .1 .1 .1 .1 .1 .1 .1 .1 .1 .1 .1 .0) (take (a .m) (b .last .1 .1 .1 .1 .1 .1 .0)) (b .last .1 .1 .1 .1 .1 .1 .1 .1 .1 .1 .1 .1 .0) (b .result) (b .ensures .0 (h .scene) (h .found) (h .loaded) (h .cleared)) in (
       t,
       (
         (w .tree .held, w .tree .some),
@@ -143,14 +143,15 @@ same-length-17 c = let e = c .before .before .before .before .before .before .be
 returns : tie.Need-returns
 returns c = let a = c .before .before .before .before .before .before .before .before .before .before .before .before .before .before .before .before .before .before .before .before .before .before .before .before .before .before .before .before .before .before .before .before .before .before .before .before .before .before .before .before .before .before .before .before .before .before .before .before .before .before .before .before .before .before .before .before .before .before .before .before .before .before .before .before .before .before .before .before .before .before .before .before .before .before .before .before .before .before .before .before .before .before .before .before .before .before .before .before .before .before .before .before .before .before .before .args in let b = c .before .before .before .before .before .before .before .before .before .before .before .before .before .before .before .before .before .before .before .before .before .before .before .before .before .before .before .before .before .before .before .before .before .before .before .before .before .before .before .before .before .before .before .before .before .before .before .before .before .before .before .before .before .before .before .before .before .before .before .before .before .before .before .before .before .before .scene-bvh in let e = c .before .before .before .before .before .before .before .before .before .before .before .before .before .before .before .before .before .before .before .before .before .before .before .before .before .before .before .before .build-planes in
     record {
-      tree-stands = b .ensures;
+      tree-stands = b .ensures .0;
       planes-stand = record {
         are = λ s found l cleared.
-            let w = scene-tree-from-zero s (a .triangles .now) (a .handles .now) (a .n) (a .m) (b .last .1 .1 .1 .1 .1 .1 .1 .1 .1 .1 .1 .0) (take (a .m) (b .last .1 .1 .1 .1 .1 .1 .0)) (b .last .1 .1 .1 .1 .1 .1 .1 .1 .1 .1 .1 .1 .0) (b .result) (b .ensures s found l cleared) in
+            let w = scene-tree-from-zero s (a .triangles .now) (a .handles .now) (a .n) (a .m) (b .last .1 .1 .1 .1 .1 .1 .1 .1 .1 .1 .1 .0) (take (a .m) (b .last .1 .1 .1 .1 .1 .1 .0)) (b .last .1 .1 .1 .1 .1 .1 .1 .1 .1 .1 .1 .1 .0) (b .result) (b .ensures .0 s found l cleared) in
             planes-are (triangles s) (a .triangles .now) (a .handles .now) (a .n) (a .m) (s .materials) (w .triangles-read) (a .settings) (take (12 * a .m - 0) (drop 0 (b .last .1 .1 .1 .1 .1 .1 .1 .1 .1 .1 .1 .1 .0))) (b .last .1 .1 .1 .1 .1 .1 .1 .1 .1 .1 .1 .0) (take (a .m) (b .last .1 .1 .1 .1 .1 .1 .0)) (rowsIn (a .m) (b .last .1 .1 .1 .1 .1 .1 .1 .1 .1 .1 .1 .1 .0)) (b .result) (e .last .1 .1 .1 .1 .1 .1 .1 .1 .1 .1 .1 .1 .1 .1 .1 .1 .1 .1 .1 .1 .1 .0) (e .last .1 .1 .1 .1 .1 .1 .1 .1 .1 .1 .1 .1 .1 .1 .1 .1 .1 .1 .1 .1 .1 .1 .0) (e .last .1 .1 .1 .1 .1 .1 .1 .1 .1 .1 .1 .1 .1 .1 .1 .1 .1 .1 .1 .1 .0) (e .last .1 .1 .1 .1 .1 .1 .1 .1 .1 .1 .1 .1 .1 .1 .1 .1 .1 .1 .1 .1 .1 .1 .1 .0) (e .result) (w .tree) (e .ensures .0);
-        most = e .ensures .1 .0;
-        held = e .ensures .1 .1;
+        most = e .ensures .1 .0 .0;
+        held = e .ensures .1 .0 .1;
       };
+      rest = (same-length-4 c, same-length-5 c, same-length-6 c, same-length-7 c, same-length-8 c, same-length-9 c, same-length-10 c, same-length-11 c, same-length-12 c, same-length-13 c);
     }
 
 pub build-scene-spec : {M : Type 1} → statement M

@@ -24,7 +24,7 @@ returns : tie.Need-returns
 returns c =
     let a = c .before .before .before .before .before .before .before .before .before .before .before .before .before .before .before .args in
     let pre = c .before .before .before .before .before .before .before .before .before .before .before .before .before .before .before .pre in
-    let e = c .before .before .before .before .before .before .sort-by-key .ensures in (
+    let e = c .before .before .before .before .before .before .sort-by-key .ensures .0 in (
       e ∙ law.sort-same (a .n) (a .keys .now) (λ i. axisOf (centroidAtOf (a .extents .now) i) (a .axis)) (pre .1 .1 .1) (a .part .now) (pre .0),
       rw e (below-sort (keyOf (a .keys .now)) (a .n) (a .part .now) (pre .0)),
     )

@@ -27,7 +27,7 @@ returns c =
     let S = c .before .before .before .before .before .before .before .before .before .before .before .before .before .before .before .before .before .before .before .before .before .before .pre in
     let b = aabbAtOf (a .extents .now) in
     let mid = centroidAtOf (a .extents .now) in
-    (law.split-none b mid (a .part .now) (c .before .before .before .before .before .before .before .before .before .search-axes .last .1 .1 .1 .1 .1 .0) (c .before .before .before .before .before .before .before .before .before .search-axes .result) (c .before .before .before .before .before .before .before .before .before .search-axes .ensures .0) (c .if1 .taken), c .before .before .before .before .before .before .before .before .before .search-axes .ensures .1, S .some)
+    ((law.split-none b mid (a .part .now) (c .before .before .before .before .before .before .before .before .before .search-axes .last .1 .1 .1 .1 .1 .0) (c .before .before .before .before .before .before .before .before .before .search-axes .result) (c .before .before .before .before .before .before .before .before .before .search-axes .ensures .0) (c .if1 .taken), c .before .before .before .before .before .before .before .before .before .search-axes .ensures .1, S .some), (same-length-2 c, same-length-3 c, same-length-4 c))
 
 sort-by-axis-requires : tie.Need-sort-by-axis-requires
 sort-by-axis-requires c κs =
@@ -56,9 +56,12 @@ returns-2 c =
     let S = c .before .before .before .before .before .before .before .before .before .before .before .before .before .before .before .before .before .before .before .before .before .before .before .before .before .before .before .before .before .before .before .before .pre in
     let b = aabbAtOf (a .extents .now) in
     let mid = centroidAtOf (a .extents .now) in (
-      law.split-some b mid (a .part .now) (c .before .before .before .before .before .before .before .before .before .before .before .before .before .before .before .before .before .before .before .search-axes .last .1 .1 .1 .1 .1 .0) (c .before .before .before .before .before .before .before .before .before .before .before .before .before .before .before .before .before .before .before .search-axes .result) (c .before .before .before .before .before .before .before .before .before .before .before .before .before .before .before .before .before .before .before .search-axes .ensures .0) (c .before .before .before .before .before .before .sort-by-axis .last .1 .1 .1 .1 .1 .1 .0) (c .before .before .before .before .before .before .before .before .before .before .if1 .left) (c .before .before .before .before .before .before .sort-by-axis .ensures .0),
-      c .before .before .before .before .before .before .sort-by-axis .ensures .1,
-      law.found-below b mid (a .part .now) (c .before .before .before .before .before .before .before .before .before .before .before .before .before .before .before .before .before .before .before .search-axes .last .1 .1 .1 .1 .1 .0) (c .before .before .before .before .before .before .before .before .before .before .before .before .before .before .before .before .before .before .before .search-axes .result) (c .before .before .before .before .before .before .before .before .before .before .before .before .before .before .before .before .before .before .before .search-axes .ensures .0) (S .some),
+      (
+        law.split-some b mid (a .part .now) (c .before .before .before .before .before .before .before .before .before .before .before .before .before .before .before .before .before .before .before .search-axes .last .1 .1 .1 .1 .1 .0) (c .before .before .before .before .before .before .before .before .before .before .before .before .before .before .before .before .before .before .before .search-axes .result) (c .before .before .before .before .before .before .before .before .before .before .before .before .before .before .before .before .before .before .before .search-axes .ensures .0) (c .before .before .before .before .before .before .sort-by-axis .last .1 .1 .1 .1 .1 .1 .0) (c .before .before .before .before .before .before .before .before .before .before .if1 .left) (c .before .before .before .before .before .before .sort-by-axis .ensures .0),
+        c .before .before .before .before .before .before .sort-by-axis .ensures .1,
+        law.found-below b mid (a .part .now) (c .before .before .before .before .before .before .before .before .before .before .before .before .before .before .before .before .before .before .before .search-axes .last .1 .1 .1 .1 .1 .0) (c .before .before .before .before .before .before .before .before .before .before .before .before .before .before .before .before .before .before .before .search-axes .result) (c .before .before .before .before .before .before .before .before .before .before .before .before .before .before .before .before .before .before .before .search-axes .ensures .0) (S .some),
+      ),
+      (same-length-6 c, same-length-7 c, same-length-8 c),
     )
 
 pub split-spec : {M : Type 1} → statement M

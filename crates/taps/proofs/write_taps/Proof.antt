@@ -32,7 +32,7 @@ put-taps-requires : tie.Need-put-taps-requires
 put-taps-requires c κs =
     let a = c .before .before .before .before .before .before .before .before .before .before .before .before .before .before .before .before .before .before .before .before .before .before .before .before .before .before .args in
     let p = c .before .before .before .before .before .before .before .before .before .before .before .before .before .before .before .before .before .before .before .before .before .before .before .before .before .before .pre in
-    let k = c .before .before .before .before .before .before .before .before .before .before .before .rank-reflections .ensures in (
+    let k = c .before .before .before .before .before .before .before .before .before .before .before .rank-reflections .ensures .0 in (
       p .sortable .rows,
       (
         pointing (a .speed) (a .rate) (a .limit) (a .n) (a .images) (a .candidate-floats .now) (a .candidate-words .now) (c .before .before .before .before .before .before .before .before .before .before .before .before .before .before .before .before .before .before .fresh-positions .result) _ _ (p .few) (p .sendable) k,
@@ -43,19 +43,32 @@ put-taps-requires c κs =
 slice-aggregate-write : tie.Need-slice-aggregate-write
 slice-aggregate-write c = sym (c .before .before .put-taps .kept .1 .1 .1 .1 .1 .0 ∙ c .before .before .before .before .before .before .before .before .before .before .before .before .before .before .before .before .before .before .before .before .fresh-taps .ensures)
 
+same-length : tie.Need-same-length
+same-length c = search needs
+
+same-length-2 : tie.Need-same-length-2
+same-length-2 c = search needs
+
+same-length-3 : tie.Need-same-length-3
+same-length-3 c = search needs
+
+same-length-4 : tie.Need-same-length-4
+same-length-4 c = search needs
+
 returns : tie.Need-returns
 returns c =
     let a = c .before .before .before .before .before .before .before .before .before .before .before .before .before .before .before .before .before .before .before .before .before .before .before .before .before .before .before .before .before .before .before .before .before .before .args in
     let p = c .before .before .before .before .before .before .before .before .before .before .before .before .before .before .before .before .before .before .before .before .before .before .before .before .before .before .before .before .before .before .before .before .before .before .pre in
-    ended (a .speed) (a .rate) (a .limit) (a .n) (a .images) (a .candidate-floats .now) (a .candidate-words .now) (c .before .before .before .before .before .before .before .before .before .before .before .before .before .before .before .before .before .before .before .before .before .before .before .before .before .before .fresh-positions .result) _ _ (p .few) (p .sendable)
-    (c .before .before .before .before .before .before .before .before .before .before .before .before .before .before .before .before .before .before .before .rank-reflections .ensures)
+    let e = ended (a .speed) (a .rate) (a .limit) (a .n) (a .images) (a .candidate-floats .now) (a .candidate-words .now) (c .before .before .before .before .before .before .before .before .before .before .before .before .before .before .before .before .before .before .before .before .before .before .before .before .before .before .fresh-positions .result) _ _ (p .few) (p .sendable)
+    (c .before .before .before .before .before .before .before .before .before .before .before .before .before .before .before .before .before .before .before .rank-reflections .ensures .0)
     (c .before .before .before .before .before .before .before .before .before .before .before .before .before .before .before .before .before .before .before .before .before .before .before .before .before .fresh-taps .result) _ (exactly (c .before .before .before .before .before .before .before .before .before .before .before .before .before .before .before .before .before .before .before .before .before .before .before .before .before .fresh-taps .ensures))
     (c .before .before .before .before .before .before .before .put-taps .kept .1 .1 .1 .1 .1 .0)
     (c .before .before .before .before .before .before .before .put-taps .ensures)
     (a .rays) _ _ (a .out .now) _ (p .for-out)
     (c .before .before .before .write .ensures .0)
     (c .before .before .before .write .ensures .1)
-    (c .length-of .ensures)
+    (c .length-of .ensures) in
+    (e .0, (e .1 .0, (e .1 .1, (same-length c, same-length-2 c, same-length-3 c, same-length-4 c))))
 
 pub write-taps-spec : {M : Type 1} → statement M
 write-taps-spec =
@@ -71,9 +84,9 @@ write-taps-spec =
     slice-aggregate-write
     (λ c κs. tt)
     (λ c κs. tt)
-    (λ c. search needs)
-    (λ c. search needs)
-    (λ c. search needs)
-    (λ c. search needs)
+    same-length
+    same-length-2
+    same-length-3
+    same-length-4
     (λ c. search needs)
     returns)
