@@ -44,7 +44,6 @@ may-spec =
     (tie.spec
     lies-on-requires
     (λ c. search needs)
-    (λ c. search needs)
     shared-slice-read-result
     cast-result
     returns
