@@ -83,7 +83,7 @@ fn may(
         r ≡ spec.may (onOf (planesIn (now («plane_floats» .entry)) (now («plane_words» .entry)) members edges (q .count)) (q .source))
         (take depth (now (seq .entry))) p) ⌝ }
 {
-    if depth == 0 {
+    if depth < sequences::RULED {
         !bounces::lies_on(plane_floats, plane_words, p, q.source)
     } else {
         seq[depth - 1] as usize != p

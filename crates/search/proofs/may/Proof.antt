@@ -2,7 +2,6 @@ use borrow.Author.Needs.{needs}
 use Prim.Native.Nat.{ℕ, suc, _-_, _<_}
 use mathlib.Core.Path.{_≡_, sym, ap, _∙_}
 use native.Mathlib.Omega.{arith}
-use native.Mathlib.Nat.{pos-of-ne-zero}
 use lib.ListN.{length, take}
 use Rattle.mirror.specs.Rows.{planesIn}
 use Rattle.sequences.specs.Allowed.{may}
@@ -18,7 +17,7 @@ lies-on-requires : tie.Need-lies-on-requires
 lies-on-requires c κs = (omega (arith, c .before .before .before .before .pre), omega (arith, c .before .before .before .before .pre))
 
 shared-slice-read-result : tie.Need-shared-slice-read-result
-shared-slice-read-result c = omega (arith, pos-of-ne-zero (c .before .if1 .left), c .before .before .before .before .before .pre .0 .0)
+shared-slice-read-result c = omega (arith, c .before .if1 .left, c .before .before .before .before .before .pre .0 .0)
 
 cast-result : tie.Need-cast-result
 cast-result c = omega (arith, c .shared-slice-known4 .given (c .before .before .before .before .before .args .depth - 1) .fits)
@@ -26,15 +25,15 @@ cast-result c = omega (arith, c .shared-slice-known4 .given (c .before .before .
 returns : tie.Need-returns
 returns c = let a = c .before .before .before .before .before .args in λ members edges.
     let e = planes-length (a .plane-floats .now) (a .plane-words .now) members edges (a .q .count) in
-    may-begin (planesIn (a .plane-floats .now) (a .plane-words .now) members edges (a .q .count)) (a .q .source) (a .seq .now) (a .depth) (a .p) (c .lies-on .result) (omega (arith, c .before .before .before .before .before .pre .0)) (c .before .if1 .taken)
+    may-begin (planesIn (a .plane-floats .now) (a .plane-words .now) members edges (a .q .count)) (a .q .source) (a .seq .now) (a .depth) (a .p) (c .lies-on .result) (omega (arith, c .before .before .before .before .before .pre .0)) (let t = c .before .if1 .taken in omega arith)
     (c .lies-on .ensures members edges (a .q .count) (c .before .before .before .before .before .pre .0 .1))
 
 returns-2 : tie.Need-returns-2
 returns-2 c = let a = c .before .before .before .before .before .args in
     let z = c .before .if1 .left in
     let h = c .before .before .before .before .before .pre .0 in
-    let e : a .depth ≡ suc (a .depth - 1) = omega (arith, pos-of-ne-zero z) in
-    let l : a .depth - 1 < length (a .seq .now) = omega (arith, pos-of-ne-zero z) in
+    let e : a .depth ≡ suc (a .depth - 1) = omega (arith, z) in
+    let l : a .depth - 1 < length (a .seq .now) = omega (arith, z) in
     λ members edges.
     let on = onOf (planesIn (a .plane-floats .now) (a .plane-words .now) members edges (a .q .count)) (a .q .source) in
     sym (ap (λ (d : ℕ). may on (take d (a .seq .now)) (a .p)) e ∙ may-later on (a .seq .now) (a .depth - 1) (a .p) l)
@@ -44,7 +43,6 @@ may-spec =
     tie.close
     (tie.spec
     lies-on-requires
-    (λ c. search needs)
     (λ c. search needs)
     shared-slice-read-result
     cast-result
