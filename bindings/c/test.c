@@ -175,7 +175,7 @@ static void test_triples(void)
     CHECK(trace(&q) == BIV_TRIANGLES && nothing());
     meshes[1] = q.scene.indices_len = INDICES - 3;
     q.size = biv_block_size(biv_triples(&q.scene), q.c);
-    CHECK(q.size > 0 && trace(&q) == BIV_NO_REFUSAL && answer.count == 0 && answer.bytes == 9);
+    CHECK(q.size > 0 && trace(&q) == BIV_NO_REFUSAL && answer.count == 0 && answer.bytes == 10);
 }
 
 /* No meshes at all. */
