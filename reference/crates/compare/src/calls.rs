@@ -217,7 +217,7 @@ fn refused(c: &Case, d: Damage, planted: Option<usize>, refusal: u32) -> Option<
 }
 
 /// The list's limit in the published Rust.
-const PUBLISHED: usize = 64;
+pub const PUBLISHED: usize = 64;
 
 /// How long a list of the Rust is, as `Called::long` counts it; the list that it keeps with its own limit must be the first of this one (02, note 7).
 fn long(c: &Case, theirs: &Output) -> Result<[u64; 4], String> {
