@@ -59,8 +59,9 @@ impl Called {
     }
 }
 
-/// Planted slips of this stage: another refusal, a byte of the packet, a byte past it, a word of an area, a ray more.
-pub const SLIPS: usize = 5;
+/// Planted slips of this stage: another refusal, a byte of the packet, a byte past it, a word of an area, a ray more, the count's bytes exchanged, a list that is
+/// cut at the limit of the published Rust.
+pub const SLIPS: usize = 7;
 
 fn same(a: f32, b: f32) -> bool {
     a.to_bits() == b.to_bits() || (a == 0.0 && b == 0.0)
@@ -81,6 +82,12 @@ fn slip(left: &mut Left, kind: usize) -> bool {
         2 if left.out.len() > a.bytes => left.out[a.bytes] ^= 1,
         3 if !left.work.adjacency.is_empty() => left.work.adjacency[0] ^= 1,
         4 => a.rays += 1,
+        5 if a.bytes > 0 && left.out[0] != left.out[1] => left.out.swap(0, 1),
+        6 if a.count > PUBLISHED => {
+            (left.out[0], left.out[1]) = (PUBLISHED as u8, 0);
+            let sizes = |from: usize, _: usize| from + 22 + 4 * left.out[from].count_ones() as usize;
+            (a.count, a.bytes) = (PUBLISHED, (0..PUBLISHED).fold(10, sizes));
+        }
         _ => return false,
     }
     true
@@ -210,7 +217,7 @@ fn refused(c: &Case, d: Damage, planted: Option<usize>, refusal: u32) -> Option<
 }
 
 /// The list's limit in the published Rust.
-const PUBLISHED: usize = 64;
+pub const PUBLISHED: usize = 64;
 
 /// How long a list of the Rust is, as `Called::long` counts it; the list that it keeps with its own limit must be the first of this one (02, note 7).
 fn long(c: &Case, theirs: &Output) -> Result<[u64; 4], String> {
