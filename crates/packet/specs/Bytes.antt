@@ -33,7 +33,7 @@ unfoldable pub tapsBytes : List Tap → List ℕ
 tapsBytes [] = []
 tapsBytes (t ∷ ts) = tapBytes t ++ tapsBytes ts
 
--- "Count (1 byte), images (4), rays (4); then per tap ..": the packet of taps
+-- "Count (1 byte), images (4), rays (4); then per tap ..", "the packet's count becomes two bytes" (document 02, Note 7): the packet of taps
 abbrev pub encode : ℕ → ℕ → List Tap → List ℕ
 encode images rays ts = littleEndian countBytes (length ts) ++ (word images ++ (word rays ++ tapsBytes ts))
 
@@ -89,7 +89,7 @@ unfoldable pub holdsTaps : ℕ → List ℕ → Bool
 holdsTaps zero bs = eqb (length bs) 0
 holdsTaps (suc n) bs = leb (tapSize (getD bs 0 0)) (length bs) && holdsTaps n (drop (tapSize (getD bs 0 0)) bs)
 
--- "Count (1 byte)"
+-- "the packet's count becomes two bytes"
 abbrev pub countIn : List ℕ → ℕ
 countIn bs = valueOf countBytes bs
 

@@ -1,6 +1,7 @@
 //! The intended differences of docs/DIFFERENCES.md: the smallest input of each, run on both sides. The table there must say what they give.
+use crate::calls::PUBLISHED;
 use crate::front;
-use oracle::{Case, Mesh, Table, IDENTITY};
+use oracle::{Case, Mesh, Overrides, Table, IDENTITY};
 use port::{Traced, Tree, Work, COLUMNS, OUTPUT, TAPS, TAP_WORDS};
 use quasar_backends::cpu_simd::{CpuSimdComputeBackend, OracleTree, ORACLE_LAST};
 use quasar_core::air::{air_absorption_db_per_m, AIR_FACTOR};
@@ -284,6 +285,20 @@ fn settings() -> Vec<Row> {
     ]
 }
 
+/// The Rust with the limit that is published, and one tap more than it: a closed room, whose walls take nothing, has 128 at order 4.
+fn long_list() -> Row {
+    let room = case_a(|c| {
+        let m = &mut c.meshes[0];
+        m.positions = (0..8).map(|k| [8.0 * (k & 1) as f32, 3.0 * (k >> 1 & 1) as f32, 6.0 * (k >> 2) as f32]).collect();
+        m.indices = vec![0, 1, 3, 0, 3, 2, 4, 5, 7, 4, 7, 6, 0, 1, 5, 0, 5, 4, 2, 3, 7, 2, 7, 6, 0, 2, 6, 0, 6, 4, 1, 3, 7, 1, 7, 5];
+        c.materials[0].absorption = [0.0; 8];
+        (c.source, c.listener) = ([2.0, 1.2, 2.5], [6.0, 1.7, 3.4]);
+        (c.settings.order, c.settings.max_reflections, c.settings.room) = (4, PUBLISHED as u32 + 1, 250);
+    });
+    let published = oracle::run_with(&room, false, &Overrides { max_paths: PUBLISHED });
+    Row("more than 64 taps", "a closed room, 8 by 3 by 6 m, absorption 0, order 4, a list of 65", taps(published.taps.len()), port(&room))
+}
+
 // ---- what `query_spatial` does around the port's call
 
 fn queried(c: &Case, emitter: Option<EmitterTrace>, materials: &dyn MaterialProvider) -> (CpuSimdComputeBackend, usize) {
@@ -340,7 +355,7 @@ fn around() -> Vec<Row> {
 }
 
 fn rows() -> Vec<Row> {
-    let mut all = vec![nan(), clamp(), exponential(), sums(), zero(), no_triangles(), infinite_centroid(), nan_centroid()];
+    let mut all = vec![nan(), clamp(), exponential(), sums(), zero(), no_triangles(), infinite_centroid(), nan_centroid(), long_list()];
     all.extend(refused());
     all.extend(settings());
     all.extend(around());
