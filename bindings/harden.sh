@@ -42,7 +42,7 @@ valgrind --quiet --error-exitcode=1 --leak-check=full "$built/replay.plain" ../c
 for name in packet query; do
     echo "-- fuzzing the $name for $seconds s"
     clang -std=c11 -D_GNU_SOURCE -Wall -Wextra -Werror -g -O1 -fsanitize=fuzzer,address,undefined -fno-sanitize-recover=all -I../include "fuzz/$name.c" "$archive" -lm -o "$built/fuzz_$name"
-    "$built/fuzz_$name" -max_total_time="$seconds" -timeout=20 -rss_limit_mb=2048 -max_len=8192 -print_final_stats=1 -artifact_prefix="$built/found/" "$built/corpus/$name" > "$built/fuzz_$name.txt" 2>&1 || {
+    "$built/fuzz_$name" -max_total_time="$seconds" -timeout=20 -rss_limit_mb=2048 -max_len=65536 -print_final_stats=1 -artifact_prefix="$built/found/" "$built/corpus/$name" > "$built/fuzz_$name.txt" 2>&1 || {
         tail -n 30 "$built/fuzz_$name.txt" >&2
         echo "bindings: fuzzing the $name found something: its input is in $built/found" >&2
         exit 1

@@ -25,7 +25,7 @@ HEADER = [
     ("source and listener exchanged", "source, listener, separated);", "listener, source, separated);"),
     ("separated not handed on", "listener, separated);", "listener, separated && false);"),
     ("a tap too many read", "memcpy(taps, words, found[0] *", "memcpy(taps, words, (found[0] + 1) *"),
-    ("65 taps copied", "if (answer->count <= BIV_MOST_TAPS)", "if (answer->count <= BIV_MOST_TAPS + 1)"),
+    ("1,025 taps copied", "if (answer->count <= BIV_MOST_TAPS)", "if (answer->count <= BIV_MOST_TAPS + 1)"),
     ("triples of all indices", "triples += scene->meshes[m + 1] / 3;", "triples += scene->meshes[m + 1];"),
     ("rays for candidates", "cost->candidates = (uint32_t)found[0];", "cost->candidates = (uint32_t)found[1];"),
     ("words for rays", "cost->rays = found[1];", "cost->rays = found[2];"),

@@ -5,7 +5,8 @@
  *     struct biv_settings settings = biv_default_settings();
  *     size_t size = biv_block_size(biv_triples(&scene), c);
  *     void *block = calloc(1, size);
- *     uint8_t out[BIV_OUTPUT_BYTES];
+ *     static uint8_t out[BIV_OUTPUT_BYTES];
+ *     static struct biv_tap taps[BIV_MOST_TAPS];
  *     struct biv_answer answer;
  *     uint32_t refusal = biv_trace(&settings, c, &scene, source, listener, false, block, size, out, sizeof out, &answer);
  *     if (refusal != BIV_NO_REFUSAL)
@@ -15,7 +16,8 @@
  *
  * bindings/c/case_a.c is the whole of it. The block may be used again and again, for every scene that it is long enough for; two calls at the same
  * time need a block each. What it holds does not matter, but it is read, so it must have been set once, as calloc does (docs/HARDENING.md). Nothing
- * else is kept between calls, and nothing is allocated.
+ * else is kept between calls, and nothing is allocated. out has 55 KB and taps 57 KB, which is much for the stack of a thread, and each call takes some
+ * more of it (docs/HARDENING.md).
  *
  * Lengths and positions are in metres, temperatures in degrees Celsius, rates in hertz, delays in samples; axes are any three at right angles, the same for
  * scene, source, listener and answer. docs/BEHAVIOUR.md is the manual: settings, refusals and what to do about each, how images, gains and the list are made.
@@ -31,12 +33,13 @@
 #include <stdint.h>
 #include <string.h>
 
-/* ---- the version; bindings/installed.sh compares what else has it with these lines */
+/* ---- the version; bindings/installed.sh compares what else has it with these lines. A packet's count has two bytes since 0.3, and a packet of 0.2 is
+ * refused by 0.3, one of 0.3 by 0.2, always with BIV_BYTES: taps have an even number of bytes, and what stands before them had 9 and has 10. */
 
 #define BIV_VERSION_MAJOR 0
-#define BIV_VERSION_MINOR 2
+#define BIV_VERSION_MINOR 3
 #define BIV_VERSION_PATCH 0
-#define BIV_VERSION "0.2.0"
+#define BIV_VERSION "0.3.0"
 
 #ifdef __cplusplus
 extern "C" {
@@ -90,7 +93,7 @@ static inline const char *biv_refusal_text(uint32_t refusal)
 
 #define BIV_MOST_TRIPLES 4096
 #define BIV_MOST_CANDIDATES 250000 /* candidate room */
-#define BIV_MOST_TAPS 64
+#define BIV_MOST_TAPS 1024
 #define BIV_MOST_ORDER 8
 #define BIV_MOST_PLANES 256
 #define BIV_MOST_CROSSINGS 32
@@ -99,7 +102,7 @@ static inline const char *biv_refusal_text(uint32_t refusal)
  * 3, 22 at 4, 12 at 5, 8 at 6, 6 at 7 and 5 at 8; so ask for a lower order or fewer planes. */
 #define BIV_MOST_IMAGES 250000
 #define BIV_BANDS 8
-#define BIV_OUTPUT_BYTES 3465 /* the longest packet: 9 bytes, and 54 for each of 64 taps */
+#define BIV_OUTPUT_BYTES 55306 /* the longest packet: 10 bytes, and 54 for each of 1,024 taps */
 
 enum biv_curve { BIV_INVERSE = 0, BIV_LINEAR = 1 };
 
@@ -115,7 +118,7 @@ struct biv_distance_model {
 /* By the Rust's names; the limits are those of refusal 1. */
 struct biv_settings {
     uint32_t max_reflection_order;    /* bounces of an echo; any, used as at most 8 */
-    uint32_t max_reflections;         /* taps of the list; any, used as at most 64 */
+    uint32_t max_reflections;         /* taps of the list; any, used as at most 1,024 */
     uint32_t max_reflection_planes;   /* 0 to 256: the most important ones reflect, all others only block */
     float reflection_edge_fade;       /* m, finite: how far from its border a surface reflects less; 0 or below: hard edges */
     float max_reflection_distance;    /* m, above 0, at most 1,000: the longest path */
@@ -269,7 +272,7 @@ uint32_t biv_planes(float *triangles, size_t triangles_len, uint32_t *handles, s
 /* exports/specs/Entry.antt, Entered. From settings, scene parts and positions to the packet of taps in out. Answers the refusal, or 0. found
  * gets count, images, rays and the packet's length, zeros after a refusal. The 19 work areas come first, in the order of docs/AREAS.md,
  * which has their least lengths in whole triples T and c; short ones are refused. What they hold does not matter. After the refusals 1 to 5 they are
- * as they were, after 6, 7 and a result all zero. out (3,465 bytes or more) gets the packet, and is as it was past it and after a refusal. counts are
+ * as they were, after 6, 7 and a result all zero. out (55,306 bytes or more) gets the packet, and is as it was past it and after a refusal. counts are
  * max_reflection_order, max_reflections, max_reflection_planes, plane_merge (0 or not), curve (0 is Inverse, 1 Linear, another refused), crossing_limit, and the air's eight
  * coefficients. setting_floats:
  * reflection_edge_fade, max_reflection_distance, temperature_celsius, sample_rate, plane_merge_cos, plane_merge_offset, plane_buried_distance,
@@ -426,7 +429,8 @@ static inline uint32_t biv_trace(const struct biv_settings *settings, uint32_t c
 }
 
 /* Reads a packet: its taps, best first, and its counts. Answers the refusal (8 to 11) or 0. Past the last tap read, and after a refusal, taps is as
- * it was; after a refusal the counts are 0. bytes may begin anywhere, and be NULL with bytes_len 0, which is refused with BIV_BYTES. */
+ * it was; after a refusal the counts are 0. bytes may begin anywhere, and be NULL with bytes_len 0, which is refused with BIV_BYTES. The words of 1,024
+ * taps are kept on the stack meanwhile, 57 KB, here and in biv_write. */
 static inline uint32_t biv_read(const uint8_t *bytes, size_t bytes_len, struct biv_tap taps[BIV_MOST_TAPS], struct biv_answer *answer)
 {
     uint32_t words[14 * BIV_MOST_TAPS];

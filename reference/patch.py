@@ -145,7 +145,9 @@ p("P4", "    fn trace_ray(&self, ray: &Ray) -> Vec<RayHit> {\n        self.trace
         "    fn trace_ray(&self, ray: &Ray) -> Vec<RayHit> {\n        self.trace_single_ray(ray).into_iter().collect()\n    }\n}\n"
         "\ninclude!(\"oracle_ext.rs\"); // ORACLE P4\n")
 
-# P5 constants of notes 7 and 12 (see P2f too)
+# P5 constants of notes 7 and 12 (see P1 and P2f too); note 7's reference is the Rust with this one at 1,024
+p("P5c", "pub(crate) const MAX_REFLECTION_PATHS: usize = 64;\n",
+         "pub(crate) const MAX_REFLECTION_PATHS: usize = 1024; // ORACLE P5: 64 as published\n")
 p("P5a", "            if crossings > OCCLUSION_MAX_CROSSINGS {\n",
          "            if crossings > self.config.oracle_max_crossings { // ORACLE P5\n"
          "                ORACLE_NINTH.with(|n| n.set(n.get() + 1)); // ORACLE P3: coverage figure only\n")

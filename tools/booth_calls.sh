@@ -38,9 +38,9 @@ call() {
 edit() { sed "$2" "$examples/booth.case" > "$1"; ! cmp -s "$1" "$examples/booth.case" || bad "$1 is not edited"; }
 
 # ---- good
-call out 'taps 16, packet of 873 bytes' old
-call out 'taps 6, packet of 333 bytes' old "$examples/shoebox.case"
-call out 'taps 6, packet of 333 bytes' full "$examples/shoebox.case" p.bin
+call out 'taps 16, packet of 874 bytes' old
+call out 'taps 6, packet of 334 bytes' old "$examples/shoebox.case"
+call out 'taps 6, packet of 334 bytes' full "$examples/shoebox.case" p.bin
 call out 'scene shoebox: 20.0 degrees, sound at 343.20 metres a second, 48000.0 samples a second, order 1.' full "$examples/shoebox.case" p.bin
 call out 'The direct sound, which is not among the taps, takes 338.28 samples' full "$examples/shoebox.case" p.bin
 call out 'packet of' old "$examples/booth.case"

@@ -3,6 +3,8 @@
 # The answers come from the reader and the writer below, which follow document 01 and share nothing with crates/packet.
 import os, struct
 
+# Taps, words of a tap area and bytes of an output area: at most, and at least.
+MOST, AREA, OUT = 1024, 14336, 55306
 INF, NAN, SNAN, MINUS = 0x7f800000, 0x7fc00000, 0x7f800001, 0x80000000
 FILL = 0x5a5a5a5a
 
@@ -21,7 +23,7 @@ def total(gains):
 # Refusals 9 to 11 of taps (bit map, order, number, x, y, z, delay, gains), or 0.
 def refusal(count, images, taps):
     sums = [total(t[7]) for t in taps] if all(finite(g) for t in taps for g in t[7]) else []
-    if count > 64 or images > 250000 or any(not 1 <= t[1] <= 8 or not 1 <= t[2] <= images for t in taps): return 9
+    if count > MOST or images > 250000 or any(not 1 <= t[1] <= 8 or not 1 <= t[2] <= images for t in taps): return 9
     for t in taps:
         if not all(map(finite, t[3:7] + t[7])) or not above(t[6]): return 10
         if any(t[0] >> k & 1 and not above(g) for k, g in enumerate(t[7])): return 10
@@ -30,10 +32,10 @@ def refusal(count, images, taps):
     return 0
 
 def read(b, area):
-    if area < 896: return 5, []
-    if len(b) < 9: return 8, []
-    p, taps = 9, []
-    for _ in range(b[0]):
+    if area < AREA: return 5, []
+    if len(b) < 10: return 8, []
+    (count, images), p, taps = struct.unpack('<HI', b[:6]), 10, []
+    for _ in range(count):
         n = 22 + 4 * bin(b[p]).count('1') if p < len(b) else 22
         if p + n > len(b): return 8, []
         w = list(struct.unpack('<IIIII', b[p + 2:p + 22])); q = p + 22; gains = []
@@ -42,10 +44,10 @@ def read(b, area):
             else: gains.append(0)
         taps.append([b[p], b[p + 1]] + w + [gains]); p += n
     if p != len(b): return 8, []
-    return refusal(b[0], struct.unpack('<I', b[1:5])[0], taps), taps
+    return refusal(count, images, taps), taps
 
 def encode(count, images, rays, taps):
-    b = struct.pack('<BII', count, images, rays)
+    b = struct.pack('<HII', count, images, rays)
     for t in taps:
         b += bytes([t[0], t[1]]) + struct.pack('<IIIII', *t[2:7])
         b += b''.join(struct.pack('<I', g) for k, g in enumerate(t[7]) if t[0] >> k & 1)
@@ -76,17 +78,25 @@ AT, OVER = gains_for(LEAST), gains_for(value(bits(LEAST) + 1))
 ALL = {k: bits(1.0 / (k + 1)) for k in range(8)}
 
 reads, writes = [], []
-def r(name, b, area=896, shown=None): reads.append((name, b, area, len(b) if shown is None else shown))
-def w(name, taps, count=None, images=1000, rays=36, area=896, out=3465): writes.append((name, taps, len(taps) if count is None else count, images, rays, area, out))
+def r(name, b, area=AREA, shown=None): reads.append((name, b, area, len(b) if shown is None else shown))
+def w(name, taps, count=None, images=1000, rays=36, area=AREA, out=OUT): writes.append((name, taps, len(taps) if count is None else count, images, rays, area, out))
 
 one, two = packet([tap(1)]), packet([tap(7, ALL), tap(3, {2: bits(0.5), 7: bits(0.25)}, order=8)])
 r('one-tap', one); r('two-taps', two); r('no-tap', packet([])); r('no-tap-no-image', packet([], 0, 0)); r('rays-all-bits', packet([tap(1)], rays=4294967295))
-r('no-byte', b''); r('head-short', packet([])[:8]); r('head-long', packet([]) + b'\0')
+r('no-byte', b''); r('head-short', packet([])[:9]); r('head-long', packet([]) + b'\0')
 r('one-short', two[:-1]); r('one-long', two + b'\0'); r('a-tap-short', packet([tap(1)], count=2)); r('a-tap-long', packet([tap(1), tap(2)], count=1)); r('bit-map-alone', packet([tap(1)], count=2) + b'\xff')
-r('taps-64', packet([tap(64 - k, {k % 8: bits(1.0)}) for k in range(64)]))
+# n taps of one gain each, the last with the lowest number.
+def many(n): return [tap(n - k, {k % 8: bits(1.0)}, order=1 + k % 8) for k in range(n)]
+for n in 64, 65, 255, 256, 257, 1023: r(f'taps-{n}', packet(many(n), 2000))
+r('taps-1024-all-gains', packet([tap(1 + k, ALL) for k in range(1024)], 2000)); r('taps-1024-first-number-last', packet(many(1023) + [tap(1023)], 2000))
 z = [[0, 0, 0, 0, 0, 0, 0, [0] * 8]]
-r('taps-65', packet(z * 65), shown=9); r('taps-65-short', packet(z * 65)[:-1], shown=9); r('taps-200', packet(z * 200), shown=9); r('taps-200-short', packet(z * 200)[:-1], shown=9)
-r('taps-200-head', packet([], count=200)); r('taps-255', packet(z * 255), shown=9)
+for n in 65, 1025, 1280: r(f'zeros-{n}', packet(z * n), shown=10); r(f'zeros-{n}-short', packet(z * n)[:-1], shown=10)
+for n in 256, 1024, 1025, 65535: r(f'head-of-{n}', packet([], count=n))
+r('one-tap-of-65535', packet([tap(1)], count=65535))
+# the count's bytes the other way round, and a count of one byte, as it was before
+r('count-exchanged-2', two[1::-1] + two[2:]); r('count-exchanged-256', packet(z * 256, count=1), shown=10)
+def old(b): return b[:1] + b[2:]
+r('old-no-tap', old(packet([]))); r('old-one-tap', old(one)); r('old-two-taps', old(two)); r('old-no-count', old(packet([tap(1)], count=0))); r('old-taps-64', old(packet(many(64))))
 r('images-250000', packet([tap(250000)], 250000)); r('images-250001', packet([tap(1)], 250001)); r('images-250001-no-tap', packet([], 250001))
 for o in 0, 1, 8, 9, 255: r(f'order-{o}', packet([tap(1, order=o)]))
 for n in 0, 1, 1000, 1001, 4294967295: r(f'number-{n}', packet([tap(n)]))
@@ -99,11 +109,11 @@ r('sum-none', packet([tap(1, {})])); r('sum-at-least', packet([tap(1, AT)])); r(
 r('sums-equal', packet([tap(1), tap(2), tap(3)])); r('sums-fall', packet([tap(1), tap(2, {0: bits(1.0) - 1})])); r('sum-just-above', packet([tap(1), tap(2, {0: bits(1.0) + 1})])); r('sum-third-above', packet([tap(1), tap(2, {0: bits(0.5)}), tap(3, {0: bits(0.75)})]))
 bad = tap(0, {0: INF}, order=9, delay=0)
 r('8-before-9', packet([bad])[:-1]); r('9-before-10', packet([bad])); r('9-in-second', packet([tap(1, delay=0), tap(2, order=0)])); r('10-before-11', packet([tap(5), tap(5, {0: NAN})])); r('10-in-third', packet([tap(1, {0: bits(0.5)}), tap(1), tap(2, z=INF)])); r('9-before-11', packet([tap(5), tap(5, order=0)]))
-r('area-895', one, 895); r('area-895-short', one[:-1], 895); r('area-0', b'', 0); r('area-900', two, 900)
+r('area-14335', one, 14335); r('area-14335-short', one[:-1], 14335); r('area-896', one, 896); r('area-0', b'', 0); r('area-14340', two, 14340)
 
-w('one-tap', [tap(1)]); w('two-taps', [tap(7, ALL), tap(3, {2: bits(0.5), 7: bits(0.25)}, order=8)]); w('no-tap', []); w('room-to-spare', [tap(1)], area=900, out=3500)
-w('area-895', [tap(1)], area=895); w('out-3464', [tap(1)], out=3464); w('both-short', [tap(1)], area=0, out=0); w('5-before-9', [tap(1)], count=65, out=3464)
-w('count-65', [], count=65); w('count-4294967297', [], count=4294967297); w('images-250001', [tap(1)], images=250001)
+w('one-tap', [tap(1)]); w('two-taps', [tap(7, ALL), tap(3, {2: bits(0.5), 7: bits(0.25)}, order=8)]); w('no-tap', []); w('room-to-spare', [tap(1)], area=14340, out=55340)
+w('area-14335', [tap(1)], area=14335); w('area-896', [tap(1)], area=896); w('out-55305', [tap(1)], out=55305); w('out-3465', [tap(1)], out=3465); w('both-short', [tap(1)], area=0, out=0); w('5-before-9', [tap(1)], count=1025, out=55305)
+w('taps-256', many(256)); w('count-1025', [], count=1025); w('count-65537', [tap(1)], count=65537); w('count-4294967297', [], count=4294967297); w('images-250001', [tap(1)], images=250001)
 for o in 0, 9, 257, 4294967295: w(f'order-{o}', [tap(1, order=o)])
 for n in 0, 1001, 4294967295: w(f'number-{n}', [tap(n)])
 for k, (n, v) in enumerate(SPECIAL):
@@ -121,16 +131,16 @@ head = '''# Stored packets for the program `packets`; tools/packet_cases.py make
 stdin, stdout = [head], []
 def hexes(b, cuts): return ' '.join(b[i:j].hex() for i, j in zip(cuts, cuts[1:] + [len(b)]) if b[i:j])
 def cuts(b):
-    c, p = [0, 1, 5, 9], 9
-    while p < len(b) and len(c) < 1000: c += [p + 1, p + 2] + [p + 6 + 4 * k for k in range(5 + bin(b[p]).count('1'))]; p = c[-1]
+    c, p = [0, 2, 6, 10], 10
+    while p < len(b) < 2000: c += [p + 1, p + 2] + [p + 6 + 4 * k for k in range(5 + bin(b[p]).count('1'))]; p = c[-1]
     return sorted(set(min(x, len(b)) for x in c))
 for name, b, area, shown in reads:
     n, taps = read(b, area); assert not any(b[shown:])
-    c = (b[0], *struct.unpack('<II', b[1:9])) if n == 0 else (0, 0, 0)
+    c = struct.unpack('<HII', b[:10]) if n == 0 else (0, 0, 0)
     stdin.append('r %s %d %d  %d %d %d %d %d  %s\n' % (name, area, len(b), n, *c, check(words(taps)) if n == 0 else 0, hexes(b[:shown], cuts(b[:shown]))))
     stdout.append('read %s: %s, ok\n' % (name, 'refused %d' % n if n else 'taps %d images %d rays %d, written again as the same bytes' % c))
 for name, taps, count, images, rays, area, out in writes:
-    n = 5 if area < 896 or out < 3465 else refusal(count, images, taps)
+    n = 5 if area < AREA or out < OUT else refusal(count, images, taps)
     b = encode(count, images, rays, taps) if n == 0 else b''
     stdin.append('w %s %d %d %d %d %d  %d %d  %s = %s\n' % (name, area, out, count, images, rays, n, len(b), ' '.join('%08x' % x for x in words(taps)), hexes(b, cuts(b))))
     stdout.append('write %s: %s, ok\n' % (name, 'refused %d' % n if n else 'bytes %d' % len(b)))

@@ -9,8 +9,8 @@ int main(void)
     struct biv_scene scene = case_a_scene();
     size_t size = biv_block_size(biv_triples(&scene), case_a_c);
     void *block = calloc(1, size);
-    uint8_t out[BIV_OUTPUT_BYTES];
-    struct biv_tap taps[BIV_MOST_TAPS];
+    static uint8_t out[BIV_OUTPUT_BYTES]; /* 55 KB and 57 KB */
+    static struct biv_tap taps[BIV_MOST_TAPS];
     struct biv_answer answer;
     uint32_t refusal;
     if (block == NULL) {

@@ -18,7 +18,7 @@ int main(void)
     const size_t triples = biv_triples(&scene);
     struct biv_cost cost;
     struct biv_answer answer;
-    uint8_t out[BIV_OUTPUT_BYTES];
+    static uint8_t out[BIV_OUTPUT_BYTES]; /* 55 KB */
     uint32_t refusal = biv_forecast(settings.crossing_limit, 6, 6, settings.max_reflection_order, (uint32_t)triples, &cost);
     if (refusal == BIV_NO_REFUSAL) {
         size_t size = biv_block_size(triples, cost.candidates);

@@ -8,7 +8,7 @@
 #include <stdio.h>
 #include <stdlib.h>
 
-enum { LONGEST = 4096, LINE = 9 * LONGEST };
+enum { LONGEST = 8192, LINE = 9 * LONGEST };
 
 static float as_float(uint32_t word)
 {

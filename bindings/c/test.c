@@ -76,9 +76,9 @@ static void test_speeds(void)
 static void test_case_a(void)
 {
     struct query q = case_a();
-    struct biv_tap taps[BIV_MOST_TAPS];
+    static struct biv_tap taps[BIV_MOST_TAPS];
     CHECK(trace(&q) == BIV_NO_REFUSAL);
-    CHECK(answer.count == 1 && answer.images == 1 && answer.rays == 36 && answer.bytes == 9 + 54);
+    CHECK(answer.count == 1 && answer.images == 1 && answer.rays == 36 && answer.bytes == 10 + 54);
     CHECK(biv_read(out, answer.bytes, taps, &answer) == BIV_NO_REFUSAL);
     CHECK(answer.count == 1 && taps[0].order == 1 && taps[0].number == 1 && taps[0].delay_samples == 699.300659f);
     CHECK(fabsf(taps[0].direction[0] + 0.6f) < 1e-6f && fabsf(taps[0].direction[1] + 0.8f) < 1e-6f && taps[0].direction[2] == 0.0f);
@@ -93,7 +93,7 @@ static void test_case_a(void)
     CHECK(trace(&q) == BIV_NO_REFUSAL && answer.images == 1);
     q = case_a();
     q.separated = true;
-    CHECK(trace(&q) == BIV_NO_REFUSAL && answer.images == 0 && answer.bytes == 9);
+    CHECK(trace(&q) == BIV_NO_REFUSAL && answer.images == 0 && answer.bytes == 10);
     q = case_a();
     q.listener[2] = NAN;
     CHECK(trace(&q) == BIV_NO_REFUSAL && answer.images == 0);
@@ -175,7 +175,7 @@ static void test_triples(void)
     CHECK(trace(&q) == BIV_TRIANGLES && nothing());
     meshes[1] = q.scene.indices_len = INDICES - 3;
     q.size = biv_block_size(biv_triples(&q.scene), q.c);
-    CHECK(q.size > 0 && trace(&q) == BIV_NO_REFUSAL && answer.count == 0 && answer.bytes == 9);
+    CHECK(q.size > 0 && trace(&q) == BIV_NO_REFUSAL && answer.count == 0 && answer.bytes == 10);
 }
 
 /* No meshes at all. */
@@ -185,7 +185,7 @@ static void test_nothing(void)
     struct query q = case_a();
     q.scene = none;
     q.size = biv_block_size(0, q.c);
-    CHECK(trace(&q) == BIV_NO_REFUSAL && answer.count == 0 && answer.images == 0 && answer.bytes == 9);
+    CHECK(trace(&q) == BIV_NO_REFUSAL && answer.count == 0 && answer.images == 0 && answer.bytes == 10);
 }
 
 /* The areas lie within the block, aligned, one behind the other, with the least lengths; whatever the block's own alignment. */
@@ -219,9 +219,9 @@ static void test_block(size_t triples, uint32_t c, size_t offset)
 static void test_packet(void)
 {
     struct query q = case_a();
-    struct biv_tap taps[BIV_MOST_TAPS], again[BIV_MOST_TAPS];
+    static struct biv_tap taps[BIV_MOST_TAPS], again[BIV_MOST_TAPS];
     struct biv_answer read, written;
-    uint8_t copy[BIV_OUTPUT_BYTES];
+    static uint8_t copy[BIV_OUTPUT_BYTES];
     memset(taps, 0x7e, sizeof taps);
     memset(again, 0x7e, sizeof again);
     CHECK(trace(&q) == BIV_NO_REFUSAL);
@@ -233,7 +233,7 @@ static void test_packet(void)
     CHECK(biv_read(out, answer.bytes - 1, again, &read) == BIV_BYTES && read.count == 0);
     CHECK(biv_read(NULL, 0, again, &read) == BIV_BYTES);
     CHECK(memcmp(taps + 1, again, sizeof taps[0]) == 0); /* nor after a refusal */
-    out[10] = 9; /* the order of the first tap */
+    out[11] = 9; /* the order of the first tap */
     CHECK(biv_read(out, answer.bytes, again, &read) == BIV_COUNTS);
     written.count = BIV_MOST_TAPS + 1;
     CHECK(biv_write(taps, &written, copy, sizeof copy) == BIV_COUNTS && written.bytes == 0);
@@ -247,6 +247,36 @@ static void test_packet(void)
     CHECK(biv_write(taps, &written, copy, sizeof copy) == BIV_TAP_ORDER);
     taps[1].number = 2;
     CHECK(biv_write(taps, &written, copy, sizeof copy) == BIV_NO_REFUSAL);
+}
+
+/* The count has two bytes, the lower first; a packet with a count of one byte, as it was before, is refused, empty or not. */
+static void test_count(void)
+{
+    static const size_t counts[7] = {64, 65, 255, 256, 257, BIV_MOST_TAPS - 1, BIV_MOST_TAPS};
+    static struct biv_tap taps[BIV_MOST_TAPS], again[BIV_MOST_TAPS];
+    static uint8_t packet[BIV_OUTPUT_BYTES];
+    struct biv_answer written, read;
+    for (uint32_t k = 0; k < BIV_MOST_TAPS; k++) {
+        const struct biv_tap tap = {1 + k % 8, k + 1, {0, -1, 0}, 750, {1, 1, 1, 1, 1, 1, 1, 1}};
+        taps[k] = tap;
+    }
+    for (int k = 0; k < 7; k++) {
+        const size_t n = counts[k];
+        written.count = n;
+        written.images = written.rays = BIV_MOST_TAPS;
+        CHECK(biv_write(taps, &written, packet, sizeof packet) == BIV_NO_REFUSAL && written.bytes == 10 + 54 * n);
+        CHECK(packet[0] == n % 256 && packet[1] == n / 256);
+        CHECK(biv_read(packet, written.bytes, again, &read) == BIV_NO_REFUSAL && read.count == n && memcmp(taps, again, n * sizeof *taps) == 0);
+        packet[0] ^= 1;
+        CHECK(biv_read(packet, written.bytes, again, &read) == BIV_BYTES);
+        packet[0] ^= 1;
+        memmove(packet + 1, packet + 2, written.bytes - 2);
+        CHECK(biv_read(packet, written.bytes - 1, again, &read) == BIV_BYTES);
+    }
+    memset(packet, 0, 10);
+    CHECK(biv_read(packet, 9, again, &read) == BIV_BYTES && biv_read(packet, 10, again, &read) == BIV_NO_REFUSAL && read.count == 0);
+    packet[0] = packet[1] = 0xff; /* bytes that are missing come before a count that is too large */
+    CHECK(biv_read(packet, 10, again, &read) == BIV_BYTES);
 }
 
 static bool walls_refused(const uint8_t *on, size_t planes, uint32_t order, uint32_t number)
@@ -366,7 +396,7 @@ static void test_planes(void)
 static void test_tap_walls(void)
 {
     struct query q = room();
-    struct biv_tap taps[BIV_MOST_TAPS];
+    static struct biv_tap taps[BIV_MOST_TAPS];
     CHECK(trace(&q) == BIV_NO_REFUSAL && answer.images == 186 && answer.count > 10);
     CHECK(biv_read(out, answer.bytes, taps, &answer) == BIV_NO_REFUSAL);
     CHECK(find_planes(&q) == BIV_NO_REFUSAL && plane_count == 6);
@@ -390,10 +420,29 @@ static void test_tap_walls(void)
     }
 }
 
+/* A room whose walls take nothing has more than 64 echoes at order 4; a list of 64 is the first of them. */
+static void test_long_list(void)
+{
+    static uint8_t all[BIV_OUTPUT_BYTES];
+    struct query q = room();
+    struct biv_answer longest;
+    for (size_t b = 0; b < BIV_BANDS; b++)
+        room_materials[b] = 0.0f;
+    q.settings.max_reflection_order = 4;
+    q.settings.max_reflection_distance = 1000.0f;
+    CHECK(trace(&q) == BIV_NO_REFUSAL && answer.images == 936 && answer.count > 100 && answer.bytes == 10 + 54 * answer.count);
+    CHECK(out[0] == answer.count % 256 && out[1] == answer.count / 256);
+    longest = answer;
+    memcpy(all, out, answer.bytes);
+    q.settings.max_reflections = 64;
+    CHECK(trace(&q) == BIV_NO_REFUSAL && answer.count == 64 && answer.images == longest.images && answer.rays == longest.rays);
+    CHECK(out[0] == 64 && out[1] == 0 && memcmp(out + 2, all + 2, answer.bytes - 2) == 0);
+}
+
 /* 5 m at 0.1 dB a metre are ten steps of 0.05 dB, of which the table leaves 15,838,713 parts of 2^24. Each band has its own. */
 static void test_air(void)
 {
-    struct biv_tap taps[BIV_MOST_TAPS];
+    static struct biv_tap taps[BIV_MOST_TAPS];
     struct query q = case_a();
     q.settings.air[3] = 100000;
     q.settings.air[6] = 1000000;
@@ -451,7 +500,7 @@ static struct query curtain(uint32_t sheets, float least_z)
 static void test_probes(void)
 {
     static const uint32_t limits[6] = {1, 2, 8, 9, 31, 32};
-    struct biv_tap taps[BIV_MOST_TAPS];
+    static struct biv_tap taps[BIV_MOST_TAPS];
     float gain;
     struct query q;
     for (int k = 0; k < 6; k++) {
@@ -533,9 +582,11 @@ int main(void)
     }
     test_block(BIV_MOST_TRIPLES, BIV_MOST_CANDIDATES, 1);
     test_packet();
+    test_count();
     test_walls();
     test_planes();
     test_tap_walls();
+    test_long_list();
     test_speeds();
     test_probes();
     test_air();

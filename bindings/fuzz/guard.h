@@ -68,12 +68,12 @@ static inline void *filled(struct guard *g, uint8_t byte, size_t size)
     return memset(area_of(g, size), byte, size);
 }
 
+/* Whether the bytes from one place to another are all the same byte: the first is, and each is as the one before it. memcmp takes a fraction of what a loop under
+ * the sanitizers does. */
 static inline bool all_are(const void *area, size_t from, size_t to, uint8_t byte)
 {
-    for (size_t k = from; k < to; k++)
-        if (((const uint8_t *)area)[k] != byte)
-            return false;
-    return true;
+    const uint8_t *at = (const uint8_t *)area + from;
+    return to <= from || (at[0] == byte && memcmp(at, at + 1, to - from - 1) == 0);
 }
 
 #endif

@@ -4,7 +4,7 @@
 #include "../c/recorded.h"
 #include "guard.h"
 
-enum { TRIPLES = 64, ROOM = 64, LONGEST = 4096 };
+enum { TRIPLES = 64, ROOM = 320, LONGEST = 4096 };
 
 static uint32_t word(const uint8_t *data, size_t k)
 {
@@ -66,7 +66,7 @@ size_t LLVMFuzzerCustomMutator(uint8_t *data, size_t size, size_t most, unsigned
 /* Orders that end in time: few images where there are many triangles. */
 static uint32_t order(uint32_t asked, size_t triples)
 {
-    uint32_t most = triples <= 2 ? 8 : triples <= 12 ? 3 : 2;
+    uint32_t most = triples <= 2 ? 8 : triples <= 12 ? 4 : triples <= 18 ? 3 : 2; /* 4 in a hard room: 128 taps */
     return asked <= most ? asked : asked % (most + 1);
 }
 
@@ -139,7 +139,7 @@ int LLVMFuzzerTestOneInput(const uint8_t *data, size_t size)
             must(found[0] == 0 && found[1] == 0 && found[2] == 0 && found[3] == 0, "no counts after a refusal");
             must(all_are(out, 0, room[19], fill), "the output as it was after a refusal");
         } else {
-            struct biv_tap taps[BIV_MOST_TAPS];
+            static struct biv_tap taps[BIV_MOST_TAPS];
             struct biv_answer a;
             must(found[3] <= room[19] && all_are(out, found[3], room[19], fill), "nothing past the packet");
             must(biv_read(out, found[3], taps, &a) == BIV_NO_REFUSAL, "a packet that the reader takes");

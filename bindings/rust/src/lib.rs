@@ -32,7 +32,8 @@ pub mod ffi;
 
 use std::fmt;
 
-/// The version of this crate, which is that of the header (`BIV_VERSION`).
+/// The version of this crate, which is that of the header (`BIV_VERSION`). A packet's count has two bytes since 0.3, and 0.3 refuses a packet of 0.2 with
+/// [`Refusal::Bytes`], as 0.2 does one of 0.3.
 pub const VERSION: &str = env!("CARGO_PKG_VERSION");
 /// Bands of a gain, an absorption, a transmission: octaves around 62.5, 125, 250, 500, 1,000, 2,000, 4,000 and 8,000 Hz.
 pub const BANDS: usize = 8;
@@ -50,9 +51,9 @@ pub const MOST_CROSSINGS: u32 = 32;
 /// ([`Packet::stopped_at_limit`]): all are visited up to 63 planes at order 3, 22 at 4, 12 at 5, 8 at 6, 6 at 7 and 5 at 8.
 pub const MOST_IMAGES: u32 = 250_000;
 /// Taps of a packet, at most.
-pub const MOST_TAPS: usize = 64;
-/// Bytes of a packet, at most: 9, and 54 for each of 64 taps.
-pub const OUTPUT_BYTES: usize = 3465;
+pub const MOST_TAPS: usize = 1024;
+/// Bytes of a packet, at most: 10, and 54 for each of 1,024 taps.
+pub const OUTPUT_BYTES: usize = 55_306;
 
 /// Why a query, a packet, an image's number or a forecast is refused; of several reasons the first in this order.
 #[derive(Clone, Copy, Debug, PartialEq, Eq, PartialOrd, Ord, Hash)]
@@ -153,7 +154,7 @@ pub struct DistanceModel {
 pub struct Settings {
     /// Bounces of an echo. Any; used as at most 8.
     pub max_reflection_order: u32,
-    /// Taps of the list. Any; used as at most 64.
+    /// Taps of the list. Any; used as at most 1,024.
     pub max_reflections: u32,
     /// 0 to 256: the most important ones reflect, all others only block.
     pub max_reflection_planes: u32,
@@ -440,7 +441,8 @@ impl Packet {
 
     /// Reads a packet: refusals 8 to 11.
     pub fn read(bytes: &[u8]) -> Result<Packet, Refusal> {
-        let (mut words, mut found) = ([0u32; ffi::TAP_WORDS * MOST_TAPS], [0usize; 3]);
+        // 57 KB, too much for a small stack
+        let (mut words, mut found) = (vec![0u32; ffi::TAP_WORDS * MOST_TAPS], [0usize; 3]);
         // SAFETY: each pointer goes with its own length, and the `&mut` areas are distinct.
         Refusal::check(unsafe { ffi::biv_packet_read(bytes.as_ptr(), bytes.len(), words.as_mut_ptr(), words.len(), &mut found) })?;
         let taps = words.chunks_exact(ffi::TAP_WORDS).take(found[0]).map(Tap::from_words).collect();
@@ -454,7 +456,7 @@ impl Packet {
     /// let tap = Tap { order: 1, number: 1, direction: [0.0, -1.0, 0.0], delay_samples: 750.0, gains: [0.5, 0.0, 0.0, 0.0, 0.0, 0.0, 0.0, 0.25] };
     /// let packet = Packet { images: 1, rays: 36, taps: vec![tap] };
     /// let bytes = packet.write()?;
-    /// assert_eq!(bytes.len(), 9 + 22 + 2 * 4);
+    /// assert_eq!(bytes.len(), 10 + 22 + 2 * 4);
     /// assert_eq!(Packet::read(&bytes)?, packet);
     /// assert_eq!(Packet::read(&bytes[..20]), Err(Refusal::Bytes));
     /// # Ok::<(), Refusal>(())
@@ -463,7 +465,7 @@ impl Packet {
         let mut words: Vec<u32> = self.taps.iter().take(MOST_TAPS).flat_map(Tap::words).collect();
         words.resize(ffi::TAP_WORDS * MOST_TAPS, 0);
         let (mut out, mut found) = (vec![0u8; OUTPUT_BYTES], [0usize; 1]);
-        // SAFETY: as for `read`; more than 64 taps are refused.
+        // SAFETY: as for `read`; more than `MOST_TAPS` taps are refused.
         Refusal::check(unsafe {
             ffi::biv_packet_write(self.taps.len(), self.images, self.rays, words.as_ptr(), words.len(), out.as_mut_ptr(), out.len(), &mut found)
         })?;

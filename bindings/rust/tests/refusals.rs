@@ -102,7 +102,7 @@ fn a_workspace_is_used_again() {
         match k % 4 {
             0 => assert_eq!(trace_early_reflections(&s, &far, SOURCE, LISTENER, false, &mut w), Err(Refusal::Far)),
             1 => assert_eq!(trace_early_reflections(&s, &large, SOURCE, LISTENER, false, &mut w), alone),
-            2 => assert_eq!(trace_packet(&s, &floor, SOURCE, LISTENER, true, &mut w).map(<[u8]>::len), Ok(9)),
+            2 => assert_eq!(trace_packet(&s, &floor, SOURCE, LISTENER, true, &mut w).map(<[u8]>::len), Ok(10)),
             _ => assert_eq!(trace_early_reflections(&s, &floor, SOURCE, LISTENER, false, &mut w), alone),
         }
     }
@@ -126,12 +126,16 @@ fn tap(number: u32, gain: f32) -> Tap {
 
 #[test]
 fn packets_are_read_as_written() {
-    for n in [0, 1, 2, MOST_TAPS] {
+    for n in [0, 1, 2, 64, 65, 255, 256, 257, MOST_TAPS - 1, MOST_TAPS] {
         let taps: Vec<Tap> = (0..n).map(|k| tap(k as u32 + 1, 1.0 / (k + 1) as f32)).collect();
         let p = Packet { images: n as u32, rays: u32::MAX, taps };
         let bytes = p.write().unwrap();
-        assert_eq!(bytes.len(), 9 + 54 * n);
+        assert_eq!(bytes.len(), 10 + 54 * n);
+        assert_eq!(bytes[..2], (n as u16).to_le_bytes());
         assert_eq!(Packet::read(&bytes).unwrap(), p);
+        // with a count of one byte, as it was before
+        let old: Vec<u8> = bytes[..1].iter().chain(&bytes[2..]).copied().collect();
+        assert_eq!(Packet::read(&old), Err(Refusal::Bytes));
     }
 }
 
@@ -139,7 +143,8 @@ fn packets_are_read_as_written() {
 fn packets_are_refused() {
     let of = |images, taps| Packet { images, rays: 0, taps };
     let written = |p: Packet| p.write().map(|_| ());
-    assert_eq!(written(of(64, (1..=65).map(|k| tap(k, 1.0)).collect())), Err(Refusal::Counts));
+    let most = MOST_TAPS as u32;
+    assert_eq!(written(of(most + 1, (1..=most + 1).map(|k| tap(k, 1.0)).collect())), Err(Refusal::Counts));
     assert_eq!(written(of(250_001, vec![])), Err(Refusal::Counts));
     assert_eq!(written(of(1, vec![tap(2, 1.0)])), Err(Refusal::Counts));
     assert_eq!(written(of(1, vec![tap(1, f32::NAN)])), Err(Refusal::Numbers));
@@ -153,7 +158,7 @@ fn packets_are_refused() {
     bytes.push(0);
     assert_eq!(Packet::read(&bytes), Err(Refusal::Bytes));
     bytes.pop();
-    bytes[10] = 0; // the order of the first tap
+    bytes[11] = 0; // the order of the first tap
     assert_eq!(Packet::read(&bytes), Err(Refusal::Counts));
 }
 

@@ -81,5 +81,5 @@ fn recorded_queries() {
         }
         cases += 1;
     }
-    assert_eq!(cases, 155);
+    assert_eq!(cases, 161);
 }

@@ -1,5 +1,5 @@
 //! The walls of images by their numbers: against a walk over all of them, what is refused, and those of a query's taps.
-use bivelondry::{find_walls, planes, speed_of_sound, trace_early_reflections, walls, Material, Mesh, Plane, Refusal, Scene, Settings, Workspace, MOST_IMAGES, MOST_ORDER, MOST_PLANES};
+use bivelondry::{find_walls, planes, speed_of_sound, trace_early_reflections, walls, Material, Mesh, Packet, Plane, Refusal, Scene, Settings, Workspace, MOST_IMAGES, MOST_ORDER, MOST_PLANES, MOST_TAPS};
 
 /// The allowed sequences that go on from `s`, in their order.
 fn listed(on: &[bool], order: usize, s: &mut Vec<u8>, all: &mut Vec<Vec<u8>>) {
@@ -73,7 +73,7 @@ fn mirrored(p: &Plane, x: [f32; 3]) -> [f32; 3] {
 /// The source mirrored in the walls of a tap, one after the other, is the image: the tap's delay and direction are those of its distance.
 #[test]
 fn the_walls_of_each_tap_mirror_the_source() {
-    let settings = Settings { max_reflections: 64, ..Settings::default() };
+    let settings = Settings { max_reflections: MOST_TAPS as u32, ..Settings::default() };
     let (scene, source, listener) = (room(), [2.0, 1.2, 2.5], [6.0, 1.7, 3.4]);
     let mut workspace = Workspace::new(256);
     let packet = trace_early_reflections(&settings, &scene, source, listener, false, &mut workspace).expect("a result");
@@ -89,6 +89,20 @@ fn the_walls_of_each_tap_mirror_the_source() {
         assert!((length / speed_of_sound(settings.temperature_celsius) * settings.sample_rate - tap.delay_samples).abs() < 0.05);
         assert!(way.iter().zip(tap.direction).all(|(w, d)| (w / length - d).abs() < 1e-4));
     }
+}
+
+/// A room whose walls take nothing has more than 64 echoes at order 4; a list of 64 is the first of them.
+#[test]
+fn a_hard_room_has_more_than_64_taps() {
+    let mut settings = Settings { max_reflection_order: 4, max_reflections: u32::MAX, max_reflection_distance: 1000.0, ..Settings::default() };
+    let (mut scene, source, listener) = (room(), [2.0, 1.2, 2.5], [6.0, 1.7, 3.4]);
+    scene.materials.fill(0.0);
+    let mut workspace = Workspace::new(256);
+    let all = trace_early_reflections(&settings, &scene, source, listener, false, &mut workspace).expect("a result");
+    assert!(all.taps.len() > 100, "{} taps", all.taps.len());
+    settings.max_reflections = 64;
+    let first = trace_early_reflections(&settings, &scene, source, listener, false, &mut workspace).expect("a result");
+    assert_eq!(first, Packet { taps: all.taps[..64].to_vec(), ..all });
 }
 
 /// The workspace of a call for the planes is as good for a query as a fresh one, and the planes are the same again.

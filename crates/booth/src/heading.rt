@@ -6,7 +6,7 @@ use crate::table::print_float;
 
 // The version of the product. include/bivelondry.h has it too, and bindings/installed.sh compares them.
 fn print_version() {
-    print(b"0.2.0");
+    print(b"0.3.0");
 }
 
 // The token after `case`.

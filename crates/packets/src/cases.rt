@@ -10,29 +10,29 @@ const FILL: u32 = 0x5a5a5a5a;
 const FILL_BYTE: u8 = 0x5a;
 
 // The parts of an area that a case may lend, and the longest packet of a case.
-const WORDS: usize = 900;
+const WORDS: usize = 14340;
 
-const BYTES: usize = 3500;
+const BYTES: usize = 55340;
 
-const LONGEST: usize = 5619;
+const LONGEST: usize = 55306;
 
 // A tap area before a call.
 fn fresh_words() -> [u32; WORDS]
-    ensures { λ r. ⌜ length r ≡ 900 ⌝ }
+    ensures { λ r. ⌜ length r ≡ 14340 ⌝ }
 {
     [FILL; WORDS]
 }
 
 // An output area before a call.
 fn fresh_bytes() -> [u8; BYTES]
-    ensures { λ r. ⌜ length r ≡ 3500 ⌝ }
+    ensures { λ r. ⌜ length r ≡ 55340 ⌝ }
 {
     [FILL_BYTE; BYTES]
 }
 
 // Zeros, to which the start of a packet is stored.
 fn zeros() -> [u8; LONGEST]
-    ensures { λ r. ⌜ length r ≡ 5619 ⌝ }
+    ensures { λ r. ⌜ length r ≡ 55306 ⌝ }
 {
     [0u8; LONGEST]
 }

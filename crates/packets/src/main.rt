@@ -72,8 +72,13 @@ fn run(all: &[u8]) {
     print_counts(read, written, differ);
 }
 
+// Room for all of standard input.
+fn room() -> [u8; 400_000] {
+    [0u8; 400_000]
+}
+
 fn main() {
-    let mut buf = io::large_buffer();
+    let mut buf = room();
     let n = io::read_full(0, &mut buf);
     run(&buf[..n]);
 }

@@ -199,6 +199,17 @@ fn hall(sheets: usize) -> Case {
     Case { name, settings: Settings { room: 0, ..Settings::default() }, materials: vec![row], meshes: vec![m], source: [-2.3, 1.1, 0.4], listener: [2.6, 1.6, -0.7], separated: false }
 }
 
+/// The room with walls that take nothing and two sheets above each other: more taps than a list holds.
+fn hard(taps: u32) -> Case {
+    let mut c = hall(0);
+    for y in [1.3, 2.2] {
+        quad(&mut c.meshes[0], [-4.0, y, -3.0], [8.0, 0.0, 0.0], [0.0, 0.0, 6.0]);
+    }
+    c.materials = vec![Row { absorption: [0.0; 8], transmission: [0.9; 8] }];
+    c.settings = Settings { order: 6, max_reflections: taps, max_distance: 1000.0, room: 4096, ..c.settings };
+    c
+}
+
 fn grid(m: &mut Mesh, at: [f32; 3], u: [f32; 3], w: [f32; 3], a: usize, b: usize) {
     let part = |v: [f32; 3], n: usize| v.map(|x| x / n as f32);
     let (u, w) = (part(u, a), part(w, b));
@@ -384,40 +395,43 @@ fn queries() {
 
 fn rankings() {
     let mut r = Random::new(11);
-    // the Rust compares each candidate with all kept ones, so that many distinct ones take it minutes
-    for (n, values) in [(100, 1000), (2000, 1000), (250_000, 4)] {
+    // the Rust compares each candidate with all kept ones before it cuts, so that many distinct ones take it minutes
+    for (n, values, limit, count) in [(100, 1000, 64, ROUNDS), (100, 1000, TAPS, ROUNDS), (2000, 1000, 64, ROUNDS), (2000, 1000, TAPS, ROUNDS), (250_000, 4, TAPS, ROUNDS), (250_000, 12, 64, 3), (250_000, 12, TAPS, 3)] {
         let found = ranking::list(&mut r, n, values);
-        let (mut rows, config, mut out) = (ranking::rows(&found), ranking::config(343.2, 48_000.0, TAPS), vec![0; TAPS]);
+        let (mut rows, config, mut out) = (ranking::rows(&found), ranking::config(343.2, 48_000.0, limit), vec![0; limit]);
         let kept = rows.rank(343.2, 48_000.0, &mut out);
         let same: Vec<u32> = out[..kept].iter().map(|&p| p + 1).collect();
         assert_eq!(same, oracle_rank(&found, &config));
         let sets = (20_000 / n).max(1);
-        let (p, q) = both(
+        let (p, q) = rounds(
+            count,
             || (),
             |_| (0..sets).for_each(|_| { black_box(rows.rank(343.2, 48_000.0, &mut out)); }),
             |_| (0..sets).for_each(|_| { black_box(oracle_rank(&found, &config)); }),
         );
-        line(&format!("rank_reflections, {n} from {values} values"), p / sets as f64, q / sets as f64);
+        line(&format!("rank_reflections, {n} from {values} values, {kept} kept"), p / sets as f64, q / sets as f64);
     }
 }
 
 fn packets() {
-    let mut taps = vec![0u32; TAPS * TAP_WORDS];
-    for (k, t) in taps.chunks_exact_mut(TAP_WORDS).enumerate() {
-        let gain = (1.0 - k as f32 / 100.0).to_bits();
-        t[..6].copy_from_slice(&[1 + k as u32 % 8, 1 + k as u32, 0x3f19_999a, 0x3f4c_cccd, 0, 0x443b_8000]);
-        t[6..].fill(gain);
+    for count in [1, 64, TAPS] {
+        let mut taps = vec![0u32; TAPS * TAP_WORDS];
+        for (k, t) in taps.chunks_exact_mut(TAP_WORDS).take(count).enumerate() {
+            let gain = (1.0 - k as f32 / 2000.0).to_bits();
+            t[..6].copy_from_slice(&[1 + k as u32 % 8, 1 + k as u32, 0x3f19_999a, 0x3f4c_cccd, 0, 0x443b_8000]);
+            t[6..].fill(gain);
+        }
+        let mut out = vec![0u8; OUTPUT];
+        let len = port::packet_write(count, 2000, 36, &taps, &mut out).expect("a packet");
+        let mut back = vec![0u32; TAPS * TAP_WORDS];
+        assert_eq!(port::packet_read(&out[..len], &mut back).map(|r| r.count), Ok(count));
+        assert_eq!(back, taps);
+        let (w, _) = both(|| (), |_| (0..100).for_each(|_| { black_box(port::packet_write(count, 2000, 36, &taps, &mut out).is_ok()); }), |_| ());
+        let packet = out[..len].to_vec();
+        let (r, _) = both(|| (), |_| (0..100).for_each(|_| { black_box(port::packet_read(&packet, &mut back).is_ok()); }), |_| ());
+        let rate = |ns: f64| len as f64 * 100.0 / ns * 1e3;
+        println!("packet of {count} taps, {len} bytes: written at {:.0} MB/s ({:.2} us), read at {:.0} MB/s ({:.2} us)", rate(w), w / 1e5, rate(r), r / 1e5);
     }
-    let mut out = vec![0u8; OUTPUT];
-    let len = port::packet_write(TAPS, 1000, 36, &taps, &mut out).expect("a packet");
-    let mut back = vec![0u32; TAPS * TAP_WORDS];
-    assert_eq!(port::packet_read(&out[..len], &mut back).map(|r| r.count), Ok(TAPS));
-    assert_eq!(back, taps);
-    let (w, _) = both(|| (), |_| (0..100).for_each(|_| { black_box(port::packet_write(TAPS, 1000, 36, &taps, &mut out).is_ok()); }), |_| ());
-    let packet = out[..len].to_vec();
-    let (r, _) = both(|| (), |_| (0..100).for_each(|_| { black_box(port::packet_read(&packet, &mut back).is_ok()); }), |_| ());
-    let rate = |ns: f64| len as f64 * 100.0 / ns * 1e3;
-    println!("packet of {TAPS} taps, {len} bytes: written at {:.0} MB/s ({:.2} us), read at {:.0} MB/s ({:.2} us)", rate(w), w / 1e5, rate(r), r / 1e5);
 }
 
 /// From a number to its walls, a thousand calls a round.
@@ -440,6 +454,7 @@ fn calls() {
         ("booth, order 8", with(hall(0), 8, 4096)), ("booth, order 8", with(hall(0), 8, 250_000)), ("500 random triangles, order 1", with(soup(500), 1, 4096)),
         ("4096 random triangles, order 1", with(soup(4096), 1, 4096)), ("booth, order 3", with(hall(0), 3, 4096)),
         ("booth with air, order 3", damped(with(hall(0), 3, 4096))), ("booth with air, order 8", damped(with(hall(0), 8, 4096))),
+        ("hard booth, order 6", hard(64)), ("hard booth, order 6", hard(TAPS as u32)),
     ] {
         let (l, backend) = (lent(&c), oracle::built(&c, false));
         let theirs = oracle::run_built(&c, &backend);

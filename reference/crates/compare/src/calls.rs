@@ -1,12 +1,13 @@
 //! The whole call against the Rust: from the scene's parts to the packet, with refusals 1 to 7, and what is left in the areas.
 use crate::front::{self, Damage};
-use oracle::{Case, Output};
+use crate::scenes::LISTS;
+use oracle::{Case, Output, Overrides};
 use port::{Lent, Traced, Work, OUTPUT, TAPS, TAP_WORDS};
 use quasar_backends::cpu_simd::CpuSimdComputeBackend;
 
 /// Scenes of more than so many planes with more images than this are left out: the Rust takes seconds.
 const MOST_IMAGES: usize = 20_000;
-const FEW_PLANES: usize = 7;
+const FEW_PLANES: usize = 9;
 
 /// The candidate room that a case has where it says nothing. Areas of that length take 22 MB, so that most calls have room for the candidates alone.
 const UNSAID: u32 = 250_000;
@@ -33,6 +34,8 @@ pub struct Called {
     pub deep: u64,
     pub most_taps: u64,
     pub most_images: u64,
+    /// Results with more than 64 taps, more than 255, as many as a list holds, and those of them that more candidates stood for.
+    pub long: [u64; 4],
     /// Cases left out.
     pub left_out: u64,
 }
@@ -40,6 +43,7 @@ pub struct Called {
 impl Called {
     pub fn add(&mut self, c: Called) {
         self.refusals.iter_mut().zip(c.refusals).for_each(|(a, b)| *a += b);
+        self.long.iter_mut().zip(c.long).for_each(|(a, b)| *a += b);
         self.calls += c.calls;
         self.images += c.images;
         self.taps += c.taps;
@@ -73,7 +77,7 @@ fn slip(left: &mut Left, kind: usize) -> bool {
     let a = &mut left.answer;
     match kind {
         0 => a.refusal = (a.refusal + 1) % 8,
-        1 if a.bytes > 9 => left.out[a.bytes - 1] ^= 1,
+        1 if a.bytes > 10 => left.out[a.bytes - 1] ^= 1,
         2 if left.out.len() > a.bytes => left.out[a.bytes] ^= 1,
         3 if !left.work.adjacency.is_empty() => left.work.adjacency[0] ^= 1,
         4 => a.rays += 1,
@@ -205,6 +209,26 @@ fn refused(c: &Case, d: Damage, planted: Option<usize>, refusal: u32) -> Option<
     Some(done.map(|()| called))
 }
 
+/// The list's limit in the published Rust.
+const PUBLISHED: usize = 64;
+
+/// How long a list of the Rust is, as `Called::long` counts it; the list that it keeps with its own limit must be the first of this one (02, note 7).
+fn long(c: &Case, theirs: &Output) -> Result<[u64; 4], String> {
+    let n = theirs.taps.len();
+    if n <= PUBLISHED {
+        return Ok([0; 4]);
+    }
+    let mut backend = oracle::unbuilt(c, false, &Overrides { max_paths: PUBLISHED });
+    backend.build_bvh();
+    let (old, mut first) = (oracle::run_built(c, &backend), theirs.clone());
+    first.taps.truncate(PUBLISHED);
+    first.numbers.truncate(PUBLISHED);
+    if old.numbers != first.numbers || old.packet() != first.packet() {
+        return Err("the list of 64 of the published Rust is not the first of the long one".to_string());
+    }
+    Ok([1, (n > 255) as u64, (n == TAPS) as u64, (n == TAPS && theirs.log.cut_off > 0) as u64])
+}
+
 /// What the names of cases of greatest order end with.
 const DEEP: &str = "-deep";
 
@@ -213,7 +237,7 @@ fn deeper(c: &Case) -> Case {
     let mut deep = Case { name: format!("{}{DEEP}", c.name), ..c.clone() };
     let n = (number(c) / 16) as usize;
     deep.settings.order = [7, 8, 9, u32::MAX][n % 4];
-    deep.settings.max_reflections = [63, 64, 65, u32::MAX, 1][n / 4 % 5];
+    deep.settings.max_reflections = LISTS[n / 4 % LISTS.len()];
     deep
 }
 
@@ -240,6 +264,12 @@ pub fn run(c: &Case, d: Damage, backend: Option<&CpuSimdComputeBackend>, planted
         let e = if theirs.candidates > room { Expected { refusal: 7, output: None } } else { Expected { refusal: 0, output: Some(&theirs) } };
         if let Err(words) = call(c, &lent, d, &e, planted, &mut called)? {
             return Some(Err(words));
+        }
+    }
+    if planted.is_none() {
+        match long(c, &theirs) {
+            Ok(n) => called.long = n,
+            Err(words) => return Some(Err(words)),
         }
     }
     if planted.is_none() && planes <= FEW_PLANES && number(c) % 16 == 1 && !c.name.ends_with(DEEP) {

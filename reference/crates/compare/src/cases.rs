@@ -7,7 +7,7 @@ use crate::taps::{self, Heard};
 use crate::scenes::{self, Kind, KINDS};
 use crate::tree::{self, Traced};
 use oracle::Case;
-use port::Loaded;
+use port::{Loaded, TAPS};
 use std::collections::BTreeMap;
 
 /// What the cases covered.
@@ -98,6 +98,8 @@ impl Coverage {
         let w = &self.called;
         println!("  whole calls: {}, {} of them with room for 250,000, {} with longer areas; {} results, {} silent, {} images, {} taps", w.calls, w.wide, w.longer, w.packets, w.silent, w.images, w.taps);
         println!("    of order 7 and more: {}; at most {} images and {} taps in a result", w.deep, w.most_images, w.most_taps);
+        let [old, byte, full, cut] = w.long;
+        println!("    with more than 64 taps: {old}, of which the Rust with its own limit keeps the first 64; more than 255: {byte}; {TAPS}: {full}, {cut} of them cut from more");
         println!("    packets: {}, {} of them with the bytes of the Rust's taps; refusals 1 to 7: {:?}; {} cases left out", w.packets, w.bytes, &w.refusals[1..], w.left_out);
         let w = &self.walked;
         println!("  paths: {}, {} rays", w.fates.iter().sum::<u64>(), w.rays);
@@ -256,7 +258,7 @@ pub fn generated(count: u64, seed: u64) {
     let mut cover = Coverage::default();
     for k in 0..count {
         let kind = KINDS[k as usize % KINDS.len()];
-        check(&scenes::probed(kind, seed.wrapping_mul(1_000_003) + k), &mut cover);
+        check(&scenes::listed(kind, seed.wrapping_mul(1_000_003) + k), &mut cover);
         *cover.kinds.entry(kind).or_default() += 1;
         if (k + 1) % (count / 4).max(1) == 0 {
             println!("{} of {count} cases equal, {:.1} s", k + 1, start.elapsed().as_secs_f32());
@@ -286,7 +288,7 @@ pub fn files(names: &[&str]) {
 pub fn slips(count: u64, seed: u64) {
     let (mut planted, mut missed) = (0, 0);
     for k in 0..count {
-        let c = scenes::probed(KINDS[k as usize % KINDS.len()], seed.wrapping_mul(1_000_003) + k);
+        let c = scenes::listed(KINDS[k as usize % KINDS.len()], seed.wrapping_mul(1_000_003) + k);
         for s in 0..SLIPS {
             match stages(&c, Damage::None, Some(s)) {
                 Some(Err(_)) => planted += 1,

@@ -6,6 +6,7 @@ pub mod differences;
 pub mod front;
 pub mod lists;
 pub mod numbers;
+pub mod packets;
 pub mod paths;
 pub mod planes;
 pub mod random;

@@ -2,25 +2,31 @@
 //! calls are refused alike or neither is.
 use crate::calls;
 use crate::front::{self, Damage};
-use crate::scenes::{self, KINDS};
+use crate::scenes::{self, Kind, KINDS};
 use oracle::Case;
 use port::{Traced, Work, OUTPUT, TAPS};
 
-/// Lengths beyond the list's limit.
-const BEYOND: [u32; 5] = [TAPS as u32 + 1, TAPS as u32 + 2, 1024, 65_536, u32::MAX];
+/// Every length up to this where a search is short, and those that are tried of every list.
+const EVERY: u32 = 64;
+const SOME: [u32; 22] = [0, 1, 2, 16, 63, 64, 65, 128, 254, 255, 256, 257, 300, 511, 512, 513, 1022, 1023, 1024, 1025, 65_536, u32::MAX];
+
+/// Orders above this are no short search; those of hard rooms are at most the other, since a scene is searched at every length.
+const SHORT: u32 = 3;
+const HARD: u32 = 5;
 
 /// The place of the columns among the areas.
 const COLUMNS: usize = 0;
 
-/// Bytes of a packet before its taps: count, images and rays.
-const HEAD: usize = 9;
+/// Bytes of a packet's count, and of all before its taps: count, images and rays.
+const COUNT: usize = 2;
+const HEAD: usize = 10;
 
 /// What was held against each other.
 #[derive(Default)]
 struct Held {
     lists: u64,
     taps: u64,
-    full: u64,
+    long: [u64; 3],
     refused: [u64; 8],
     slips: u64,
     left_out: u64,
@@ -61,7 +67,7 @@ fn difference(a: u32, short: &Printout, long: &Printout) -> Option<String> {
         return (short.out.iter().enumerate().any(|(k, &x)| x != pattern(k))).then(|| "the output was written".to_string());
     }
     let (p, q) = (&short.out[..s.bytes], &long.out[..l.bytes]);
-    if p[0] as usize != s.count || p[1..HEAD] != q[1..HEAD] || p.len() > q.len() || p[HEAD..] != q[HEAD..p.len()] {
+    if p[..COUNT] != (s.count as u16).to_le_bytes() || p[COUNT..HEAD] != q[COUNT..HEAD] || p.len() > q.len() || p[HEAD..] != q[HEAD..p.len()] {
         return Some("the short packet's taps are not the first of the long one's".to_string());
     }
     (s.count == l.count && p != q).then(|| "as many taps, but other bytes".to_string())
@@ -76,7 +82,7 @@ fn slipped(c: &Case, room: u32, a: u32, long: &Printout, work: &mut Work) -> Opt
     let one = call(c, room, Damage::None, 1, work);
     let mut out = more.out.clone();
     out.drain(HEAD..one.answer.bytes);
-    out[0] = a as u8;
+    out[..COUNT].copy_from_slice(&(a as u16).to_le_bytes());
     let answer = Traced { count: a as usize, bytes: more.answer.bytes - (one.answer.bytes - HEAD), ..more.answer };
     Some(Printout { answer, out })
 }
@@ -88,7 +94,10 @@ fn check(c: &Case, room: u32, d: Damage, held: &mut Held) -> Result<(), String> 
     if let Damage::Area(i) = d {
         work.cut(i);
     }
-    let lengths: Vec<u32> = (0..=TAPS as u32).chain(BEYOND).collect();
+    let every = if c.settings.order <= SHORT { 0..EVERY + 1 } else { 0..0 };
+    let mut lengths: Vec<u32> = every.chain(SOME).collect();
+    lengths.sort();
+    lengths.dedup();
     let all: Vec<Printout> = lengths.iter().map(|&a| call(c, room, d, a, &mut work)).collect();
     let long = all.last().expect("a list");
     for (j, (&a, short)) in lengths.iter().zip(&all).enumerate() {
@@ -108,7 +117,7 @@ fn check(c: &Case, room: u32, d: Damage, held: &mut Held) -> Result<(), String> 
     }
     held.lists += all.len() as u64;
     held.taps += long.answer.count as u64;
-    held.full += (long.answer.count == TAPS) as u64;
+    [64, 255, TAPS - 1].iter().zip(&mut held.long).for_each(|(&n, all)| *all += (long.answer.count > n) as u64);
     held.refused[long.answer.refusal as usize] += 1;
     Ok(())
 }
@@ -137,9 +146,13 @@ fn scene(c: &Case, held: &mut Held) -> Result<(), String> {
 pub fn run(count: u64, seed: u64) {
     let (start, mut held) = (std::time::Instant::now(), Held::default());
     for k in 0..count {
-        let mut c = scenes::case(KINDS[k as usize % KINDS.len()], seed.wrapping_mul(1_000_003) + k);
+        let kind = KINDS[k as usize % KINDS.len()];
+        let mut c = scenes::case(kind, seed.wrapping_mul(1_000_003) + k);
         if k / KINDS.len() as u64 % 2 == 1 {
             c.settings.order = c.settings.order.max(3);
+        }
+        if kind == Kind::Hard {
+            c.settings.order = c.settings.order.min(HARD);
         }
         if let Err(words) = scene(&c, &mut held) {
             eprintln!("compare: {}: {words}", c.name);
@@ -147,6 +160,8 @@ pub fn run(count: u64, seed: u64) {
         }
     }
     println!("{} lists of {count} scenes, each the first of every longer one, in {:.1} s", held.lists, start.elapsed().as_secs_f32());
-    println!("  taps of the longest lists: {}, {} lists full; answered and refused 1 to 7: {:?}; {} scenes left out", held.taps, held.full, held.refused, held.left_out);
+    let [old, byte, full] = held.long;
+    println!("  taps of the longest lists: {}; with more than 64: {old}, more than 255: {byte}, {TAPS}: {full}", held.taps);
+    println!("  answered and refused 1 to 7: {:?}; {} scenes left out", held.refused, held.left_out);
     println!("  {} lists without their best tap, all told from sound ones", held.slips);
 }

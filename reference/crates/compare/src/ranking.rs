@@ -39,11 +39,11 @@ pub fn config(speed: f32, rate: f32, limit: usize) -> CpuSimdConfig {
 
 pub fn run(count: u64, seed: u64) {
     let mut r = Random::new(seed);
-    let (mut candidates, mut kept, mut most) = (0, 0, 0);
+    let (mut candidates, mut kept, mut most, mut long) = (0, 0, 0, [0; 3]);
     for k in 0..count {
-        let n = [0, 1, 2, 20, 200, 2000][r.below(6)];
+        let n = [0, 1, 2, 20, 200, 2000, 5000][r.below(7)];
         let values = [1, 3, 12, 500][r.below(4)];
-        let limit = [0, 1, 8, 64][r.below(4)];
+        let limit = [0, 1, 8, 64, 65, 255, 256, 257, 1023, 1024][r.below(10)];
         let (speed, rate) = (oracle::speed_of_sound(r.from(-20.0, 50.0)), r.from(8000.0, 192_000.0));
         let found = list(&mut r, n, values);
         let mut out = vec![0; limit];
@@ -57,6 +57,7 @@ pub fn run(count: u64, seed: u64) {
         candidates += n;
         kept += len;
         most = most.max(len);
+        [64, 255, 1023].iter().zip(&mut long).for_each(|(&n, all)| *all += (len > n) as u64);
     }
-    println!("equal on {count} lists: {candidates} candidates, {kept} kept, at most {most} of a list");
+    println!("equal on {count} lists: {candidates} candidates, {kept} kept, at most {most} of a list; lists of more than 64, 255 and 1,023: {long:?}");
 }

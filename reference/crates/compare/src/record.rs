@@ -6,12 +6,18 @@ use std::fmt::Write;
 
 /// What the areas and lines of `replay` hold.
 const TRIPLES: usize = 64;
-const ROOM: u32 = 64;
-const WORDS: usize = 2048;
+const ROOM: u32 = 320;
+const WORDS: usize = 8192;
 
-/// At most so many words for a generated case beside its settings, and so many images, so that the sample stays small and quick.
+/// Candidates, words of a line and images of a case, at most, so that the sample stays small and quick; a case of long lists has room for all that
+/// `replay` holds. Of a generated case SHORT words beside its settings.
+const FEW: u32 = 64;
+const LINE: usize = 2048;
 const SHORT: usize = 404;
 const IMAGES: u32 = 20_000;
+
+/// Taps of the cases of long lists: at and around the limit of the published Rust and that of one byte, and more.
+const LONG: [(usize, usize); 6] = [(65, 65), (66, 200), (254, 255), (256, 256), (257, 270), (271, 300)];
 
 /// The room that a case has where it says nothing.
 const UNSAID: u32 = 250_000;
@@ -37,9 +43,9 @@ fn parts(c: &Case, o: &Output) -> Vec<Vec<u32>> {
     vec![head, l.meshes, bits(&l.transforms).collect(), bits(&l.positions).collect(), l.indices, bits(&l.materials).collect(), words]
 }
 
-/// The case with room for its candidates, for one less where `short`, and what the Rust answers. None where it does not fit, or where a float of the
-/// packet is a zero with a sign or NaN, which document 01 leaves open.
-fn answered(c: &Case, short: bool) -> Option<(Case, Output)> {
+/// The case with room for its candidates, `most` at most, for one less where `short`, and what the Rust answers. None where it does not fit, or where a
+/// float of the packet is a zero with a sign or NaN, which document 01 leaves open.
+fn answered(c: &Case, most: u32, short: bool) -> Option<(Case, Output)> {
     let mut c = c.clone();
     if c.meshes.iter().map(|m| m.indices.len() / 3).sum::<usize>() > TRIPLES {
         return None;
@@ -57,11 +63,11 @@ fn answered(c: &Case, short: bool) -> Option<(Case, Output)> {
         if unsaid {
             c.settings.room = found - short as u32;
         }
-        if c.settings.room > ROOM {
+        if c.settings.room > most {
             return None;
         }
     } else if unsaid {
-        c.settings.room = ROOM;
+        c.settings.room = FEW;
     }
     let o = oracle::run(&c, false);
     let open = |x: &f32| x.to_bits() == 0x8000_0000 || x.is_nan();
@@ -107,7 +113,7 @@ fn add_kind(all: &mut Sample, kind: Kind, count: usize) {
         }
         // room for one less, once a kind
         let short = taken + 1 == count && seen[7] == 0;
-        let Some((mut c, o)) = answered(&scenes::case(kind, seed), short) else { continue };
+        let Some((mut c, o)) = answered(&scenes::case(kind, seed), FEW, short) else { continue };
         if short && seed + TRIES / 8 < TRIES && o.refusal != 7 {
             continue;
         }
@@ -137,7 +143,7 @@ fn add_probed(all: &mut Sample, kind: Kind, count: usize) {
         if taken == count || limits.contains(&c.settings.crossing_limit) {
             continue;
         }
-        let Some((mut c, o)) = answered(&c, false) else { continue };
+        let Some((mut c, o)) = answered(&c, FEW, false) else { continue };
         let plain = {
             let d = Settings::default();
             let mut plain = c.clone();
@@ -145,7 +151,7 @@ fn add_probed(all: &mut Sample, kind: Kind, count: usize) {
             oracle::run(&plain, false)
         };
         let differs = plain.refusal != o.refusal || o.refusal == 0 && plain.packet() != o.packet();
-        if words(&c, &o) <= WORDS && differs {
+        if words(&c, &o) <= LINE && differs {
             c.name.push_str("-probed");
             limits.push(c.settings.crossing_limit);
             all.add(&c, &o);
@@ -155,8 +161,29 @@ fn add_probed(all: &mut Sample, kind: Kind, count: usize) {
     println!("{kind:?} with probe settings and air: {taken} cases");
 }
 
+/// Adds cases with lists as long as LONG says: hard rooms, the first seed of each, and where the room has more taps, the list cut to so many.
+fn add_long(all: &mut Sample) {
+    let mut lengths = Vec::new();
+    for (least, most) in LONG {
+        let fits = (0..TRIES).find_map(|seed| {
+            let mut c = scenes::probed(Kind::Hard, seed);
+            c.settings.max_reflections = most as u32;
+            let (mut c, o) = answered(&c, ROOM, false)?;
+            c.name.push_str("-long");
+            let named = format!("{} ", c.name);
+            let fits = o.refusal == 0 && (least..=most).contains(&o.taps.len()) && words(&c, &o) <= WORDS && !all.lines.contains(&named);
+            fits.then_some((c, o))
+        });
+        if let Some((c, o)) = fits {
+            lengths.push(o.taps.len());
+            all.add(&c, &o);
+        }
+    }
+    println!("long lists, of {lengths:?} taps");
+}
+
 /// Writes `stdin` and `stdout` to the folder of the program: the cases of the files that fit, then `count` of each kind, then up to `count`
-/// each of curtains, limits and booths with other probe settings and air.
+/// each of curtains, limits and booths with other probe settings and air, then those of long lists.
 pub fn run(folder: &str, count: usize, files: &[&str]) {
     let mut all = Sample::default();
     for name in files {
@@ -165,15 +192,16 @@ pub fn run(folder: &str, count: usize, files: &[&str]) {
             std::process::exit(2)
         });
         for c in cases {
-            match answered(&c, false) {
-                Some((c, o)) if words(&c, &o) <= WORDS => all.add(&c, &o),
+            match answered(&c, FEW, false) {
+                Some((c, o)) if words(&c, &o) <= LINE => all.add(&c, &o),
                 _ => eprintln!("compare: {} does not fit", c.name),
             }
         }
     }
     println!("{} cases of {} files", all.cases, files.len());
-    KINDS.into_iter().for_each(|kind| add_kind(&mut all, kind, count));
+    KINDS.into_iter().filter(|&kind| kind != Kind::Hard).for_each(|kind| add_kind(&mut all, kind, count));
     [Kind::Curtains, Kind::Limits, Kind::Booth].into_iter().for_each(|kind| add_probed(&mut all, kind, count));
+    add_long(&mut all);
     writeln!(all.printed, "{} cases, 0 differ", all.cases).unwrap();
     let head = "# The Rust's answers, recorded by `compare record`; crates/replay/src/main.rt says what stands in a line.\n";
     println!("{} cases, {} bytes", all.cases, head.len() + all.lines.len());

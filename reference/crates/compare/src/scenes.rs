@@ -33,12 +33,17 @@ pub enum Kind {
     Curtains,
     /// Every setting at and around its limits.
     Limits,
+    /// A room whose walls take nothing, with sheets across it that reflect and let through: hundreds of taps, and more than a list holds.
+    Hard,
 }
 
-pub const KINDS: [Kind; 14] = [
+pub const KINDS: [Kind; 15] = [
     Kind::Booth, Kind::Panels, Kind::Vault, Kind::Duplicates, Kind::Buried, Kind::Broken, Kind::Ties, Kind::Soup, Kind::Deep, Kind::Transforms,
-    Kind::Materials, Kind::Positions, Kind::Curtains, Kind::Limits,
+    Kind::Materials, Kind::Positions, Kind::Curtains, Kind::Limits, Kind::Hard,
 ];
+
+/// Lengths of lists at and around the limits: that of the published Rust, a byte, and the limit.
+pub const LISTS: [u32; 12] = [0, 1, 63, 64, 65, 255, 256, 257, 1023, 1024, 1025, u32::MAX];
 
 type V = [f32; 3];
 
@@ -320,6 +325,28 @@ fn limits(c: &mut Case, r: &mut Random) {
     c.settings.linear = r.chance(2);
 }
 
+fn hard(c: &mut Case, r: &mut Random) {
+    c.materials = vec![Row { absorption: [0.0; 8], transmission: [0.0; 8] }, Row { absorption: [0.0; 8], transmission: [r.from(0.7, 1.0); 8] }];
+    let s = [r.from(3.0, 12.0), r.from(2.2, 4.0), r.from(3.0, 12.0)];
+    let (mut walls, mut sheets) = (mesh(0), mesh(1));
+    room(&mut walls, [0.0; 3], s);
+    let (count, axis) = (r.below(4), r.below(3));
+    let edge = |k: usize| -> V { std::array::from_fn(|i| if i == k { s[k] } else { 0.0 }) };
+    for _ in 0..count {
+        let mut at = [0.0; 3];
+        at[axis] = s[axis] * r.from(0.05, 0.95);
+        quad(&mut sheets, at, edge((axis + 1) % 3), edge((axis + 2) % 3));
+    }
+    c.meshes = vec![walls, sheets];
+    c.source = s.map(|x| x * r.from(0.1, 0.9));
+    c.listener = s.map(|x| x * r.from(0.1, 0.9));
+    // from some order on the 250,000 images end before most paths are found
+    c.settings.order = 3 + r.below([5, 5, 4, 3][count]) as u32;
+    c.settings.max_distance = if r.chance(3) { r.from(30.0, 1000.0) } else { 1000.0 };
+    c.settings.max_reflections = if r.chance(2) { u32::MAX } else { LISTS[r.below(LISTS.len())] };
+    c.settings.fade = [0.0, 0.1][r.below(2)];
+}
+
 /// Sheets across the way by the floor, about as many as half a segment may cross: in its first half; or in all four and with a bundle that is narrow
 /// enough to meet all of them, so that as many rays are traced as may be.
 fn thick(c: &mut Case, r: &mut Random) {
@@ -386,6 +413,15 @@ pub fn probed(kind: Kind, seed: u64) -> Case {
     c
 }
 
+/// The same with another length of the list for some, of numbers of their own.
+pub fn listed(kind: Kind, seed: u64) -> Case {
+    let (mut c, mut r) = (probed(kind, seed), Random::new(seed.wrapping_mul(64) + 48 + kind as u64));
+    if kind != Kind::Hard && r.chance(3) {
+        c.settings.max_reflections = LISTS[r.below(LISTS.len())];
+    }
+    c
+}
+
 /// The case of a kind and a seed.
 pub fn case(kind: Kind, seed: u64) -> Case {
     let mut r = Random::new(seed.wrapping_mul(64) + kind as u64);
@@ -421,6 +457,7 @@ pub fn case(kind: Kind, seed: u64) -> Case {
         }
         Kind::Curtains => curtains(&mut c, &mut r),
         Kind::Limits => limits(&mut c, &mut r),
+        Kind::Hard => hard(&mut c, &mut r),
     }
     c
 }

@@ -153,9 +153,9 @@ pub struct Read {
     pub rays: u32,
 }
 
-/// Words of a tap area: order, number, direction, delay and gains of each of 64 taps.
+/// Words of a tap area: order, number, direction, delay and gains of each of 1,024 taps.
 pub const TAP_WORDS: usize = 14;
-pub const TAPS: usize = 64;
+pub const TAPS: usize = 1024;
 
 /// Reads a packet into a tap area; the error is document 01's refusal.
 pub fn packet_read(bytes: &[u8], taps: &mut [u32]) -> Result<Read, u32> {
@@ -287,7 +287,7 @@ pub fn query_cost(crossing_limit: u32, planes: u32, first: u32, order: u32, trip
 pub const COLUMNS: usize = 23;
 pub const CANDIDATE_FLOATS: usize = 13;
 pub const CANDIDATE_WORDS: usize = 2;
-pub const OUTPUT: usize = 3465;
+pub const OUTPUT: usize = 55_306;
 
 /// Whole triples of a scene, at most.
 pub const MOST_TRIPLES: usize = 4096;
