@@ -6,6 +6,7 @@ use lib.ListN.{length, take}
 use mathlib.Core.Path.{_≡_}
 use mathlib.Core.Bool.{cond}
 use mathlib.Core.List.{List}
+use Rattle.sequences.specs.Allowed.{mostOrder}
 use Rattle.geometry.specs.declared.Triangle.{Triangle}
 use Rattle.columns.specs.Columns.{columnCount}
 use Rattle.vector.specs.declared.Vec3.{Vec3}
@@ -24,7 +25,7 @@ PlanesRead tri columns n floats words members count = (p : ℕ) → p < count �
 
 -- the longest sequence: `MAX_IMAGE_ORDER`
 abbrev pub maxOrder : ℕ
-maxOrder = 8
+maxOrder = mostOrder
 
 -- the fates of a trail: all bounces made, a plane not crossed, a point off the surface
 abbrev pub madeFate : ℕ

@@ -71,7 +71,7 @@ pub fn silent(separated: bool, source: Vec3, listener: Vec3, m: usize) -> bool
 }
 
 // `max_reflection_order` and `max_reflections` are used as at most these.
-const ORDER: usize = 8;
+const ORDER: usize = sequences::MAX_IMAGE_ORDER;
 
 const LIMIT: usize = packet::MOST_TAPS;
 

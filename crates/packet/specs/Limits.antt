@@ -1,6 +1,8 @@
 -- The limits of a packet and of its areas. Each is named here once, and the laws are stated over these names.
 use Prim.Native.Nat.{ℕ, _+_, _*_}
 use Rattle.sequences.specs.Allowed.{most}
+-- "an order is not 1 to 8": the highest order
+pub use Rattle.sequences.specs.Allowed.{mostOrder}
 
 -- "The limit becomes 1,024 taps": taps at most
 abbrev pub mostTaps : ℕ
@@ -9,10 +11,6 @@ mostTaps = 1024
 -- "images exceed 250,000": images at most, which is how many the image search visits at most
 abbrev pub mostImages : ℕ
 mostImages = most
-
--- "an order is not 1 to 8": the highest order
-abbrev pub mostOrder : ℕ
-mostOrder = 8
 
 -- "bit k is band k": the bands of a tap
 abbrev pub bands : ℕ

@@ -7,13 +7,7 @@ use mathlib.Core.Bool.{Bool, true, false, _||_}
 use mathlib.Core.List.{List, [], _∷_}
 use Rattle.columns.specs.Columns.{columnCount}
 use Rattle.packet.specs.Limits.{outBytes}
-
--- floats and words of a candidate: sum, delay, direction and gains; order and number
-abbrev pub candidateFloats : ℕ
-candidateFloats = 13
-
-abbrev pub candidateWords : ℕ
-candidateWords = 2
+pub use Rattle.ranking.specs.Rows.{candidateFloats, candidateWords}
 
 -- an area: the words of 32 bits of an element, and how many elements it has a triple, a candidate, and more
 pub record Area : Type 0 where

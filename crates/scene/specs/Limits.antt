@@ -7,14 +7,13 @@ use Rattle.float.specs.Literals.{zero32, one32}
 use Rattle.float.specs.Compare.{isFinite}
 use Rattle.bands.specs.declared.DistanceModel.{DistanceModel}
 use Rattle.air.specs.declared.Air.{Air}
+use Rattle.sequences.specs.Allowed.{most}
+pub use Rattle.sequences.specs.Allowed.{mostPlanes}
 use Rattle.scene.specs.declared.Settings.{Settings}
 
--- `max_reflection_planes` 0 to 256; C 0 to 250,000
-abbrev pub mostPlanes : ℕ
-mostPlanes = 256
-
+-- C 0 to 250,000, as many as images are visited (`max_reflection_planes` 0 to 256, as many as `sequences` takes)
 abbrev pub mostCandidates : ℕ
-mostCandidates = 250000
+mostCandidates = most
 
 -- the whole index triples of a scene, at most
 abbrev pub mostTriples : ℕ

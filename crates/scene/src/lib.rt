@@ -38,9 +38,9 @@ pub enum Checked {
     Accepted(usize),
 }
 
-const MOST_PLANES: u32 = 256;
+const MOST_PLANES: u32 = sequences::MAX_PLANES as u32;
 
-const MOST_CANDIDATES: u32 = 250_000;
+const MOST_CANDIDATES: u32 = sequences::MAX_IMAGE_NODES as u32;
 
 // Millionths of a decibel per metre.
 const MOST_COEFFICIENT: u32 = 1_000_000;
@@ -106,11 +106,11 @@ pub const CANDIDATES: [usize; AREAS] = [
     1, // words
     1, // scratch
     0, // index
-    2, // numbers
+    ranking::CANDIDATE_WORDS, // numbers
     0, // adjacency
     1, // queue
     0, // offsets
-    13, // floats
+    ranking::CANDIDATE_FLOATS, // floats
     0, // plane_triangles
     0, // plane_floats
     0, // plane_words

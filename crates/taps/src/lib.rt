@@ -19,9 +19,9 @@ ghost use Rattle.taps.specs.Sendable.{Level8, Sound};
 ghost use Rattle.taps.specs.Areas.{gainsAt, tapsAt, Pointing, Sends};
 
 // Floats and words of a candidate's row, and the words of a tap.
-const CANDIDATE_FLOATS: usize = 13;
+const CANDIDATE_FLOATS: usize = ranking::CANDIDATE_FLOATS;
 
-const CANDIDATE_WORDS: usize = 2;
+const CANDIDATE_WORDS: usize = ranking::CANDIDATE_WORDS;
 
 const TAP_WORDS: usize = packet::TAP_WORDS;
 
