@@ -2,6 +2,7 @@
 // zero and promises its length, which is all that lending it asks.
 ghost use mathlib.Core.Path.{_≡_};
 ghost use lib.ListN.{length};
+ghost use Rattle.packet.specs.Limits.{outBytes, areaWords};
 
 pub fn fresh_triangles() -> [f32; 11776]
     ensures { λ r. ⌜ length r ≡ 11776 ⌝ }
@@ -117,10 +118,10 @@ pub fn fresh_plane_edges() -> [f32; 9216]
     [0.0; 9216]
 }
 
-pub fn fresh_output() -> [u8; 3465]
-    ensures { λ r. ⌜ length r ≡ 3465 ⌝ }
+pub fn fresh_output() -> [u8; packet::OUT_BYTES]
+    ensures { λ r. ⌜ length r ≡ outBytes ⌝ }
 {
-    [0u8; 3465]
+    [0u8; packet::OUT_BYTES]
 }
 
 // A byte for each plane: whether the source lies on it.
@@ -166,8 +167,8 @@ pub fn fresh_case_indices() -> [u32; 1536]
     [0u32; 1536]
 }
 
-pub fn fresh_taps() -> [u32; 896]
-    ensures { λ r. ⌜ length r ≡ 896 ⌝ }
+pub fn fresh_taps() -> [u32; packet::AREA_WORDS]
+    ensures { λ r. ⌜ length r ≡ areaWords ⌝ }
 {
-    [0u32; 896]
+    [0u32; packet::AREA_WORDS]
 }

@@ -311,7 +311,7 @@ fn print_left_out(
             6144,
             2560,
             9216,
-            3465,
+            packet::OUT_BYTES,
         ],
         &mut triangles,
         &mut handles,

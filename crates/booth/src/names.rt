@@ -7,6 +7,7 @@ use numbering::Walls;
 use sequences::MAX_IMAGE_ORDER;
 ghost use Prim.Native.Nat.{_+_, _*_, _≤_};
 ghost use lib.ListN.{length};
+ghost use Rattle.packet.specs.Limits.{areaWords};
 
 fn print_arrow(k: usize) {
     if 0 < k {
@@ -56,11 +57,11 @@ fn meets(on: &[u8], order: u32, number: u32, p: usize) -> bool {
 
 // Whether one of the echoes does.
 fn occurs(taps: &[u32], on: &[u8], order: u32, count: usize, p: usize) -> bool
-    requires { ⌜ 896 ≤ length (now taps) ⌝ }
+    requires { ⌜ areaWords ≤ length (now taps) ⌝ }
 {
     let mut i = 0;
     while i < count {
-        if 63 < i {
+        if packet::MOST_TAPS <= i {
             return false;
         }
         if meets(on, order, taps[14 * i + 1], p) {
@@ -103,7 +104,7 @@ fn print_used(
     words: &[u32],
     p: usize,
 )
-    requires { ⌜ (896 ≤ length (now taps)) × (p ≤ 255) × (12 * p + 12 ≤ length (now floats)) × (5 * p + 5 ≤ length (now words)) ⌝ }
+    requires { ⌜ (areaWords ≤ length (now taps)) × (p ≤ 255) × (12 * p + 12 ≤ length (now floats)) × (5 * p + 5 ≤ length (now words)) ⌝ }
 {
     if occurs(taps, on, order, count, p) {
         print_wall(floats, words, p);
@@ -112,7 +113,7 @@ fn print_used(
 
 // The lines of the planes that the echoes meet.
 fn print_lines(taps: &[u32], on: &[u8], order: u32, count: usize, floats: &[f32], words: &[u32])
-    requires { ⌜ (896 ≤ length (now taps)) × (3072 ≤ length (now floats)) × (1280 ≤ length (now words)) ⌝ }
+    requires { ⌜ (areaWords ≤ length (now taps)) × (3072 ≤ length (now floats)) × (1280 ≤ length (now words)) ⌝ }
 {
     let mut p = 0;
     while p < on.len() {
@@ -126,7 +127,7 @@ fn print_lines(taps: &[u32], on: &[u8], order: u32, count: usize, floats: &[f32]
 
 // The walls that the echoes meet, in the order of their numbers. A scene may have 256: one that no row names is left out.
 pub fn print_list(taps: &[u32], on: &[u8], order: u32, count: usize, floats: &[f32], words: &[u32])
-    requires { ⌜ (896 ≤ length (now taps)) × (3072 ≤ length (now floats)) × (1280 ≤ length (now words)) ⌝ }
+    requires { ⌜ (areaWords ≤ length (now taps)) × (3072 ≤ length (now floats)) × (1280 ≤ length (now words)) ⌝ }
 {
     if count == 0 {
         return;

@@ -25,7 +25,7 @@ fn print_full(count: usize, most: usize) {
     }
     print_count(b"The list is full with ", count as u64);
     print(
-        b" taps: weaker echoes may be missing. It has as many as are asked for, and at most 64.\n",
+        b" taps: weaker echoes may be missing. It has as many as are asked for, and at most 1024.\n",
     );
 }
 

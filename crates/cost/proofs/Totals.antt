@@ -94,7 +94,7 @@ words-none t c = record { turn = omega arith; rest = omega arith; low = omega ar
 
 -- the area's least length, and its words
 pub length-fits :
-    (i t c : ℕ) → t ≤ 4096 → c ≤ 250000 → getD (triplesOf areaTable) i 0 * t + getD (candidatesOf areaTable) i 0 * c + getD (moreOf areaTable) i 0 ≤ 3351769
+    (i t c : ℕ) → t ≤ 4096 → c ≤ 250000 → getD (triplesOf areaTable) i 0 * t + getD (candidatesOf areaTable) i 0 * c + getD (moreOf areaTable) i 0 ≤ 3500000
 length-fits i t c h l = let s = small i t c in let a = s .triples in let b = s .candidates in let d = s .more in omega arith
 
 pub words-fit : (i t c : ℕ) → t ≤ 4096 → c ≤ 250000 → areaWords i t c ≤ 7000000

@@ -31,7 +31,7 @@ silentOf separated source listener m = separated || (not (finitePoint source) ||
 abbrev pub usedOrder : Bool → ℕ → ℕ
 usedOrder silent order = cond silent 0 order
 
--- "order and `max_reflections` any u32 (used as at most 8 and 64)"
+-- "order and `max_reflections` any u32 (used as at most 8 and 1,024)"
 abbrev pub searchOrder : Settings → ℕ
 searchOrder st = min (st .«max_reflection_order») maxOrder
 

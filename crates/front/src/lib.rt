@@ -73,7 +73,7 @@ pub fn silent(separated: bool, source: Vec3, listener: Vec3, m: usize) -> bool
 // `max_reflection_order` and `max_reflections` are used as at most these.
 const ORDER: usize = 8;
 
-const LIMIT: usize = 64;
+const LIMIT: usize = packet::MOST_TAPS;
 
 fn at_most(x: u32, most: usize) -> usize
     ensures { λ r. ⌜ r ≡ min x most ⌝ }

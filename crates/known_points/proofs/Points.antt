@@ -24,11 +24,11 @@ packet-is : packetOf 1 36 (tap ∷ []) ≡ packet
 unfolding tapOf bitMap gainBytes tapsBytes splatOf toBits ofBits round
 packet-is = refl
 
-answered : (lens : List ℕ) → Enough lens → answeredOf (called source lens) ≡ record { refusal = 0; count = 1; images = 1; rays = 36; bytes = 63 }
+answered : (lens : List ℕ) → Enough lens → answeredOf (called source lens) ≡ record { refusal = 0; count = 1; images = 1; rays = 36; bytes = 64 }
 answered lens enough =
     ap answeredOf (case-a lens enough) ∙ ap (λ (bytes : List ℕ). record { refusal = 0; count = 1; images = 1; rays = 36; bytes = length bytes }) packet-is
 
-put-out : (lens : List ℕ) → Enough lens → (out : List ℕ) → outputOf (called source lens) out ≡ packet ++ drop 63 out
+put-out : (lens : List ℕ) → Enough lens → (out : List ℕ) → outputOf (called source lens) out ≡ packet ++ drop 64 out
 put-out lens enough out =
     ap (λ (q : Query). outputOf q out) (case-a lens enough) ∙ ap (λ (bytes : List ℕ). bytes ++ drop (length bytes) out) packet-is
 

@@ -142,10 +142,10 @@ tap =
 abbrev pub answer : Answer
 answer = record { images = 1; rays = 36; taps = tap ∷ [] }
 
--- the packet of it: count, images and rays, then the tap's bit map, order, number, direction, delay and its eight gains
+-- the packet of it: count (two bytes), images and rays, then the tap's bit map, order, number, direction, delay and its eight gains
 abbrev pub packet : List ℕ
 packet =
-    1 ∷ 1 ∷ 0 ∷ 0 ∷ 0 ∷ 36 ∷ 0 ∷ 0 ∷ 0
+    1 ∷ 0 ∷ 1 ∷ 0 ∷ 0 ∷ 0 ∷ 36 ∷ 0 ∷ 0 ∷ 0
     ∷ 0xff ∷ 1 ∷ 1 ∷ 0 ∷ 0 ∷ 0
     ∷ 0x9a ∷ 0x99 ∷ 0x19 ∷ 0xbf ∷ 0xcd ∷ 0xcc ∷ 0x4c ∷ 0xbf ∷ 0 ∷ 0 ∷ 0 ∷ 0
     ∷ 0x3e ∷ 0xd3 ∷ 0x2e ∷ 0x44

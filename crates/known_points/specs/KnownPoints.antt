@@ -28,10 +28,10 @@ called place lens = traceOf settings room floor lens place listener separated
 abbrev pub Enough : List ℕ → Type 0
 Enough lens = shortOf 2 room lens ≡ false
 
--- no refusal, 1 tap, 1 image, 36 rays; the 63 bytes of the packet, and what stood past them in the output area; the work areas zero
+-- no refusal, 1 tap, 1 image, 36 rays; the 64 bytes of the packet, and what stood past them in the output area; the work areas zero
 pub record Received (r : Answered) (out out′ : List ℕ) (found left : Work) : Type 0 where
-  pub answered : r ≡ record { refusal = 0; count = 1; images = 1; rays = 36; bytes = 63 }
-  pub output : out′ ≡ packet ++ drop 63 out
+  pub answered : r ≡ record { refusal = 0; count = 1; images = 1; rays = 36; bytes = 64 }
+  pub output : out′ ≡ packet ++ drop 64 out
   pub areas : left ≡ zeroed found
 
 pub record KnownPoints : Type 0 where

@@ -13,7 +13,7 @@ use lib.Dec.{leb, eqb}
 use borrow.Author.Tests.{leb-true, le-leb, lt-leb}
 use Rattle.packet.specs.Limits.{bands, fixedBytes, fixedWords, tapWords}
 use Rattle.packet.specs.Tap.{Tap, tapOf, tapsOf, bitMap, allWords, wordsOf}
-use Rattle.packet.specs.Bytes.{valueOf, holdsTaps, tapSize, ones, tapsIn, tapIn, gainsIn, gainIn, wordOf}
+use Rattle.packet.specs.Bytes.{valueOf, countIn, holdsTaps, tapSize, ones, tapsIn, tapIn, gainsIn, gainIn, wordOf}
 use Rattle.packet.specs.Refusals.{all, inRange, validFloats, validFloatsBy, numberOf, squaredGainSum}
 use Rattle.packet.specs.Helpers.{inArea, finiteGains}
 use Rattle.packet.proofs.Runs.{and-both, goes-on, sets-front, sets-six, sets-step, sub-done, sub-step}
@@ -32,6 +32,12 @@ word-at r at b e =
     let c = value-at 1 (at + 2) b ∙ ap (λ (j : ℕ). getD b (at + 2) 0 + 256 * valueOf 1 (drop j b)) three ∙ ap (λ (q : ℕ). getD b (at + 2) 0 + 256 * q) d in
     let w = value-at 2 (at + 1) b ∙ ap (λ (j : ℕ). getD b (at + 1) 0 + 256 * valueOf 2 (drop j b)) two ∙ ap (λ (q : ℕ). getD b (at + 1) 0 + 256 * q) c in
     e ∙ sym (value-at 3 at b ∙ ap (λ (q : ℕ). getD b at 0 + 256 * q) w)
+
+-- the same of two bytes
+pub count-at : (r : ℕ) (b : List ℕ) → r ≡ getD b 0 0 + 256 * getD b 1 0 → r ≡ countIn b
+count-at r b e =
+    let one : valueOf 1 (drop 1 b) ≡ getD b 1 0 = value-at 0 1 b ∙ (let z : getD b 1 0 + 256 * 0 ≡ getD b 1 0 = omega arith in z) in
+    e ∙ ap (λ (q : ℕ). getD b 0 0 + 256 * q) (sym one)
 
 -- ---- taps of a packet, from a place on
 

@@ -2,9 +2,9 @@
 use Prim.Native.Nat.{ℕ, _+_, _*_}
 use Rattle.sequences.specs.Allowed.{most}
 
--- "the count exceeds 64": taps at most
+-- "The limit becomes 1,024 taps": taps at most
 abbrev pub mostTaps : ℕ
-mostTaps = 64
+mostTaps = 1024
 
 -- "images exceed 250,000": images at most, which is how many the image search visits at most
 abbrev pub mostImages : ℕ
@@ -18,11 +18,11 @@ mostOrder = 8
 abbrev pub bands : ℕ
 bands = 8
 
--- "Count (1 byte)"
+-- "the packet's count becomes two bytes"
 abbrev pub countBytes : ℕ
-countBytes = 1
+countBytes = 2
 
--- "Count (1 byte), images (4), rays (4)": the bytes before the first tap
+-- "images (4), rays (4)", behind the count: the bytes before the first tap
 abbrev pub headBytes : ℕ
 headBytes = countBytes + 4 + 4
 
@@ -34,7 +34,7 @@ fixedBytes = 1 + 1 + 4 + 12 + 4
 abbrev pub longestTap : ℕ
 longestTap = fixedBytes + 4 * bands
 
--- "the output area is under 3,465 bytes": the bytes of the longest packet
+-- "The output area must hold 55,306 bytes": the bytes of the longest packet
 abbrev pub outBytes : ℕ
 outBytes = headBytes + mostTaps * longestTap
 
@@ -46,6 +46,6 @@ fixedWords = 6
 abbrev pub tapWords : ℕ
 tapWords = fixedWords + bands
 
--- "the length that docs/ gives for 64 taps": the words of a tap area
+-- "the reader's tap area 1,024 taps": the words of a tap area
 abbrev pub areaWords : ℕ
 areaWords = mostTaps * tapWords

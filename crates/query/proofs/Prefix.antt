@@ -3,6 +3,7 @@
 --                       areas may differ, as between two stations
 --     prefix-calls      the same of two calls with equal C and lengths, by their contract, and that both are refused alike or neither
 --     prefix-stations   the same of two calls that both gave a result, where C and lengths differ
+--     old-limit         a list cut at the limit before note 7 is the first 64 taps of the list, with equal images and rays
 use Prim.Native.Nat.{ℕ, zero, suc, _≤_, _<_, min}
 use mathlib.Core.Path.{_≡_, refl, sym, ap, subst, _∙_}
 use mathlib.Core.Bool.{Bool, true, false, cond}
@@ -52,7 +53,7 @@ use Rattle.answer.specs.Answer.{answeredOf, outputOf}
 use Rattle.answer.specs.declared.Answered.{Answered}
 use Rattle.query.specs.Areas.{Work, lengthsOf}
 use Rattle.query.specs.Trace.{byRefusal, orderOf, limitOf, queryIn, traceOf, callOf, Traced}
-use Rattle.query.specs.Lists.{withList, FirstOf, ShortAndLong}
+use Rattle.query.specs.Lists.{withList, FirstOf, ShortAndLong, oldMostTaps, oldQueryIn}
 
 -- ---- what does not read it
 
@@ -147,6 +148,40 @@ module _ (st : Settings) (a b : ℕ) (h : a ≤ b) (s : Scene) (source listener 
       (ap (λ (p : List ℕ → Outcome). answerOf on order (speedOf (st .«temperature_celsius»)) (st .«sample_rate») (min a mostTaps) p) (sym same) ∙ short)
       (subst (λ (z : Answer). FirstOf a (answerOf on order (speedOf (st .«temperature_celsius»)) (st .«sample_rate») (min a mostTaps) path′) z) long
       (first-of on order (speedOf (st .«temperature_celsius»)) (st .«sample_rate») path′ a b h))
+
+-- ---- the list before note 7
+
+-- at most k taps stand in a list of at most k
+few-asked : (speed rate : Float) (k m : ℕ) (cs : List Candidate) → length (ranked speed rate (min k m) cs) ≤ k
+few-asked speed rate k m cs = simp length-take (omega arith)
+
+-- "A list cut at the old limit has the same first 64 taps" (document 02, note 7)
+old-ranked :
+    (speed rate : Float) (cs : List Candidate) (k : ℕ) →
+    ranked speed rate (min k oldMostTaps) cs ≡ take oldMostTaps (ranked speed rate (min k mostTaps) cs)
+old-ranked speed rate cs k =
+    let list = ranked speed rate (min k mostTaps) cs in
+    let turned : min k oldMostTaps ≡ min oldMostTaps k = omega arith in
+    ranked-prefix speed rate cs (min k oldMostTaps) (min k mostTaps) (omega arith)
+    ∙ ap (λ (n : ℕ). take n list) turned
+    ∙ cut-same oldMostTaps k list (few-asked speed rate k mostTaps cs)
+
+-- of the whole query, whatever the settings: images and rays are equal, and the old list is the first 64 of the list
+pub old-limit :
+    (st : Settings) (c : ℕ) (s : Scene) (source listener : Vec3) (separated : Bool) (x y : Answer) →
+    oldQueryIn st c s source listener separated ≡ given x → queryIn st c s source listener separated ≡ given y → FirstOf oldMostTaps x y
+old-limit st c s source listener separated x y e f =
+    let on = onOf (planesFor st (triangles s)) source in
+    let order = orderOf st s source listener separated in
+    let speed = speedOf (st .«temperature_celsius») in
+    let rate = st .«sample_rate» in
+    let k = st .«max_reflections» in
+    let path = pathFor st (triangles s) (s .materials) source listener in
+    let old : answerOf on order speed rate (min k oldMostTaps) path ≡ x = given-is on order speed rate (min k oldMostTaps) c path x e in
+    let new : answerOf on order speed rate (min k mostTaps) path ≡ y = given-is on order speed rate (min k mostTaps) c path y f in
+    let all : FirstOf oldMostTaps (answerOf on order speed rate (min k oldMostTaps) path) (answerOf on order speed rate (min k mostTaps) path) =
+    record { images = refl; rays = refl; taps = old-ranked speed rate (found path 1 (visited on order)) k } in
+    subst (λ (z : Answer). FirstOf oldMostTaps z y) old (subst (λ (z : Answer). FirstOf oldMostTaps (answerOf on order speed rate (min k oldMostTaps) path) z) new all)
 
 -- ---- two calls
 

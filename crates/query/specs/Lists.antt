@@ -1,14 +1,22 @@
--- Two calls that differ in the length of their lists alone (document 02, note 13): what two operators who compare their printouts may rely on.
-use Prim.Native.Nat.{ℕ, _≤_}
+-- Two calls that differ in the length of their lists alone (document 02, note 13): what two operators who compare their printouts may rely on; and the
+-- list as it was before note 7.
+use Prim.Native.Nat.{ℕ, _≤_, min}
 use mathlib.Core.Path.{_≡_}
+use mathlib.Core.Bool.{Bool}
 use mathlib.Core.List.{List}
 use lib.ListN.{length, take}
+use Rattle.vector.specs.declared.Vec3.{Vec3}
 use Rattle.scene.specs.declared.Settings.{Settings}
+use Rattle.scene.specs.Scene.{Scene}
+use Rattle.placing.specs.Corners.{triangles}
 use Rattle.ranking.specs.declared.Candidate.{Candidate}
 use Rattle.packet.specs.Limits.{mostTaps}
 use Rattle.claim.specs.Answer.{Answer}
+use Rattle.claim.specs.Query.{Query}
 use Rattle.taps.specs.Tap.{packetOf}
+use Rattle.answer.specs.Answer.{queryFor}
 use Rattle.answer.specs.declared.Answered.{Answered}
+use Rattle.query.specs.Trace.{orderOf}
 
 -- "equal inputs but `max_reflections`": settings with k in its place
 abbrev pub withList : Settings → ℕ → Settings
@@ -51,3 +59,12 @@ pub record ShortAndLong (a : ℕ) (short long : Answered) (short-out long-out : 
   pub short-count : short .count ≡ length (take a taps)
   pub long-packet : long .refusal ≡ 0 → take (long .bytes) long-out ≡ packetOf (long .images) (long .rays) taps
   pub short-packet : short .refusal ≡ 0 → take (short .bytes) short-out ≡ packetOf (long .images) (long .rays) (take a taps)
+
+-- the list's limit before document 02, note 7: "used as at most 8 and 64"
+abbrev pub oldMostTaps : ℕ
+oldMostTaps = 64
+
+-- the query with that limit, and all else as it is (`queryIn` of Trace): `old-limit` of `proofs/Prefix.antt` proves that its list is the first 64 taps
+abbrev pub oldQueryIn : Settings → ℕ → Scene → Vec3 → Vec3 → Bool → Query
+oldQueryIn st c s source listener separated =
+    queryFor st (triangles s) (s .materials) source listener (orderOf st s source listener separated) c (min (st .«max_reflections») oldMostTaps)

@@ -15,16 +15,17 @@ use vector::Vec3;
 ghost use Prim.Native.Nat.{_≤_};
 ghost use mathlib.Core.Path.{_≡_};
 ghost use lib.ListN.{length};
+ghost use Rattle.packet.specs.Limits.{outBytes};
 
 // Words before the parts, and words of the longest line.
 const HEADER: usize = 45;
 
-const LONGEST: usize = 2048;
+const LONGEST: usize = 8192;
 
 // What a length is cut to before it is added to others.
-const MOST: usize = 4096;
+const MOST: usize = 65536;
 
-// ---- areas for 64 triples and 64 candidates
+// ---- areas for 64 triples and 320 candidates
 
 fn floats_768() -> [f32; 768]
     ensures { λ r. ⌜ length r ≡ 768 ⌝ }
@@ -50,10 +51,10 @@ fn floats_1472() -> [f32; 1472]
     [0.0; 1472]
 }
 
-fn floats_1600() -> [f32; 1600]
-    ensures { λ r. ⌜ length r ≡ 1600 ⌝ }
+fn floats_4928() -> [f32; 4928]
+    ensures { λ r. ⌜ length r ≡ 4928 ⌝ }
 {
-    [0.0; 1600]
+    [0.0; 4928]
 }
 
 fn words_64() -> [u32; 64]
@@ -80,12 +81,6 @@ fn words_193() -> [u32; 193]
     [0u32; 193]
 }
 
-fn words_256() -> [u32; 256]
-    ensures { λ r. ⌜ length r ≡ 256 ⌝ }
-{
-    [0u32; 256]
-}
-
 fn words_320() -> [u32; 320]
     ensures { λ r. ⌜ length r ≡ 320 ⌝ }
 {
@@ -96,6 +91,12 @@ fn words_512() -> [u32; 512]
     ensures { λ r. ⌜ length r ≡ 512 ⌝ }
 {
     [0u32; 512]
+}
+
+fn words_832() -> [u32; 832]
+    ensures { λ r. ⌜ length r ≡ 832 ⌝ }
+{
+    [0u32; 832]
 }
 
 fn words_1536() -> [u32; 1536]
@@ -110,35 +111,35 @@ fn longs_192() -> [u64; 192]
     [0u64; 192]
 }
 
-fn longs_256() -> [u64; 256]
-    ensures { λ r. ⌜ length r ≡ 256 ⌝ }
+fn longs_512() -> [u64; 512]
+    ensures { λ r. ⌜ length r ≡ 512 ⌝ }
 {
-    [0u64; 256]
+    [0u64; 512]
 }
 
-fn longs_1600() -> [u64; 1600]
-    ensures { λ r. ⌜ length r ≡ 1600 ⌝ }
+fn longs_1856() -> [u64; 1856]
+    ensures { λ r. ⌜ length r ≡ 1856 ⌝ }
 {
-    [0u64; 1600]
+    [0u64; 1856]
 }
 
-fn bytes_3465() -> [u8; 3465]
-    ensures { λ r. ⌜ length r ≡ 3465 ⌝ }
+fn fresh_output() -> [u8; packet::OUT_BYTES]
+    ensures { λ r. ⌜ length r ≡ outBytes ⌝ }
 {
-    [0u8; 3465]
+    [0u8; packet::OUT_BYTES]
 }
 
 // ---- a case
 
 // The words of a line, and the floats with their bits.
 fn line_words() -> [u32; LONGEST]
-    ensures { λ r. ⌜ length r ≡ 2048 ⌝ }
+    ensures { λ r. ⌜ length r ≡ 8192 ⌝ }
 {
     [0u32; LONGEST]
 }
 
 fn line_floats() -> [f32; LONGEST]
-    ensures { λ r. ⌜ length r ≡ 2048 ⌝ }
+    ensures { λ r. ⌜ length r ≡ 8192 ⌝ }
 {
     [0.0; LONGEST]
 }
@@ -191,7 +192,7 @@ fn run_case(
     d: usize,
     e: usize,
 ) -> Answered
-    requires { ⌜ (45 ≤ a) × (a ≤ b) × (b ≤ c) × (c ≤ d) × (d ≤ e) × (e ≤ length (now w)) × (e ≤ length (now f)) × (e ≤ 2048) ⌝ }
+    requires { ⌜ (45 ≤ a) × (a ≤ b) × (b ≤ c) × (c ≤ d) × (d ≤ e) × (e ≤ length (now w)) × (e ≤ length (now f)) × (e ≤ 8192) ⌝ }
 {
     let settings = settings_from(w, f);
     let source = source_from(f);
@@ -278,7 +279,7 @@ fn same_count(n: usize, w: u32) -> bool {
 
 // Whether the answer is the recorded one, whose packet stands at e.
 fn agrees(out: &[u8], w: &[u32], e: usize, r: Answered) -> bool
-    requires { ⌜ (45 ≤ e) × (e ≤ length (now w)) × (e ≤ 2048) ⌝ }
+    requires { ⌜ (45 ≤ e) × (e ≤ length (now w)) × (e ≤ 8192) ⌝ }
 {
     if r.refusal != w[40] {
         return false;
@@ -330,28 +331,28 @@ fn print_answer(ok: bool, r: Answered) {
 
 // Runs a case in areas of its own, and compares.
 fn run_fresh(w: &[u32], f: &[f32], a: usize, b: usize, c: usize, d: usize, e: usize) -> bool
-    requires { ⌜ (45 ≤ a) × (a ≤ b) × (b ≤ c) × (c ≤ d) × (d ≤ e) × (e ≤ length (now w)) × (e ≤ length (now f)) × (e ≤ 2048) ⌝ }
+    requires { ⌜ (45 ≤ a) × (a ≤ b) × (b ≤ c) × (c ≤ d) × (d ≤ e) × (e ≤ length (now w)) × (e ≤ length (now f)) × (e ≤ 8192) ⌝ }
 {
     let mut columns = floats_1472();
     let mut handles = words_64();
     let mut tree = floats_1408();
     let mut nodes = words_512();
     let mut perm = words_64();
-    let mut hi = longs_256();
+    let mut hi = longs_512();
     let mut lo = longs_192();
-    let mut words = longs_1600();
-    let mut scratch = longs_1600();
+    let mut words = longs_1856();
+    let mut scratch = longs_1856();
     let mut index = words_192();
-    let mut id = words_320();
+    let mut id = words_832();
     let mut linked = words_1536();
-    let mut queue = words_256();
+    let mut queue = words_512();
     let mut starts = words_193();
-    let mut gfloats = floats_1600();
+    let mut gfloats = floats_4928();
     let mut members = words_65();
     let mut rows = floats_768();
     let mut kept = words_320();
     let mut edges = floats_1152();
-    let mut out = bytes_3465();
+    let mut out = fresh_output();
     let r = run_case(
         &mut columns,
         &mut handles,
@@ -388,7 +389,7 @@ fn run_fresh(w: &[u32], f: &[f32], a: usize, b: usize, c: usize, d: usize, e: us
 
 // A length of a line, cut so that it can be added to others.
 fn limited(n: u32) -> usize
-    ensures { λ r. ⌜ r ≤ 4096 ⌝ }
+    ensures { λ r. ⌜ r ≤ 65536 ⌝ }
 {
     let wide = n as usize;
     if wide < MOST {
@@ -405,7 +406,7 @@ fn no_case() -> bool {
 
 // A case of so many digits.
 fn run_words(w: &[u32], f: &[f32], digits: usize) -> bool
-    requires { ⌜ (length (now w) ≡ 2048) × (length (now f) ≡ 2048) ⌝ }
+    requires { ⌜ (length (now w) ≡ 8192) × (length (now f) ≡ 8192) ⌝ }
 {
     let a = HEADER + limited(w[0]);
     let b = a + limited(w[1]);
@@ -480,8 +481,8 @@ fn run(all: &[u8]) {
 }
 
 // Room for all of standard input.
-fn room() -> [u8; 400_000] {
-    [0u8; 400_000]
+fn room() -> [u8; 600_000] {
+    [0u8; 600_000]
 }
 
 fn main() {

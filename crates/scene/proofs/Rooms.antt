@@ -9,6 +9,7 @@ use native.Mathlib.Omega.{arith}
 use borrow.Author.Tests.{ltb-false, leb-true}
 use lib.Dec.{ltb, leb}
 use lib.ListN.{length, drop, getD}
+use Rattle.packet.specs.Limits.{outBytes}
 use Rattle.scene.specs.Areas.{Area, area, areaTable, leastOf, shortIn, shortOf, Roomy, RoomyIn}
 
 -- ---- the test, area by area
@@ -74,14 +75,14 @@ scaled-most m xs i k e = mul-le-mul-right k (at-most m xs i e)
 pub record Small (i t c : ℕ) : Type 0 where
   pub triples : getD (triplesOf areaTable) i 0 * t ≤ 24 * t
   pub candidates : getD (candidatesOf areaTable) i 0 * c ≤ 13 * c
-  pub more : getD (moreOf areaTable) i 0 ≤ 3465
+  pub more : getD (moreOf areaTable) i 0 ≤ outBytes
 
 pub small : (i t c : ℕ) → Small i t c
 small i t c =
     record {
       triples = scaled-most 24 (triplesOf areaTable) i t refl;
       candidates = scaled-most 13 (candidatesOf areaTable) i c refl;
-      more = at-most 3465 (moreOf areaTable) i refl;
+      more = at-most outBytes (moreOf areaTable) i refl;
     }
 
 -- ---- what areas that pass have

@@ -6,10 +6,7 @@ use lib.ListN.{getD}
 use mathlib.Core.Bool.{Bool, true, false, _||_}
 use mathlib.Core.List.{List, [], _∷_}
 use Rattle.columns.specs.Columns.{columnCount}
-
--- the output area, in bytes: the longest packet
-abbrev pub outputBytes : ℕ
-outputBytes = 3465
+use Rattle.packet.specs.Limits.{outBytes}
 
 -- floats and words of a candidate: sum, delay, direction and gains; order and number
 abbrev pub candidateFloats : ℕ
@@ -50,7 +47,7 @@ areaTable =
     ∷ area 1 12 0 0  -- 16 plane_floats
     ∷ area 1 5 0 0  -- 17 plane_words
     ∷ area 1 18 0 0  -- 18 plane_edges
-    ∷ area 0 0 0 outputBytes  -- 19 output
+    ∷ area 0 0 0 outBytes  -- 19 output
     ∷ []
 
 -- the least length of an area
@@ -98,7 +95,7 @@ pub record Roomy
   pub plane-floats-room : 12 * t ≤ plane-floats
   pub plane-words-room : 5 * t ≤ plane-words
   pub plane-edges-room : 18 * t ≤ plane-edges
-  pub output-room : outputBytes ≤ output
+  pub output-room : outBytes ≤ output
 
 -- the same of a list of lengths
 abbrev pub RoomyIn : ℕ → ℕ → List ℕ → Type 0

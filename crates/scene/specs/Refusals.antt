@@ -56,7 +56,7 @@ triplesIn s = tripleSum (headers (s .meshes))
 unfoldable pub refusal4 : Scene → Bool
 refusal4 s = ltb mostTriples (triplesIn s)
 
--- 5. the output area is under 3,465 bytes, or a work area is shorter than its formula; `lens` are their lengths
+-- 5. the output area is under 55,306 bytes, or a work area is shorter than its formula; `lens` are their lengths
 unfoldable pub refusal5 : Scene → ℕ → List ℕ → Bool
 refusal5 s c lens = shortOf (triplesIn s) c lens
 

@@ -139,7 +139,7 @@ pub const MORE: [usize; AREAS] = [
     0, // plane_floats
     0, // plane_words
     0, // plane_edges
-    3465, // out
+    packet::OUT_BYTES, // out
 ];
 
 // ---- the speed of sound

@@ -22,7 +22,7 @@ const CANDIDATE_FLOATS: usize = 13;
 
 const CANDIDATE_WORDS: usize = 2;
 
-const TAP_WORDS: usize = 14;
+const TAP_WORDS: usize = packet::TAP_WORDS;
 
 // The packet in the output area: its taps and its bytes.
 pub struct Packed {
@@ -122,16 +122,16 @@ fn length_of(w: Written) -> usize
 }
 
 // The positions of the candidates that are kept, and the words of their taps.
-fn fresh_positions() -> [u32; 64]
+fn fresh_positions() -> [u32; packet::MOST_TAPS]
     ensures { λ r. ⌜ length r ≡ mostTaps ⌝ }
 {
-    [0u32; 64]
+    [0u32; packet::MOST_TAPS]
 }
 
-fn fresh_taps() -> [u32; 896]
+fn fresh_taps() -> [u32; packet::AREA_WORDS]
     ensures { λ r. ⌜ length r ≡ areaWords ⌝ }
 {
-    [0u32; 896]
+    [0u32; packet::AREA_WORDS]
 }
 
 // Ranks the candidates of the first n rows and writes the packet of those that are kept. What keys, index, words and scratch

@@ -9,7 +9,7 @@ use lib.ListN.{length, replicate}
 use Rattle.float.specs.Literals.{zero32}
 use Rattle.scene.specs.declared.Settings.{Settings}
 use Rattle.scene.specs.Scene.{Scene}
-use Rattle.scene.specs.Areas.{outputBytes}
+use Rattle.packet.specs.Limits.{outBytes}
 use Rattle.placing.specs.Corners.{triangles}
 use Rattle.placing.specs.Loading.{firstRefusal}
 use Rattle.mirror.specs.Rows.{planeFloats, planeWords, planesIn}
@@ -40,7 +40,7 @@ lensOf w =
     length (w .plane-floats) ∷
     length (w .plane-words) ∷
     length (w .plane-edges) ∷
-    outputBytes ∷ []
+    outBytes ∷ []
 
 -- the areas with other columns and handles
 abbrev pub withScene : Work → List Float → List ℕ → Work

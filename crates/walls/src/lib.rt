@@ -14,7 +14,7 @@ ghost use Rattle.query.specs.Areas.{work};
 ghost use Rattle.walls.specs.Walls.{PlanesOf};
 
 // The longest packet, which `load_scene` asks room for; nothing is written here.
-const OUTPUT: usize = 3465;
+const OUTPUT: usize = packet::OUT_BYTES;
 
 // The first refusal of 1 to 6 that applies, or 0 and how many planes there are.
 pub struct Planes {
