@@ -429,8 +429,8 @@ static inline uint32_t biv_trace(const struct biv_settings *settings, uint32_t c
 }
 
 /* Reads a packet: its taps, best first, and its counts. Answers the refusal (8 to 11) or 0. Past the last tap read, and after a refusal, taps is as
- * it was; after a refusal the counts are 0. bytes may begin anywhere, and be NULL with bytes_len 0, which is refused with BIV_BYTES. The words of 1,024
- * taps are kept on the stack meanwhile, 57 KB, here and in biv_write. */
+ * it was; after a refusal the counts are 0. bytes may begin anywhere, overlap taps, which are written last, and be NULL with bytes_len 0, which is refused with
+ * BIV_BYTES. The words of 1,024 taps are kept on the stack meanwhile, 57 KB, here and in biv_write. */
 static inline uint32_t biv_read(const uint8_t *bytes, size_t bytes_len, struct biv_tap taps[BIV_MOST_TAPS], struct biv_answer *answer)
 {
     uint32_t words[14 * BIV_MOST_TAPS];
@@ -446,13 +446,17 @@ static inline uint32_t biv_read(const uint8_t *bytes, size_t bytes_len, struct b
 }
 
 /* Writes the packet of answer->count taps with answer's images and rays. Answers the refusal (5, 9 to 11) or 0; answer->bytes gets the packet's
- * length, 0 after a refusal, which writes nothing. out has BIV_OUTPUT_BYTES or more, less is refused with BIV_AREAS; it may be NULL with out_len 0. taps may
- * be NULL where there are none. */
+ * length, 0 after a refusal, which writes nothing. out has BIV_OUTPUT_BYTES or more, less is refused with BIV_AREAS; it may be NULL with out_len 0, and begin
+ * anywhere. taps is aligned for its elements, and may overlap out, since it is copied first; it may be NULL where there are none, and is refused with BIV_AREAS where
+ * answer->count is above 0. */
 static inline uint32_t biv_write(const struct biv_tap *taps, struct biv_answer *answer, uint8_t *out, size_t out_len)
 {
     uint32_t words[14 * BIV_MOST_TAPS] = {0};
     size_t found[1] = {0};
     uint32_t refusal;
+    answer->bytes = 0;
+    if (taps == NULL && answer->count > 0)
+        return BIV_AREAS;
     if (answer->count <= BIV_MOST_TAPS) /* more is refused */
         memcpy(words, biv_part(taps), answer->count * sizeof(struct biv_tap));
     refusal = biv_packet_write(answer->count, answer->images, answer->rays, words, 14 * BIV_MOST_TAPS, out, out_len, found);

@@ -239,6 +239,7 @@ static void test_packet(void)
     CHECK(biv_write(taps, &written, copy, sizeof copy) == BIV_COUNTS && written.bytes == 0);
     written.count = 1;
     CHECK(biv_write(taps, &written, copy, sizeof copy - 1) == BIV_AREAS);
+    CHECK(biv_write(NULL, &written, copy, sizeof copy) == BIV_AREAS && written.bytes == 0);
     taps[0].delay_samples = 0.0f;
     CHECK(biv_write(taps, &written, copy, sizeof copy) == BIV_NUMBERS);
     taps[0].delay_samples = 750.0f;

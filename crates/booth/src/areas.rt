@@ -124,11 +124,18 @@ pub fn fresh_output() -> [u8; packet::OUT_BYTES]
     [0u8; packet::OUT_BYTES]
 }
 
-// A byte for each plane: whether the source lies on it.
-pub fn fresh_on() -> [u8; 256]
-    ensures { λ r. ⌜ length r ≡ 256 ⌝ }
+// What is known of each plane, of at most 256: the bytes of `tags`.
+pub fn fresh_on() -> [u8; 1024]
+    ensures { λ r. ⌜ length r ≡ 1024 ⌝ }
 {
-    [0u8; 256]
+    [0u8; 1024]
+}
+
+// For each mesh how many triangles are kept up to its end.
+pub fn fresh_ends() -> [u32; 64]
+    ensures { λ r. ⌜ length r ≡ 64 ⌝ }
+{
+    [0u32; 64]
 }
 
 pub fn fresh_case_words() -> [u32; 20]

@@ -24,7 +24,7 @@ fn print_band(w: &[u32], k: usize) {
 
 // What the air takes, band by band.
 fn print_air(w: &[u32]) {
-    print(b"The air takes");
+    print(b"The air takes, in millionths of a decibel a metre in each octave band:\n ");
     print_band(w, 12);
     print_band(w, 13);
     print_band(w, 14);
@@ -33,7 +33,7 @@ fn print_air(w: &[u32]) {
     print_band(w, 17);
     print_band(w, 18);
     print_band(w, 19);
-    print(b" millionths of a decibel a metre.\n");
+    print(b"\n");
 }
 
 // What the air takes, and the forecast for as many walls as the settings and the triangles of a case allow, each of which may come first; no forecast where

@@ -24,7 +24,7 @@ fn print_scene(s: &[u8], order: u32, celsius: f32, rate: f32) {
     print_version();
     print(b", scene ");
     print_name(s);
-    print(b": ");
+    print(b"\n");
     print_float(celsius, 1, 0);
     print(b" degrees, sound at ");
     print_float(scene::speed_of_sound(celsius), 2, 0);

@@ -1,11 +1,11 @@
 // The built-in booth, in the text that a file would have.
 
 // A room of twelve metres with a carpet, ceiling tiles and plaster walls, and three free panels of wood: 18 triangles.
-pub fn run_built_in() {
+pub fn run_built_in(by_time: bool) {
     crate::run(
         b"case built-in                  # 12 m long, 3 m high, 5 m wide
 counts 3 16 32 4096            # order, most taps, most planes, room for candidates
-floats 0.1 50 20 48000 3f7f069e 0.25 0.05
+floats 0.1 50 20 48000 0.9961947 0.25 0.05
 merge 1
 curve inverse 1 1 1 10000
 air 121 440 1310 2728 4665 9887 29666 105291
@@ -75,5 +75,6 @@ separated 0
 end
 ",
         b"",
+        by_time,
     );
 }

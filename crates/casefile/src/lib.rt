@@ -93,8 +93,9 @@ const SEPARATED_WORD: u32 = 25;
 
 const END: u32 = 26;
 
-// The place in the text up to which it was read, its line, and what was expected there: 0 where nothing went wrong.
+// The place in the text up to which it was read, where the last token began, its line, and what was expected there: 0 where nothing went wrong.
 pub struct Cursor {
+    pub from: usize,
     pub at: usize,
     pub line: u32,
     pub wrong: u32,
@@ -158,6 +159,7 @@ fn add_word(w: &mut [u32], k: usize, n: u32) {
 // The same place, where something else was expected.
 fn fault(c: Cursor, wrong: u32) -> Cursor {
     Cursor {
+        from: c.from,
         at: c.at,
         line: c.line,
         wrong,
@@ -167,6 +169,7 @@ fn fault(c: Cursor, wrong: u32) -> Cursor {
 // The place after a token.
 fn after(t: text::Token, wrong: u32) -> Cursor {
     Cursor {
+        from: t.start,
         at: t.end,
         line: t.line,
         wrong,
@@ -565,6 +568,7 @@ fn read_scene(
 
 fn start() -> Cursor {
     Cursor {
+        from: 0,
         at: 0,
         line: 1,
         wrong: 0,

@@ -15,13 +15,8 @@ use Rattle.text.specs.Numbers.{pointAt, parted, unparted, unsigned, nega
 use Rattle.text.specs.declared.Number.{Number}
 use Rattle.text.specs.declared.Number.the-variants.{Real, NoReal}
 
--- a decimal has a digit
-pub decimal-some : (w : List ℕ) → isDecimal w ≡ true → 1 ≤ length w
-unfolding isDecimal
-decimal-some w e = leb-true 1 (length w) (and-left (leb 1 (length w)) (all isDigit w) e)
-
 -- a part from a place to the end is the rest
-rest : (w : List ℕ) (k : ℕ) → take (length w - k) (drop k w) ≡ drop k w
+pub rest : (w : List ℕ) (k : ℕ) → take (length w - k) (drop k w) ≡ drop k w
 rest w k = take-all (length w - k) (drop k w) (let d = length-drop k w in omega arith)
 
 module _ (w : List ℕ) (p : ℕ) (e : p ≡ pointAt w) where

@@ -2,7 +2,7 @@
 use Prim.Native.Nat.{ℕ, suc, _+_, _-_, _*_, _%_, _^_, min}
 use mathlib.Core.Bool.{Bool, true, cond, _&&_, not}
 use mathlib.Core.List.{List, [], _∷_, foldl}
-use lib.ListN.{length, take, drop}
+use lib.ListN.{length, take, drop, getD}
 use lib.IntN.{pos}
 use lib.Dec.{leb, ltb, eqb}
 use lib.Ieee.{Float, binary32, ofBits, ofInt, div, neg}
@@ -29,16 +29,19 @@ unfoldable pub pointAt : List ℕ → ℕ
 pointAt [] = 0
 pointAt (b ∷ l) = cond (eqb b 46) 0 (suc (pointAt l))
 
--- v / 10 ^ k, rounded once: v has at most seven digits, so both are floats
-unfoldable pub divided : ℕ → ℕ → Number
-divided v k = cond (ltb v wordEnd) (Real (div binary32 (ofInt binary32 (pos v)) (ofInt binary32 (pos (10 ^ k))))) NoReal
+-- 2 ^ 24: every whole number below it is a float
+abbrev pub exactEnd : ℕ
+exactEnd = 16777216
 
--- digits, a point, digits: seven in all, and one or more on each side
+-- v / 10 ^ k, rounded once: v is below 2 ^ 24 and k at most 9, so both are floats
+unfoldable pub divided : ℕ → ℕ → Number
+divided v k = cond (ltb v exactEnd) (Real (div binary32 (ofInt binary32 (pos v)) (ofInt binary32 (pos (10 ^ k))))) NoReal
+
+-- digits, a point, digits: one or more on each side, at most nine behind it
 unfoldable pub parted : List ℕ → List ℕ → Number
 parted a b =
-    cond (ltb 7 (length a)) NoReal
-    (cond (ltb (7 - length a) (length b)) NoReal
-    (cond (isDecimal a) (cond (isDecimal b) (divided (foldl push (foldl push 0 a) b) (length b)) NoReal) NoReal))
+    cond (ltb 9 (length b)) NoReal
+    (cond (isDecimal a) (cond (isDecimal b) (divided (foldl push (foldl push 0 a) b) (length b)) NoReal) NoReal)
 
 -- one to seven digits
 unfoldable pub unparted : List ℕ → Number
@@ -72,6 +75,14 @@ pushHex n b = n % 268435456 * 16 + hexDigit b % 16
 unfoldable pub hexValue : List ℕ → ℕ
 hexValue w = foldl pushHex 0 w
 
--- eight hexadecimal digits are a float's bits; anything else is a decimal
+-- `0x` before it
+unfoldable pub prefixed : List ℕ → Bool
+prefixed w = eqb (getD w 0 0) 48 && eqb (getD w 1 0) 120
+
+-- a float by its bits, hexadecimal digits
+unfoldable pub hexBits : List ℕ → Number
+hexBits w = cond (allHex w) (Real (ofBits binary32 (hexValue w))) NoReal
+
+-- `0x` and eight hexadecimal digits are a float's bits; anything else is a decimal, so that eight digits alone are no float
 unfoldable pub numberOf : List ℕ → Number
-numberOf w = cond (eqb (length w) 8) (cond (allHex w) (Real (ofBits binary32 (hexValue w))) (decimalOf w)) (decimalOf w)
+numberOf w = cond (eqb (length w) 10) (cond (prefixed w) (hexBits (drop 2 w)) (decimalOf w)) (decimalOf w)

@@ -20,8 +20,17 @@ use listing::put_digits;
 // The first number that no u32 is.
 const WORD_END: u64 = 4294967296;
 
-// The digits of a decimal, whole part and decimals together.
+// The digits of a decimal without a point.
 const MOST_DIGITS: usize = 7;
+
+// The decimals behind a point: so many tens multiply to a float.
+const MOST_DECIMALS: usize = 9;
+
+// Every whole number below 2^24 is a float.
+const EXACT_END: u64 = 16777216;
+
+// `0x` and eight digits.
+const BITS_LENGTH: usize = 10;
 
 // What `scaled` answers for a number that is too large, or none.
 const NONE: u64 = 18446744073709551615;
@@ -82,7 +91,7 @@ pub fn whole(word: &[u8]) -> Word
 // ---- decimals
 
 fn power(k: usize) -> u32
-    requires { ⌜ k ≤ 6 ⌝ }
+    requires { ⌜ k ≤ 9 ⌝ }
     ensures { λ r. ⌜ (r ≡ 10 ^ k) × (0 < r) ⌝ }
 {
     if k < 1 {
@@ -103,7 +112,16 @@ fn power(k: usize) -> u32
     if k < 6 {
         return 100000;
     }
-    1000000
+    if k < 7 {
+        return 1000000;
+    }
+    if k < 8 {
+        return 10000000;
+    }
+    if k < 9 {
+        return 100000000;
+    }
+    1000000000
 }
 
 // The place of the first point, or the end.
@@ -120,12 +138,12 @@ fn point(word: &[u8]) -> usize
     i
 }
 
-// v / 10^k, the nearest float: both are floats, since v has at most seven digits.
+// v / 10^k, the nearest float: both are floats, since v is below 2^24 and k at most 9.
 fn divided(v: u64, k: usize) -> Number
-    requires { ⌜ k ≤ 6 ⌝ }
+    requires { ⌜ k ≤ 9 ⌝ }
     ensures { λ r. ⌜ r ≡ numbers.divided v k ⌝ }
 {
-    if v < WORD_END {
+    if v < EXACT_END {
         let whole = std::num::nearest_u32_to_f32(v as u32);
         let tens = std::num::nearest_u32_to_f32(power(k));
         return Number::Real(whole / tens);
@@ -137,10 +155,7 @@ fn divided(v: u64, k: usize) -> Number
 fn parted(a: &[u8], b: &[u8]) -> Number
     ensures { λ r. ⌜ r ≡ numbers.parted (now (a .entry)) (now (b .entry)) ⌝ }
 {
-    if MOST_DIGITS < a.len() {
-        return Number::NoReal;
-    }
-    if MOST_DIGITS - a.len() < b.len() {
+    if MOST_DECIMALS < b.len() {
         return Number::NoReal;
     }
     if is_decimal(a) {} else {
@@ -186,7 +201,7 @@ fn negated(x: Number) -> Number
     }
 }
 
-// A decimal: a minus or none, one to seven digits, among them a point or none with a digit on each side.
+// A decimal: a minus or none, then one to seven digits, or digits, a point and up to nine digits that make a number below 2^24 without the point.
 fn decimal(word: &[u8]) -> Number
     ensures { λ r. ⌜ r ≡ numbers.decimalOf (now (word .entry)) ⌝ }
 {
@@ -220,7 +235,7 @@ fn hex_digit(b: u8) -> u8
     16
 }
 
-fn is_hex(word: &[u8]) -> bool
+pub fn is_hex(word: &[u8]) -> bool
     ensures { λ r. ⌜ r ≡ numbers.allHex (now (word .entry)) ⌝ }
 {
     let mut i = 0;
@@ -263,15 +278,38 @@ pub fn float_of(w: u32) -> f32
     f32::from_bits(w)
 }
 
-// A float: eight hexadecimal digits are its bits, and anything else is a decimal.
+// Whether a word of two bytes or more begins with `0x`.
+fn prefixed(word: &[u8]) -> bool
+    requires { ⌜ 2 ≤ length (now word) ⌝ }
+    ensures { λ r. ⌜ r ≡ numbers.prefixed (now (word .entry)) ⌝ }
+{
+    if word[0] == b'0' {
+        if word[1] == b'x' {
+            return true;
+        }
+    }
+    false
+}
+
+// A float by its bits, hexadecimal digits.
+fn hex_bits(digits: &[u8]) -> Number
+    ensures { λ r. ⌜ r ≡ numbers.hexBits (now (digits .entry)) ⌝ }
+{
+    if is_hex(digits) {
+        return Number::Real(float_of(hex_value(digits)));
+    }
+    Number::NoReal
+}
+
+// A float: `0x` and eight hexadecimal digits are its bits, and anything else is a decimal.
 pub fn float_in(word: &[u8]) -> Number
     ensures { λ r. ⌜ r ≡ numbers.numberOf (now (word .entry)) ⌝ }
 {
-    if word.len() != 8 {
+    if word.len() != BITS_LENGTH {
         return decimal(word);
     }
-    if is_hex(word) {
-        return Number::Real(float_of(hex_value(word)));
+    if prefixed(word) {
+        return hex_bits(&word[2..]);
     }
     decimal(word)
 }

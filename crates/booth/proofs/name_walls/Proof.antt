@@ -1,4 +1,4 @@
-use mathlib.Core.Path.{sym}
+use mathlib.Core.Path.{sym, _∙_}
 use Rattle.booth.proofs.name_walls.Statement.{statement}
 use Rattle.booth.proofs.name_walls.Tie as tie
 
@@ -55,17 +55,20 @@ slice-aggregate-planes-of-16 c = sym (c .before .before .before .before .before 
 slice-aggregate-planes-of-17 : tie.Need-slice-aggregate-planes-of-17
 slice-aggregate-planes-of-17 c = sym (c .before .before .before .before .before .before .before .before .before .before .before .before .before .before .before .before .before .before .before .before .before .before .before .before .fresh-plane-edges .ensures)
 
-mark-requires : tie.Need-mark-requires
-mark-requires c κs = let p = c .before .before .before .before .before .before .before .before .before .before .before .before .before .before .before .before .before .before .before .before .before .before .before .before .planes-of .ensures in (p .floats-room, p .words-room)
+slice-aggregate-describe : tie.Need-slice-aggregate-describe
+slice-aggregate-describe c = sym (c .before .before .before .before .before .before .before .before .before .before .before .before .before .before .before .before .before .before .before .before .before .before .before .before .before .planes-of .kept .1 .1 .1 .1 .1 .1 .1 .1 .1 .1 .1 .1 .1 .1 .1 .0 ∙ c .before .before .before .before .before .before .before .before .before .before .before .before .before .before .before .before .before .before .before .before .before .before .before .before .before .before .before .before .before .before .before .before .before .before .before .before .before .before .before .before .before .before .before .before .before .before .before .before .before .before .before .fresh-plane-triangles .ensures)
+
+describe-requires : tie.Need-describe-requires
+describe-requires c κs = let p = c .before .before .before .before .before .before .before .before .before .before .before .before .before .before .before .before .before .before .before .before .before .before .before .before .before .planes-of .ensures in (p .floats-room, p .words-room)
 
 same-length : tie.Need-same-length
-same-length c = c .before .before .before .before .before .before .before .before .before .before .before .before .before .before .before .before .before .before .before .before .before .before .before .before .before .before .before .planes-of .kept .1 .1 .1 .1 .1 .1 .1 .1 .1 .1 .1 .1 .1 .1 .1 .1 .0
+same-length c = c .before .before .before .before .before .before .before .before .before .before .before .before .before .before .before .before .before .before .before .before .before .before .before .before .before .before .before .before .planes-of .kept .1 .1 .1 .1 .1 .1 .1 .1 .1 .1 .1 .1 .1 .1 .1 .1 .0
 
 same-length-2 : tie.Need-same-length-2
-same-length-2 c = c .before .before .before .before .before .before .before .before .before .before .before .before .before .before .before .before .before .before .before .before .before .before .before .before .before .before .before .planes-of .kept .1 .1 .1 .1 .1 .1 .1 .1 .1 .1 .1 .1 .1 .1 .1 .1 .1 .0
+same-length-2 c = c .before .before .before .before .before .before .before .before .before .before .before .before .before .before .before .before .before .before .before .before .before .before .before .before .before .before .before .before .planes-of .kept .1 .1 .1 .1 .1 .1 .1 .1 .1 .1 .1 .1 .1 .1 .1 .1 .1 .0
 
 same-length-3 : tie.Need-same-length-3
-same-length-3 c = c .before .before .mark .kept .0
+same-length-3 c = c .before .before .describe .kept .0
 
 pub name-walls-spec : {M : Type 1} → statement M
 name-walls-spec =
@@ -111,7 +114,8 @@ name-walls-spec =
     slice-aggregate-planes-of-16
     slice-aggregate-planes-of-17
     (λ c κs. tt)
-    mark-requires
+    slice-aggregate-describe
+    describe-requires
     same-length
     same-length-2
     same-length-3

@@ -12,7 +12,7 @@ slice-aggregate-print-table-2 : tie.Need-slice-aggregate-print-table-2
 slice-aggregate-print-table-2 c = sym (length-take-le _ _ (c .before .before .if3 .left))
 
 print-table-requires : tie.Need-print-table-requires
-print-table-requires c κs = let q = c .before .before .before .before .before .before .before .before .before .before .before .before .before .before .before .before .pre in (q .0, q .1)
+print-table-requires c κs = let q = c .before .before .before .before .before .before .before .before .before .before .before .before .before .before .before .before .before .pre in (q .0, q .1)
 
 slice-aggregate-save : tie.Need-slice-aggregate-save
 slice-aggregate-save c = sym (length-take-le _ _ (c .before .before .before .before .before .before .before .if2 .left))
@@ -21,6 +21,7 @@ pub report-spec : {M : Type 1} → statement M
 report-spec =
     tie.close
     (tie.spec
+    (λ c κs. tt)
     (λ c κs. tt)
     (λ c κs. tt)
     (λ c. tt)
@@ -32,8 +33,6 @@ report-spec =
     (λ c κs. tt)
     print-table-requires
     slice-aggregate-save
-    (λ c κs. tt)
-    (λ c κs. tt)
     (λ c κs. tt)
     (λ c κs. tt)
     (λ c. tt))

@@ -19,4 +19,7 @@ power-spec =
     (λ c. (at _ 3 (omega (arith, c .before .if3 .left, c .if4 .taken)), omega arith))
     (λ c. (at _ 4 (omega (arith, c .before .if4 .left, c .if5 .taken)), omega arith))
     (λ c. (at _ 5 (omega (arith, c .before .if5 .left, c .if6 .taken)), omega arith))
-    (λ c. (at _ 6 (omega (arith, c .if6 .left, c .before .before .before .before .before .before .pre)), omega arith)))
+    (λ c. (at _ 6 (omega (arith, c .before .if6 .left, c .if7 .taken)), omega arith))
+    (λ c. (at _ 7 (omega (arith, c .before .if7 .left, c .if8 .taken)), omega arith))
+    (λ c. (at _ 8 (omega (arith, c .before .if8 .left, c .if9 .taken)), omega arith))
+    (λ c. (at _ 9 (omega (arith, c .if9 .left, c .before .before .before .before .before .before .before .before .before .pre)), omega arith)))

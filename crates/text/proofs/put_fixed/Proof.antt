@@ -46,7 +46,7 @@ pub put-fixed-spec : {M : Type 1} → statement M
 put-fixed-spec =
     tie.close
     (tie.spec
-    (λ c κs. c .before .pre .0)
+    (λ c κs. let few = c .before .pre .0 in omega arith)
     (λ c κs. tt)
     (λ c κs. omega (arith, c .before .before .before .before .before .pre .1))
     (λ c. search needs)

@@ -21,11 +21,15 @@ pub fn whole_of(word: &[u8]) -> Option<u32> {
     word.iter().try_fold(0u32, |n, b| n.checked_mul(10)?.checked_add((b - b'0') as u32))
 }
 
-/// A float: eight hexadecimal digits in lower case are its bits, and anything else is a decimal.
+fn is_hex(word: &[u8]) -> bool {
+    word.iter().all(|b| matches!(b, b'0'..=b'9' | b'a'..=b'f'))
+}
+
+/// A float: `0x` and eight hexadecimal digits in lower case are its bits, and anything else is a decimal.
 pub fn float_of(word: &[u8]) -> Option<f32> {
-    if word.len() == 8 && word.iter().all(|b| matches!(b, b'0'..=b'9' | b'a'..=b'f')) {
+    if let Some(digits) = word.strip_prefix(b"0x").filter(|d| d.len() == 8) {
         let digit = |b: u8| if b <= b'9' { b - b'0' } else { b - b'a' + 10 };
-        return Some(f32::from_bits(word.iter().fold(0, |n, &b| n << 4 | digit(b) as u32)));
+        return is_hex(digits).then(|| f32::from_bits(digits.iter().fold(0, |n, &b| n << 4 | digit(b) as u32)));
     }
     match word.strip_prefix(b"-") {
         Some(rest) => unsigned_of(rest).map(|x| -x),
@@ -33,23 +37,38 @@ pub fn float_of(word: &[u8]) -> Option<f32> {
     }
 }
 
-/// One to seven digits, among them a point or none with a digit on each side: the digits as a float, divided by a power of ten as a float. Both
-/// are exact, so that this is the nearest float.
+/// One to seven digits; or digits, a point and up to nine digits, which make a number below 2^24 without the point: the digits as a float, divided by a
+/// power of ten as a float. Both are exact, so that this is the nearest float.
 fn unsigned_of(word: &[u8]) -> Option<f32> {
     let (whole, decimals) = match word.iter().position(|&b| b == b'.') {
         Some(p) if is_decimal(&word[p + 1..]) => (&word[..p], &word[p + 1..]),
         Some(_) => return None,
+        None if word.len() > 7 => return None,
         None => (word, &word[..0]),
     };
-    if !is_decimal(whole) || whole.len() + decimals.len() > 7 {
+    if !is_decimal(whole) || decimals.len() > 9 {
         return None;
     }
-    let digits = whole.iter().chain(decimals).fold(0, |n, b| 10 * n + (b - b'0') as u32);
-    Some(digits as f32 / 10u32.pow(decimals.len() as u32) as f32)
+    let digits = whole.iter().chain(decimals).fold(0u64, |n, b| (10 * n + (b - b'0') as u64).min(1 << 32));
+    (digits < 1 << 24).then(|| digits as f32 / 10u32.pow(decimals.len() as u32) as f32)
+}
+
+/// What to write in place of a word that is no float.
+fn advice(word: &[u8]) -> String {
+    let shown = String::from_utf8_lossy(word);
+    match word {
+        _ if word.len() == 8 && is_hex(word) => format!("write 0x{shown} for a float's bits; a decimal without a point has at most seven digits"),
+        [b'0', b'x', ..] => "bits are 0x and eight digits, 0 to 9 and a to f".into(),
+        [b'+', ..] => "write it without the plus".into(),
+        [b'.', ..] | [.., b'.'] => "write a digit on each side of the point".into(),
+        _ if word.iter().any(|b| matches!(b, b'e' | b'E')) => "write it without an exponent, as 1000 for 1e3".into(),
+        _ => "write a decimal of at most seven digits, as -0.25, or a float's bits, as 0xbe800000".into(),
+    }
 }
 
 struct Reader<'a> {
     text: &'a [u8],
+    last: &'a [u8],
     at: usize,
     line: usize,
 }
@@ -75,11 +94,23 @@ impl<'a> Reader<'a> {
         let rest = &self.text[self.at..];
         let n = rest.iter().position(|&b| is_blank(b) || b == b'#').unwrap_or(rest.len());
         self.at += n;
-        &rest[..n]
+        self.last = &rest[..n];
+        self.last
     }
 
+    /// What was expected in place of the last token.
     fn fault<T>(&self, expected: &str) -> Read<T> {
-        Err(format!("line {}: expected {expected}", self.line))
+        match self.last {
+            b"" => Err(format!("line {}: expected {expected}, and the text ends", self.line)),
+            last => Err(format!("line {}: expected {expected}, and found '{}'", self.line, String::from_utf8_lossy(last))),
+        }
+    }
+
+    fn no_float<T>(&self) -> Read<T> {
+        match self.last {
+            b"" => self.fault("a float"),
+            last => Err(format!("line {}: '{}' is no number that this program reads: {}", self.line, String::from_utf8_lossy(last), advice(last))),
+        }
     }
 
     /// Whether the next token is this word, which is then read.
@@ -118,7 +149,7 @@ impl<'a> Reader<'a> {
     fn floats<const N: usize>(&mut self) -> Read<[f32; N]> {
         let mut a = [0.0; N];
         for x in &mut a {
-            *x = float_of(self.token()).map_or_else(|| self.fault("a float: a decimal of at most seven digits, or eight hexadecimal digits"), Ok)?;
+            *x = float_of(self.token()).map_or_else(|| self.no_float(), Ok)?;
         }
         Ok(a)
     }
@@ -222,7 +253,7 @@ impl<'a> Reader<'a> {
 impl Case {
     /// All cases of a text, of which it has one at least; or the line where it goes wrong, and what was expected there.
     pub fn read_all(text: &[u8]) -> Result<Vec<Case>, String> {
-        let mut reader = Reader { text, at: 0, line: 1 };
+        let mut reader = Reader { text, last: b"", at: 0, line: 1 };
         let mut cases = vec![reader.case()?];
         while reader.more() {
             cases.push(reader.case()?);

@@ -7,7 +7,7 @@ use std::path::{Path, PathBuf};
 /// Document 01's case A, as docs/BOOTH.md has it.
 const FLOOR: &str = "case floor
 counts 3 16 32 250000                  # order, most taps, most planes, room for candidates
-floats 0.1 50 20 48000 3f7f069e 0.25 0.05
+floats 0.1 50 20 48000 0x3f7f069e 0.25 0.05
                                        # edge fade, longest path, temperature, sample rate,
                                        # cosine of the merge angle, merge offset, buried distance
 merge 1
@@ -55,11 +55,11 @@ fn tokens(text: &str) -> Vec<&str> {
 // ── floats and whole numbers ──────────────────────────────────────────
 
 #[test]
-fn bits_are_eight_lower_case_digits() {
-    for (word, bits) in [("3f800000", 0x3f80_0000), ("12345678", 0x1234_5678), ("80000000", 0x8000_0000), ("ff800001", 0xff80_0001), ("deadbeef", 0xdead_beef)] {
+fn bits_are_0x_and_eight_lower_case_digits() {
+    for (word, bits) in [("0x3f800000", 0x3f80_0000), ("0x12345678", 0x1234_5678), ("0x80000000", 0x8000_0000), ("0xff800001", 0xff80_0001), ("0xdeadbeef", 0xdead_beef)] {
         assert_eq!(float_of(word.as_bytes()).map(f32::to_bits), Some(bits), "{word}");
     }
-    for word in ["3F800000", "+3f80000", "0x3f8000", "3f80000", "3f8000000", "-3f80000", "3f80000g"] {
+    for word in ["3f800000", "10000000", "00000000", "0X3f800000", "0x3F800000", "0x3f80000", "0x3f8000000", "-0x3f800000", "0x3f80000g", "12345e10"] {
         assert!(float_of(word.as_bytes()).is_none(), "{word}");
     }
 }
@@ -68,11 +68,12 @@ fn bits_are_eight_lower_case_digits() {
 fn decimals() {
     for (word, x) in [
         ("0", 0.0f32), ("-0", -0.0), ("-0.0", -0.0), ("1", 1.0), ("-4", -4.0), ("0.1", 0.1), ("0.05", 0.05), ("48000", 48000.0), ("007", 7.0), ("0.000001", 0.000001),
-        ("9999999", 9999999.0), ("-1234567", -1234567.0), ("1.234567", 1.234567), ("-1234.56", -1234.56), ("123456.7", 123456.7), ("-0.75", -0.75),
+        ("9999999", 9999999.0), ("-1234567", -1234567.0), ("1.234567", 1.234567), ("-1234.56", -1234.56), ("123456.7", 123456.7), ("-0.75", -0.75), ("0.9961947", f32::from_bits(0x3f7f_069e)), ("10000.001", 10000.001), ("16777.215", 16777.215), ("0.000000001", 1e-9),
+        ("00000000.5", 0.5), ("-0.00000012", -0.00000012),
     ] {
         assert_eq!(float_of(word.as_bytes()).map(f32::to_bits), Some(x.to_bits()), "{word}");
     }
-    for word in ["", "-", ".", "1.", ".5", "-.5", "--1", "+1", "1e3", "1,5", "1.2.3", "1..2", "-12345678", "0.9961947", "10000.001", "nan", "inf", "1_000", "1-", "\u{663}"] {
+    for word in ["", "-", ".", "1.", ".5", "-.5", "--1", "+1", "1e3", "1,5", "1.2.3", "1..2", "-12345678", "1.6777216", "0.0000000001", "nan", "inf", "1_000", "1-", "\u{663}"] {
         assert!(float_of(word.as_bytes()).is_none(), "{word}");
     }
 }
@@ -80,8 +81,8 @@ fn decimals() {
 #[test]
 fn decimals_are_the_nearest_floats() {
     let mut tried = 0;
-    for v in (0..10_000_000u32).step_by(61).chain(9_999_900..10_000_000) {
-        for k in 0..7usize {
+    for v in (0..10_000_000u32).step_by(61).chain(9_999_900..10_000_000).chain((10_000_000..1 << 24).step_by(61)) {
+        for k in (v / 10_000_000) as usize..10 {
             let digits = format!("{v:0w$}", w = k + 1);
             let (a, b) = digits.split_at(digits.len() - k);
             let word = if k == 0 { a.to_string() } else { format!("{a}.{b}") };
@@ -151,7 +152,7 @@ fn any_bytes_in_remarks_and_names() {
 
 #[test]
 fn curves_by_name() {
-    let c = one(FLOOR.replace("curve inverse 1 1 1 10000", "curve linear 2 0.5 0.25 3f800000").as_bytes());
+    let c = one(FLOOR.replace("curve inverse 1 1 1 10000", "curve linear 2 0.5 0.25 0x3f800000").as_bytes());
     let s = c.settings;
     assert_eq!((s.linear, s.reference, s.rolloff, s.min_distance, s.far_distance), (true, 2.0, 0.5, 0.25, 1.0));
     assert!(!one(FLOOR.as_bytes()).settings.linear);
@@ -221,18 +222,23 @@ fn faults_name_the_line() {
         ("case floor", "", "line 2: expected `case`"),
         ("counts 3", "counts -3", "line 2: expected a whole number"),
         ("counts 3", "counts 3.0", "line 2: expected a whole number"),
-        ("floats 0.1", "floats .1", "line 3: expected a float"),
-        ("3f7f069e", "0.9961947", "line 3: expected a float"),
-        ("merge 1", "merge 2", "line 6: expected 0 or 1"),
+        ("floats 0.1", "floats .1", "line 3: '.1' is no number that this program reads: write a digit on each side"),
+        ("0x3f7f069e", "3f7f069e", "line 3: '3f7f069e' is no number that this program reads: write 0x3f7f069e for a float's bits"),
+        ("0x3f7f069e", "0x3f7f069", "line 3: '0x3f7f069' is no number that this program reads: bits are 0x and eight digits"),
+        ("0x3f7f069e", "0.99619472", "line 3: '0.99619472' is no number that this program reads: write a decimal of at most seven"),
+        ("20 48000", "20 48e3", "line 3: '48e3' is no number that this program reads: write it without an exponent"),
+        ("20 48000", "+20 48000", "line 3: '+20' is no number that this program reads: write it without the plus"),
+        ("1 10000", "1 10000000", "line 7: '10000000' is no number that this program reads: write 0x10000000"),
+        ("merge 1", "merge 2", "line 6: expected 0 or 1, and found '2'"),
         ("materials 1", "probes\nmaterials 1", "line 9: expected a whole number"),
-        ("materials 1", "probes 8\nmaterials 1", "line 9: expected a float"),
+        ("materials 1", "probes 8\nmaterials 1", "line 9: 'materials' is no number"),
         ("materials 1", "air 1 2 3\nmaterials 1", "line 9: expected a whole number"),
         ("materials 1", "air 0 0 0 0 0 0 0 0.5\nmaterials 1", "line 8: expected a whole number"),
         ("materials 1", "air 0 0 0 0 0 0 0 0 probes 8 0.06\nmaterials 1", "line 8: expected `materials`"),
         ("materials 1", "probes 8 0.06 probes 8 0.06\nmaterials 1", "line 8: expected `materials`"),
         ("separated 0", "separated 2", "line 21: expected 0 or 1"),
         ("m 0.75", "m 0.75 0", "line 9: expected `meshes`"),
-        ("p -4 0 -4", "p -4 0", "line 14: expected a float"),
+        ("p -4 0 -4", "p -4 0", "line 14: 'p' is no number"),
         ("i 0 2 3", "0 2 3", "line 18: expected `i`"),
         ("end\n", "end 1", "line 22: expected `case`"),
         ("end\n", "", "line 22: expected `end`"),
@@ -242,8 +248,8 @@ fn faults_name_the_line() {
         let got = fault(FLOOR.replacen(old, new, 1));
         assert!(got.starts_with(says), "{new}: {got}");
     }
-    assert_eq!(fault(""), "line 1: expected `case`");
-    assert_eq!(fault("# nothing\n"), "line 2: expected `case`");
+    assert_eq!(fault(""), "line 1: expected `case`, and the text ends");
+    assert_eq!(fault("# nothing\n"), "line 2: expected `case`, and the text ends");
     // no token can be left out
     let words = tokens(FLOOR);
     for k in 0..words.len() {
@@ -273,7 +279,7 @@ fn findings_are_read_to_their_bits() {
     for file in files {
         let text = std::fs::read_to_string(&file).unwrap();
         assert_eq!(bits(&text), text, "{}", file.display());
-        assert!(text.contains("\nprobes 8 3d75c28f\nair "), "{}", file.display());
+        assert!(text.contains("\nprobes 8 0x3d75c28f\nair "), "{}", file.display());
     }
 }
 

@@ -8,13 +8,16 @@ use Rattle.booth.proofs.names.print_lines.Tie as tie
 -- `booth::names::print_lines` meets its contract: the rows of each plane are within their areas.
 
 abbrev Inv-loop : tie.InvT-loop
-Inv-loop taps on order count floats words p₀ p = Unit {0}
+Inv-loop taps on order count floats words tags text p₀ p = Unit {0}
 
 abbrev μ-loop : tie.MeasureT-loop
-μ-loop taps on order count floats words p₀ p = length on - p
+μ-loop taps on order count floats words tags text p₀ p = length on - p
 
 print-used-requires : tie.Need-print-used-requires Inv-loop μ-loop
-print-used-requires c κs = let q = c .before .before .before .before .before .before .before .pre in let h = c .if1 .left in (q .0, h, omega (arith, h, q .1), omega (arith, h, q .2))
+print-used-requires c κs =
+    let q = c .before .before .before .before .before .before .before .before .before .pre in
+    let h = c .if1 .left in
+    (h, omega (arith, h, q .0), omega (arith, h, q .1))
 
 pub print-lines-spec : {M : Type 1} → statement M
 print-lines-spec =

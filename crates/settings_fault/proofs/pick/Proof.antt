@@ -1,0 +1,10 @@
+-- `settings_fault::pick` meets its contract: by its test.
+use Rattle.settings_fault.proofs.pick.Statement.{statement}
+use Rattle.settings_fault.proofs.pick.Tie as tie
+
+pub pick-spec : {M : Type 1} → statement M
+pick-spec =
+    tie.close
+    (tie.spec
+    (λ c. rw (c .if1 .taken))
+    (λ c. rw (c .if1 .left)))

@@ -1,0 +1,2 @@
+-- The definitions that the contracts of `settings_fault` cite.
+pub mod Fault
