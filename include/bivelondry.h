@@ -102,7 +102,7 @@ static inline const char *biv_refusal_text(uint32_t refusal)
  * 3, 22 at 4, 12 at 5, 8 at 6, 6 at 7 and 5 at 8; so ask for a lower order or fewer planes. */
 #define BIV_MOST_IMAGES 250000
 #define BIV_BANDS 8
-#define BIV_OUTPUT_BYTES 55306 /* the longest packet: 10 bytes, and 54 for each of 1,024 taps */
+#define BIV_OUTPUT_BYTES (10 + 54 * BIV_MOST_TAPS) /* the longest packet, 55,306 bytes: 10, and 54 for each tap */
 
 enum biv_curve { BIV_INVERSE = 0, BIV_LINEAR = 1 };
 

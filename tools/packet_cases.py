@@ -1,10 +1,11 @@
 #!/usr/bin/env python3
 # Writes crates/packets/stdin (the stored packets, with the answer that each must get) and crates/packets/stdout (what the program must print).
-# The answers come from the reader and the writer below, which follow document 01 and share nothing with crates/packet.
+# The answers come from the reader and the writer below, which follow documents 01 and 02 and share nothing with crates/packet.
 import os, struct
 
 # Taps, words of a tap area and bytes of an output area: at most, and at least.
-MOST, AREA, OUT = 1024, 14336, 55306
+MOST = 1024
+AREA, OUT = 14 * MOST, 10 + 54 * MOST
 INF, NAN, SNAN, MINUS = 0x7f800000, 0x7fc00000, 0x7f800001, 0x80000000
 FILL = 0x5a5a5a5a
 

@@ -52,8 +52,8 @@ pub const MOST_CROSSINGS: u32 = 32;
 pub const MOST_IMAGES: u32 = 250_000;
 /// Taps of a packet, at most.
 pub const MOST_TAPS: usize = 1024;
-/// Bytes of a packet, at most: 10, and 54 for each of 1,024 taps.
-pub const OUTPUT_BYTES: usize = 55_306;
+/// Bytes of a packet, at most: 10, and 54 for each tap, which makes 55,306.
+pub const OUTPUT_BYTES: usize = 10 + 54 * MOST_TAPS;
 
 /// Why a query, a packet, an image's number or a forecast is refused; of several reasons the first in this order.
 #[derive(Clone, Copy, Debug, PartialEq, Eq, PartialOrd, Ord, Hash)]

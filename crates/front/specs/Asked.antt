@@ -31,7 +31,7 @@ silentOf separated source listener m = separated || (not (finitePoint source) ||
 abbrev pub usedOrder : Bool → ℕ → ℕ
 usedOrder silent order = cond silent 0 order
 
--- "order and `max_reflections` any u32 (used as at most 8 and 1,024)"
+-- "order and `max_reflections` any u32 (used as at most 8 and 64)"; 1,024 since document 02, Note 7
 abbrev pub searchOrder : Settings → ℕ
 searchOrder st = min (st .«max_reflection_order») maxOrder
 

@@ -26,7 +26,7 @@ pub use Rattle.front.specs.Asked.{finitePoint, silentOf, usedOrder, limitOf}
 pub use Rattle.answer.specs.Answer.{byRefusal}
 use Rattle.query.specs.Areas.{Work, zeroed, lengthsOf}
 
--- "order and `max_reflections` any u32 (used as at most 8 and 1,024)": the order of the search, 0 where nothing is searched (`silentOf` of front/specs/Asked)
+-- "order .. any u32 (used as at most 8 ..)": the order of the search, 0 where nothing is searched (`silentOf` of front/specs/Asked)
 abbrev pub orderOf : Settings → Scene → Vec3 → Vec3 → Bool → ℕ
 orderOf st s source listener separated = usedOrder (silentOf separated source listener (length (triangles s))) (min (st .«max_reflection_order») maxOrder)
 

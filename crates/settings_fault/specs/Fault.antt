@@ -16,10 +16,11 @@ abbrev pub firstFailed : ℕ → List Bool → ℕ
 firstFailed k [] = 0
 firstFailed k (b ∷ bs) = cond b (firstFailed (suc k) bs) k
 
--- 1 `max_reflection_planes`, 2 the candidate room
+-- 1 `max_reflection_planes`
 unfoldable pub planesWithin : ℕ → Bool
 planesWithin planes = not (ltb mostPlanes planes)
 
+-- 2 the candidate room
 unfoldable pub roomWithin : ℕ → Bool
 roomWithin c = not (ltb mostCandidates c)
 
@@ -27,10 +28,11 @@ roomWithin c = not (ltb mostCandidates c)
 unfoldable pub crossingsWithin : ℕ → Bool
 crossingsWithin limit = not (ltb limit leastCrossings) && not (ltb mostCrossings limit)
 
--- 16 to 23, the air's coefficients
+-- 20 to 23, the last four of the air's coefficients
 unfoldable pub highAirTests : Air → List Bool
 highAirTests a = airNumberOf (a .a4) ∷ airNumberOf (a .a5) ∷ airNumberOf (a .a6) ∷ airNumberOf (a .a7) ∷ []
 
+-- 16 to 23, all eight
 unfoldable pub airTests : Air → List Bool
 airTests a = airNumberOf (a .a0) ∷ airNumberOf (a .a1) ∷ airNumberOf (a .a2) ∷ airNumberOf (a .a3) ∷ highAirTests a
 

@@ -34,7 +34,7 @@ pub record Pointing (n count : ℕ) (fs : List Float) (ws positions : List ℕ) 
   pub inside : (i : ℕ) → i < count → getD positions i 0 < n
   pub sound : (i : ℕ) → i < n → Sound (candidateAt fs ws i)
 
--- what sending n rows asks: what ranking them asks, rows that can be sent, and room for the packet of 64 taps
+-- what sending n rows asks: what ranking them asks, rows that can be sent, and room for the longest packet
 pub record Sends (n limit images : ℕ) (fs : List Float) (ws keys index words scratch out : List ℕ) : Type 0 where
   pub sortable : Sortable n fs ws keys
   pub for-index : n ≤ length index

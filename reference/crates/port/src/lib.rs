@@ -287,7 +287,7 @@ pub fn query_cost(crossing_limit: u32, planes: u32, first: u32, order: u32, trip
 pub const COLUMNS: usize = 23;
 pub const CANDIDATE_FLOATS: usize = 13;
 pub const CANDIDATE_WORDS: usize = 2;
-pub const OUTPUT: usize = 55_306;
+pub const OUTPUT: usize = 10 + 54 * TAPS;
 
 /// Whole triples of a scene, at most.
 pub const MOST_TRIPLES: usize = 4096;
