@@ -1,0 +1,3 @@
+-- The laws of the fates.
+pub mod Zeros
+pub mod Bytes
