@@ -21,12 +21,12 @@ use Rattle.fates.proofs.Zeros.{numbered-has, has-numbered, none-numbere
 
 -- ---- the bytes by their places
 
-fates-length : (own : ℕ → ℕ) (whole taps : List Candidate) (n k : ℕ) → length (fatesFrom own whole taps n k) ≡ k
+pub fates-length : (own : ℕ → ℕ) (whole taps : List Candidate) (n k : ℕ) → length (fatesFrom own whole taps n k) ≡ k
 unfolding fatesFrom
 fates-length own whole taps n zero = refl
 fates-length own whole taps n (suc k) = ap suc (fates-length own whole taps (suc n) k)
 
-fates-at :
+pub fates-at :
     (own : ℕ → ℕ) (whole taps : List Candidate) (n k i : ℕ) → i < k →
     getD (fatesFrom own whole taps n k) i 0 ≡ fateIn whole taps (own (n + i)) (n + i)
 unfolding fatesFrom
@@ -67,7 +67,7 @@ module _ (own : ℕ → ℕ) (speed rate : Float) (limit : ℕ) (cs : List Candi
   taps-listed : Listed speed rate limit cs taps
   taps-listed = ranked-listed speed rate limit cs (j .rankable) (j .once)
 
-  in-whole : (c : Candidate) → Has c whole → Has c cs
+  pub in-whole : (c : Candidate) → Has c whole → Has c cs
   in-whole c h = (whole-listed .exactly c .0 h) .among
 
   in-taps : (c : Candidate) → Has c taps → Has c cs

@@ -7,7 +7,7 @@ use mathlib.Core.Logic.{_↔_}
 use mathlib.Core.List.{List, [], _∷_}
 use lib.Dec.{eqb}
 use lib.Ieee.{Float}
-use lib.ListN.{length, getD}
+use lib.ListN.{length, getD, set}
 use Rattle.ranking.specs.declared.Candidate.{Candidate}
 use Rattle.ranking.specs.Lists.{Has, sorted, kept}
 use Rattle.ranking.specs.Candidate.{better, duplicates, ranked, Rankable}
@@ -46,6 +46,16 @@ fatesOf own speed rate limit cs images = fatesFrom own (wholeList speed rate cs)
 -- the byte of image n
 abbrev pub byteOf : List ℕ → ℕ → ℕ
 byteOf fates n = getD fates (n - 1) 0
+
+-- the same byte by byte, as they may be stored: first the own fates, and 8 for each that passes; then 9 for all that are kept, then 0 for the taps.
+-- `marks-are-fates` of `proofs/Marks.antt` says that these are the fates
+unfoldable pub unranked : (ℕ → ℕ) → ℕ → ℕ → List ℕ
+unranked own n zero = []
+unranked own n (suc k) = fateIn [] [] (own n) n ∷ unranked own (suc n) k
+
+unfoldable pub marked : ℕ → List Candidate → List ℕ → List ℕ
+marked v [] bs = bs
+marked v (c ∷ cs) bs = marked v cs (set bs (c .number - 1) v)
 
 -- how many bytes are 0
 unfoldable pub zerosIn : List ℕ → ℕ
