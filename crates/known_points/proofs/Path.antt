@@ -14,11 +14,11 @@ use Rattle.vector.specs.Ray.{pointAtOf}
 use Rattle.geometry.specs.Slab.{padOf, paddedOf, narrowOf, axisOf, slabOf, intersectTOf}
 use Rattle.geometry.specs.Intersect.{edgesOf, parallelOf, outsideOf, withinOf, solveOf, crossingOf, intersectMaxOf}
 use Rattle.geometry.specs.Contains.{dotsOf, insideOf, containsOf, containsPointOf}
-use Rattle.patches.specs.Triangles.{triangleAt}
+use Rattle.planes_patches.specs.Triangles.{triangleAt}
 use Rattle.bands.specs.Band8.{splatOf, zerosOf, mulOf, scaleOf, sumOfSquaresOf}
 use Rattle.bands.specs.Distance.{heldOf, furthestOf, betweenOf, inverseOf, curveOf, gainOf}
-use Rattle.trace.specs.Leaf.{visitOf, visitAllOf}
-use Rattle.trace.specs.Trace.{traceOf, intersectOf}
+use Rattle.tree_trace.specs.Leaf.{visitOf, visitAllOf}
+use Rattle.tree_trace.specs.Trace.{traceTree, intersectOf}
 use Rattle.mirror.specs.Plane.{planeAt}
 use Rattle.mirror.specs.Mirror as mirror
 use Rattle.mirror.specs.Border.{nearestOf, pointSegmentDistanceOf, nearerOf, borderDistanceOf, smoothOf, weightOf}
@@ -63,11 +63,11 @@ bounces-are = refl
 -- ---- the segments: nothing is in the way, nine times a ninth, and two traces each
 
 first-segment : segmentSoftTransmissionOf (traceIn (triangleAt two) tree) (transmissionOf materials) maxCrossings visibilityRadius listener bounce ≡ transmission (splatOf one32) 18
-unfolding segmentSoftTransmissionOf probesOf probeOf addPartOf midOf offsetOf probeBasisOf tangentOf probeAngleOf segmentTransmissionOf segmentRayOf walkOf intersectOf traceOf visitOf visitAllOf triangleAt intersectMaxOf crossingOf edgesOf solveOf withinOf outsideOf parallelOf intersectTOf slabOf paddedOf padOf axisOf narrowOf minOf maxOf absOf clampOf dot3Of sub3Of cross3Of length3Of distance3Of normalize3Of sqrtOf rootOf isqrt pointAtOf add3Of scale3Of splatOf zerosOf mulOf add sub mul div neg lt le eq isNan ofBits round
+unfolding segmentSoftTransmissionOf probesOf probeOf addPartOf midOf offsetOf probeBasisOf tangentOf probeAngleOf segmentTransmissionOf segmentRayOf walkOf intersectOf traceTree visitOf visitAllOf triangleAt intersectMaxOf crossingOf edgesOf solveOf withinOf outsideOf parallelOf intersectTOf slabOf paddedOf padOf axisOf narrowOf minOf maxOf absOf clampOf dot3Of sub3Of cross3Of length3Of distance3Of normalize3Of sqrtOf rootOf isqrt pointAtOf add3Of scale3Of splatOf zerosOf mulOf add sub mul div neg lt le eq isNan ofBits round
 first-segment = refl
 
 second-segment : segmentSoftTransmissionOf (traceIn (triangleAt two) tree) (transmissionOf materials) maxCrossings visibilityRadius bounce source ≡ transmission (splatOf one32) 18
-unfolding segmentSoftTransmissionOf probesOf probeOf addPartOf midOf offsetOf probeBasisOf tangentOf probeAngleOf segmentTransmissionOf segmentRayOf walkOf intersectOf traceOf visitOf visitAllOf triangleAt intersectMaxOf crossingOf edgesOf solveOf withinOf outsideOf parallelOf intersectTOf slabOf paddedOf padOf axisOf narrowOf minOf maxOf absOf clampOf dot3Of sub3Of cross3Of length3Of distance3Of normalize3Of sqrtOf rootOf isqrt pointAtOf add3Of scale3Of splatOf zerosOf mulOf add sub mul div neg lt le eq isNan ofBits round
+unfolding segmentSoftTransmissionOf probesOf probeOf addPartOf midOf offsetOf probeBasisOf tangentOf probeAngleOf segmentTransmissionOf segmentRayOf walkOf intersectOf traceTree visitOf visitAllOf triangleAt intersectMaxOf crossingOf edgesOf solveOf withinOf outsideOf parallelOf intersectTOf slabOf paddedOf padOf axisOf narrowOf minOf maxOf absOf clampOf dot3Of sub3Of cross3Of length3Of distance3Of normalize3Of sqrtOf rootOf isqrt pointAtOf add3Of scale3Of splatOf zerosOf mulOf add sub mul div neg lt le eq isNan ofBits round
 second-segment = refl
 
 -- ---- what arrives

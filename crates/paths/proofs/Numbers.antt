@@ -18,7 +18,7 @@ use Rattle.vector.specs.Vector.{vec, dot3Of, sub3Of, length3Of, distance3Of, ti
 use Rattle.geometry.specs.declared.Triangle.{Triangle}
 use Rattle.bands.specs.declared.Band8.{Band8}
 use Rattle.bands.specs.Band8.{mulOf, sumOfSquaresOf}
-use Rattle.build.specs.Tree.{Tree}
+use Rattle.tree_build.specs.Tree.{Tree}
 use Rattle.scene.specs.declared.Settings.{Settings}
 use Rattle.scene.specs.Limits.{leastTemperature, mostTemperature, leastRate, mostRate, mostDistance, betweenOf, aboveZeroOf, ratesOf}
 use Rattle.scene.specs.Speed.{speedOf}

@@ -16,8 +16,8 @@ use Rattle.scene.specs.Scene.{Scene, Mesh, meshesOf}
 use Rattle.scene.specs.declared.Settings.{Settings}
 use Rattle.scene.specs.Refusals.{refusal1, refusal2, refusal3, refusal4, refusal5, first, firstOfFive, triplesIn}
 use Rattle.placing.specs.Corners.{Triple, triples, Corners, farIn, cornersIn, cornersOf, cornersAll, corners, anyFar, trianglesOf, triangles, upToFar, placings, refusal6, inRange}
-use Rattle.placing.specs.Passing.{putAll, putHandles, placedOf, Passed}
-use Rattle.placing.specs.Loading.{firstRefusal, answerOf, left, Loading}
+use Rattle.placing.specs.Passing.{putAll, putHandles, placedOf, PassedOver}
+use Rattle.placing.specs.Loading.{firstRefusal, loadedOf, left, Loading}
 use Rattle.placing.specs.declared.Placed.{Placed}
 use Rattle.placing.specs.declared.Placed.the-variants.{Far, Kept}
 use Rattle.placing.specs.declared.Loaded.{Loaded}
@@ -145,7 +145,7 @@ module _ (ms : List Mesh) (n : ℕ) (columns : List Float) (handles : List ℕ) 
       }
 
   pub two-passes :
-      (columns₀ : List Float) (handles₀ : List ℕ) (r : Placed) → Passed (cornersAll ms) n columns₀ handles₀ r columns handles → AsTwoPasses (meshTriples ms) n r columns handles
+      (columns₀ : List Float) (handles₀ : List ℕ) (r : Placed) → PassedOver (cornersAll ms) n columns₀ handles₀ r columns handles → AsTwoPasses (meshTriples ms) n r columns handles
   two-passes columns₀ handles₀ r passed =
       as-two r (passed .answer)
       (λ h. (
@@ -165,7 +165,7 @@ sixth false false false true b5 b6 e = absurd (let n : ⊥ = omega arith in n)
 sixth false false false false true b6 e = absurd (let n : ⊥ = omega arith in n)
 sixth false false false false false b6 e = refl
 
-loaded-is : (b : Bool) (s : Scene) (n p k : ℕ) → n ≡ length (triangles s) → p ≡ placings s → k ≡ cond b 6 0 → answerOf k s ≡ loadedBy (triplesIn s) (cond b (Far p) (Kept n p))
+loaded-is : (b : Bool) (s : Scene) (n p k : ℕ) → n ≡ length (triangles s) → p ≡ placings s → k ≡ cond b 6 0 → loadedOf k s ≡ loadedBy (triplesIn s) (cond b (Far p) (Kept n p))
 loaded-is true s n p k e f g = rw (g)
 loaded-is false s n p k e f g = rw (g, e, f)
 

@@ -10,7 +10,7 @@ use borrow.Author.Tests.{ltb-true, ltb-false, lt-ltb, le-ltb}
 use Rattle.float.specs.Key.{floatKey}
 use Rattle.ranking.specs.Candidate.{decides}
 use Rattle.ranking.proofs.Keys.{lt-key, key-small}
-use Rattle.groups.specs.Groups.{rankOf, descendingKey}
+use Rattle.planes_groups.specs.Groups.{rankOf, descendingKey}
 use Rattle.rust_words.specs.Falling.{comesFirst}
 
 -- of two pairs of numbers, by whole numbers

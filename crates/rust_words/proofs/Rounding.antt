@@ -18,8 +18,8 @@ use Rattle.bounds.specs.Bounds.{Within}
 use Rattle.bounds.proofs.Rounded.{round-within}
 use Rattle.vector.specs.declared.Vec3.{Vec3}
 use Rattle.float.specs.Round.{halfUp, inRange, end, roundOf}
-use Rattle.faces.specs.Whole.{wholeOf, placeOf}
-use Rattle.faces.specs.Key.{stepOf, keyBy, sameKey, vertexStepsPerMetre, vertexKey}
+use Rattle.planes_faces.specs.Whole.{wholeOf, placeOf}
+use Rattle.planes_faces.specs.Key.{stepOf, keyBy, sameKey, vertexStepsPerMetre, vertexKey}
 use Rattle.rust_words.specs.Keys.{heldTo32, rustStep, RustKey, rustKey, Near}
 
 above : (n : ℕ) → pos (min n 2147483647) ≡ heldTo32 (pos (min n 9223372036854775807))

@@ -13,7 +13,7 @@ use lib.Ieee.{Float, nan}
 use lib.ListN.{take}
 use Rattle.vector.specs.declared.Vec3.{Vec3}
 use Rattle.geometry.specs.declared.Triangle.{Triangle}
-use Rattle.build.specs.Tree.{Tree}
+use Rattle.tree_build.specs.Tree.{Tree}
 use Rattle.order.specs.Runs.{upTo}
 use Rattle.order.proofs.Runs.{In, in-upTo}
 use Rattle.scene.specs.declared.Settings.{Settings}

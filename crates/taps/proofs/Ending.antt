@@ -18,7 +18,7 @@ use Rattle.ranking.specs.declared.Candidate.{Candidate}
 use Rattle.ranking.specs.Lists.{Has}
 use Rattle.ranking.specs.Candidate.{ranked}
 use Rattle.ranking.specs.Rows.{candidateAt, candidatesIn, AllRankable, Ranked}
-use Rattle.taps.specs.Tap.{tapOf, packetOf}
+use Rattle.taps.specs.Tap.{sentTap, packetOf}
 use Rattle.taps.specs.Sendable.{Sendable}
 use Rattle.taps.specs.Areas.{tapsAt, Pointing}
 use Rattle.taps.proofs.Storing.{stored-back}
@@ -34,9 +34,9 @@ map-length : (f : ℕ → Candidate) (l : List ℕ) → length (map f l) ≡ len
 map-length f [] = refl
 map-length f (x ∷ l) = ap suc (map-length f l)
 
-map-twice : (f : ℕ → Candidate) (l : List ℕ) → map (λ i. tapOf (f i)) l ≡ map tapOf (map f l)
+map-twice : (f : ℕ → Candidate) (l : List ℕ) → map (λ i. sentTap (f i)) l ≡ map sentTap (map f l)
 map-twice f [] = refl
-map-twice f (x ∷ l) = ap (λ (ts : List Tap). tapOf (f x) ∷ ts) (map-twice f l)
+map-twice f (x ∷ l) = ap (λ (ts : List Tap). sentTap (f x) ∷ ts) (map-twice f l)
 
 -- rows that can be sent can be ranked
 pub sendable-rankable : (images n : ℕ) (fs : List Float) (ws : List ℕ) → Sendable images (candidatesIn n fs ws) → AllRankable n fs ws
@@ -75,11 +75,11 @@ module _ (speed rate : Float) (limit n images : ℕ) (fs : List Float) (ws kept 
         sound = (λ i h. s .sound (candidateAt fs ws i) (map-has (candidateAt fs ws) i (upTo n) (in-upTo n i h)));
       }
 
-  taps-are : tapsAt fs ws r kept′ ≡ map tapOf sent
-  taps-are = ap (map (λ i. tapOf (candidateAt fs ws i))) positions-are ∙ map-twice (candidateAt fs ws) (k .positions) ∙ ap (map tapOf) (k .taps)
+  taps-are : tapsAt fs ws r kept′ ≡ map sentTap sent
+  taps-are = ap (map (λ i. sentTap (candidateAt fs ws i))) positions-are ∙ map-twice (candidateAt fs ws) (k .positions) ∙ ap (map sentTap) (k .taps)
 
   module _ (taps taps′ : List ℕ) (area : areaWords ≤ length taps) (same : length taps′ ≡ length taps) (stored : taps′ ≡ sets taps 0 (allWords (tapsAt fs ws r kept′))) where
-    read : tapsOf r taps′ ≡ map tapOf sent
+    read : tapsOf r taps′ ≡ map sentTap sent
     read = ap (tapsOf r) (stored ∙ ap (λ (ts : List Tap). sets taps 0 (allWords ts)) taps-are) ∙ stored-back sent r taps counted (fewer taps area)
 
     module _ (rays : ℕ) (w : Written) (b : ℕ) (out out′ : List ℕ) (room : outBytes ≤ length out) (answer : w ≡ writeAnswer r images rays taps′ out)

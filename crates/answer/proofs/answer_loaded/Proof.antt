@@ -3,7 +3,7 @@ use lib.ListN.{length}
 use native.Mathlib.Omega.{arith}
 use borrow.Author.Needs.{needs}
 use Rattle.scene.specs.Speed.{speedOf}
-use Rattle.patches.specs.Triangles.{triangleAt}
+use Rattle.planes_patches.specs.Triangles.{triangleAt}
 use Rattle.placing.specs.Corners.{triangles}
 use Rattle.ranking.specs.Rows.{candidatesIn}
 use Rattle.claim.specs.Query.{ended}

@@ -4,7 +4,7 @@ use lib.Seq.{length-take-le}
 use Prim.Native.Nat.{_*_, _-_}
 use native.Mathlib.Omega.{arith}
 use Rattle.placing.specs.Corners.{triangles}
-use Rattle.patches.specs.Triangles.{triangleAt}
+use Rattle.planes_patches.specs.Triangles.{triangleAt}
 use Rattle.bvh.specs.Bvh.{rowsIn}
 use Rattle.ranking.specs.Rows.{candidatesIn}
 use Rattle.claim.specs.Query.{search}

@@ -3,7 +3,7 @@ use mathlib.Core.Path.{refl}
 use native.Mathlib.Omega.{arith}
 use Prim.Native.Nat.{_*_, _≤_}
 use lib.ListN.{length}
-use Rattle.split.proofs.Laws.{below-wider}
+use Rattle.tree_split.proofs.Laws.{below-wider}
 use Rattle.bvh.proofs.Laws as law
 use Rattle.bvh.proofs.build_flat_bvh.Statement.{statement}
 use Rattle.bvh.proofs.build_flat_bvh.Tie as tie

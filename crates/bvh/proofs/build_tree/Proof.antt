@@ -3,7 +3,7 @@ use mathlib.Core.Path.{refl, sym, _∙_}
 use native.Mathlib.Omega.{arith}
 use lib.ListN.{length}
 use Rattle.bvh.proofs.Laws as law
-use Rattle.bvh.specs.Bvh.{centroidOf}
+use Rattle.bvh.specs.Bvh.{centroidIn}
 use Rattle.bvh.proofs.build_tree.Statement.{statement}
 use Rattle.bvh.proofs.build_tree.Tie as tie
 
@@ -116,7 +116,7 @@ build-sah-requires c κs =
       record { wide = omega arith; few = few; some = some; within = omega arith; size = ep; inside = c .before .before .before .before .before .before .before .before .before .before .before .before .before .number .ensures .1 },
       (
         record {
-          keyed = law.keyed-in (c .before .before .before .before .before .before .before .before .before .before .before .before .before .before .before .before .before .before .before .before .before .before .put-extents .last .1 .1 .1 .1 .0) (centroidOf (a .triangles .now) (a .handles .now) (a .n)) m (c .before .before .before .before .before .before .before .before .before .before .before .before .before .before .before .before .before .before .put-all-keys .last .1 .1 .1 .1 .0)
+          keyed = law.keyed-in (c .before .before .before .before .before .before .before .before .before .before .before .before .before .before .before .before .before .before .before .before .before .before .put-extents .last .1 .1 .1 .1 .0) (centroidIn (a .triangles .now) (a .handles .now) (a .n)) m (c .before .before .before .before .before .before .before .before .before .before .before .before .before .before .before .before .before .before .put-all-keys .last .1 .1 .1 .1 .0)
               (λ i h. c .before .before .before .before .before .before .before .before .before .before .before .before .before .before .before .before .before .before .before .before .before .before .put-extents .ensures i h .1) (omega arith) (c .before .before .before .before .before .before .before .before .before .before .before .before .before .before .before .before .before .before .put-all-keys .ensures .1 (c .before .before .before .before .before .before .before .before .before .before .before .before .before .before .before .if1 .taken));
           words-room = L .words-room;
           scratch-room = L .scratch-room;

@@ -10,19 +10,19 @@ use Rattle.vector.specs.declared.Vec3.{Vec3}
 use Rattle.vector.specs.Vector.{axisOf}
 use Rattle.geometry.specs.Triangle as triangle
 use Rattle.float.specs.Compare.{isFinite}
-use Rattle.bvh.specs.Bvh.{centroidOf}
+use Rattle.bvh.specs.Bvh.{centroidIn}
 use Rattle.bvh.proofs.put_keys.Statement.{statement}
 use Rattle.bvh.proofs.put_keys.Tie as tie
 
 abbrev Inv-loop : tie.InvT-loop
 Inv-loop columns handles n count k keys₀ i₀ keys i =
-    (i ≤ count) × (length keys ≡ length keys₀) × law.KeysTo (λ j. axisOf (centroidOf columns handles n j) k) keys i
+    (i ≤ count) × (length keys ≡ length keys₀) × law.KeysTo (λ j. axisOf (centroidIn columns handles n j) k) keys i
 
 abbrev μ-loop : tie.MeasureT-loop
 μ-loop columns handles n count k keys₀ i₀ keys i = count - i
 
 loop-holds : tie.Need-loop-holds Inv-loop μ-loop
-loop-holds c = let a = c .before .before .before .args in (omega arith, refl, law.keys-none (λ j. axisOf (centroidOf (a .triangles .now) (a .handles .now) (a .n) j) (a .k)) (a .keys .now))
+loop-holds c = let a = c .before .before .before .args in (omega arith, refl, law.keys-none (λ j. axisOf (centroidIn (a .triangles .now) (a .handles .now) (a .n) j) (a .k)) (a .keys .now))
 
 triangle-at-requires : tie.Need-triangle-at-requires Inv-loop μ-loop
 triangle-at-requires c κs = let p = c .before .before .before .before .before .pre in let t = c .loop-test .taken in (p .0, p .1, omega arith)
@@ -45,10 +45,10 @@ same-length : tie.Need-same-length Inv-loop μ-loop
 same-length c = c .before .before .before .before .before .before .loop .inv .1
 
 returns : tie.Need-returns Inv-loop μ-loop
-unfolding centroidOf
+unfolding centroidIn
 returns c =
     let a = c .before .before .before .before .before .before .before .before .before .before .args in
-    let f : ℕ → Float = λ j. axisOf (centroidOf (a .triangles .now) (a .handles .now) (a .n) j) (a .k) in
+    let f : ℕ → Float = λ j. axisOf (centroidIn (a .triangles .now) (a .handles .now) (a .n) j) (a .k) in
     let e : c .before .before .axis .result ≡ f (c .before .before .before .before .before .before .loop .i) = c .before .before .axis .ensures ∙ ap (λ (v : Vec3). axisOf v (a .k)) (c .before .before .before .centroid .ensures ∙ ap triangle.centroidOf (c .before .before .before .before .triangle-at .ensures)) in
     (sym (law.all-false f (a .count) (c .before .before .before .before .before .before .loop .i) (c .before .before .before .before .before .loop-test .taken) (ap isFinite (sym e) ∙ sym (c .before .is-finite .ensures) ∙ c .if1 .left)), λ z. law.not-both z)
 
@@ -59,10 +59,10 @@ loop-less : tie.Need-loop-less Inv-loop μ-loop
 loop-less c = let t = c .before .before .before .before .before .before .before .loop-test .taken in omega arith
 
 loop-again : tie.Need-loop-again Inv-loop μ-loop
-unfolding centroidOf
+unfolding centroidIn
 loop-again c =
     let a = c .before .before .before .before .before .before .before .before .before .before .before .before .args in
-    let f : ℕ → Float = λ j. axisOf (centroidOf (a .triangles .now) (a .handles .now) (a .n) j) (a .k) in
+    let f : ℕ → Float = λ j. axisOf (centroidIn (a .triangles .now) (a .handles .now) (a .n) j) (a .k) in
     let inv = c .before .before .before .before .before .before .before .before .loop .inv in
     let long = inv .1 in
     let p = c .before .before .before .before .before .before .before .before .before .before .before .before .pre in
@@ -79,7 +79,7 @@ same-length-2 c = c .before .loop .inv .1
 returns-2 : tie.Need-returns-2 Inv-loop μ-loop
 returns-2 c =
     let a = c .before .before .before .before .before .args in
-    let f : ℕ → Float = λ j. axisOf (centroidOf (a .triangles .now) (a .handles .now) (a .n) j) (a .k) in
+    let f : ℕ → Float = λ j. axisOf (centroidIn (a .triangles .now) (a .handles .now) (a .n) j) (a .k) in
     law.keys-done f (law.axes-fit (a .triangles .now) (a .handles .now) (a .n) (a .k)) (c .before .loop .keys) (c .before .loop .i) (a .count) (omega arith) (c .before .loop .inv .2)
 
 pub put-keys-spec : {M : Type 1} → statement M

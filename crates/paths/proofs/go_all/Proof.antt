@@ -5,7 +5,7 @@ use native.Mathlib.Omega.{arith}
 use borrow.Author.Needs.{needs}
 use lib.Seq.{slice}
 use Rattle.geometry.specs.declared.Triangle.{Triangle}
-use Rattle.build.specs.Tree.{Tree}
+use Rattle.tree_build.specs.Tree.{Tree}
 use Rattle.segments.specs.Areas.{TreeReads}
 use Rattle.paths.specs.Visibility.{goAllOf, wayOf}
 use Rattle.paths.specs.Areas.{softIn}

@@ -5,10 +5,10 @@ use Prim.Native.Nat.{_*_}
 use native.Mathlib.Nat.{le-trans}
 use native.Mathlib.Omega.{arith}
 use borrow.Author.Needs.{needs}
-use Rattle.patches.specs.Triangles.{trianglesIn}
+use Rattle.planes_patches.specs.Triangles.{trianglesIn}
 use Rattle.mirror.specs.Plane.{Plane}
-use Rattle.importance.specs.Importance.{rankedOf}
-use Rattle.borders.specs.Border.{borderedOf}
+use Rattle.planes_importance.specs.Importance.{rankedOf}
+use Rattle.planes_borders.specs.Border.{borderedOf}
 use Rattle.planes.specs.Build.{planeSettings, groupPlanesOf, planesOf}
 use Rattle.planes.proofs.Rooms.{still, still-below, under, three-of, third-of, fifth-of, twelfth-of, rows-of, fewer-rows, seated, seated-below}
 use Rattle.planes.proofs.build_planes.Statement.{statement}

@@ -4,12 +4,12 @@ use mathlib.Core.List.{map}
 use Prim.Native.Nat.{_*_}
 use native.Mathlib.Omega.{arith}
 use borrow.Author.Needs.{needs}
-use Rattle.faces.specs.Key.{vertexKey}
-use Rattle.patches.specs.Triangles.{trianglesIn}
-use Rattle.patches.specs.Rows.{patchesIn}
-use Rattle.patches.proofs.Turns.{patches-length}
-use Rattle.fit.specs.Fit.{planeOf}
-use Rattle.fit.proofs.Partition.{grouped}
+use Rattle.planes_faces.specs.Key.{vertexKey}
+use Rattle.planes_patches.specs.Triangles.{trianglesIn}
+use Rattle.planes_patches.specs.Rows.{patchesIn}
+use Rattle.planes_patches.proofs.Turns.{patches-length}
+use Rattle.planes_fit.specs.Fit.{planeOf}
+use Rattle.planes_fit.proofs.Partition.{grouped}
 use Rattle.planes.specs.Build.{groupPlanesOf}
 use Rattle.planes.proofs.Steps.{mergeSettings, numbered-fewer, vertex-numbers}
 use Rattle.planes.proofs.group_planes.Statement.{statement}

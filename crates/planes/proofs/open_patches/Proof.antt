@@ -5,7 +5,7 @@ use native.Mathlib.Omega.{arith}
 use Prim.Native.Nat.{_*_}
 use lib.Seq.{length-take-le, length-front}
 use borrow.Author.Needs.{needs}
-use Rattle.buried.specs.Buried.{openOf}
+use Rattle.planes_buried.specs.Buried.{openOf}
 use Rattle.planes.specs.Build.{openPatchesOf}
 use Rattle.planes.proofs.open_patches.Statement.{statement}
 use Rattle.planes.proofs.open_patches.Tie as tie

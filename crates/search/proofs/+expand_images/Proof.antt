@@ -6,7 +6,7 @@ use mathlib.Core.Logic.{⊎-elim}
 use native.Mathlib.Omega.{arith}
 use lib.ListN.{length, take}
 use Rattle.sequences.specs.Allowed.{upto, at}
-use Rattle.search.specs.Contract.{Scene, scene, state, firstsOf, Sound, Ready, Visitable, Visited, Walked}
+use Rattle.search.specs.Contract.{SearchAreas, searchAreas, state, firstsOf, Sound, SearchReady, Visitable, Visited, Walked}
 use Rattle.search.proofs.Walks as law
 use borrow.Fn.Kinds.{In}
 use borrow.Fn.PlainCycle.{Measures, is, falls, and}
@@ -38,7 +38,7 @@ Inv-loop padded nodes perm rows handles materials columns floats words members e
     × (length images ≡ length images₀)
     × (length fs ≡ length fs₀)
     × (length ws ≡ length ws₀)
-    × Walked (scene padded nodes perm rows handles materials columns floats words members edges) q depth (upto (at (firstsOf (scene padded nodes perm rows handles materials columns floats words members edges) q) (q .order - (depth + 1)) (take depth seq₀)) p) (state seq₀ images₀ s₀) fs₀ ws₀ (state seq images s) fs ws
+    × Walked (searchAreas padded nodes perm rows handles materials columns floats words members edges) q depth (upto (at (firstsOf (searchAreas padded nodes perm rows handles materials columns floats words members edges) q) (q .order - (depth + 1)) (take depth seq₀)) p) (state seq₀ images₀ s₀) fs₀ ws₀ (state seq images s) fs ws
 
 abbrev μ-loop : lts.MeasureT-loop
 μ-loop padded nodes perm rows handles materials columns floats words members edges q depth seq₀ images₀ fs₀ ws₀ s₀ p₀ seq images fs ws s p = q .count - p
@@ -47,15 +47,15 @@ abbrev μ-loop : lts.MeasureT-loop
 joined :
     (t : ℕ) (c : lts.Joined4 (may.Asked, may.Learnt, push.Asked, push.Learnt, too-far.Asked, too-far.Learnt, passed.Asked, passed.Learnt, visit.Asked, visit.Learnt, last.Asked, last.Learnt, expand-below t, expand.Post) (expand-at t) expand.Post Inv-loop μ-loop) →
     let a = c .before .before .before .before .before .before .before .before .before .before .before .before .before .before .before .before .before .before .before .before .before .before .before .before .before .before .before .before .before .before .before .before .before .before .args in
-    Visited (scene (a .padded .now) (a .nodes .now) (a .leaf-order .now) (a .leaves .now) (a .handles .now) (a .materials .now) (a .triangles .now) (a .plane-floats .now) (a .plane-words .now) (a .plane-triangles .now) (a .plane-edges .now)) (a .q) (a .depth + 1) (c .before .before .before .before .before .before .before .push .last .1 .1 .1 .1 .1 .0) (c .before .before .before .before .before .before .before .before .before .before .before .before .before .before .before .before .before .before .loop .s) (c .before .before .before .before .before .before .before .before .before .before .before .before .before .before .before .before .before .before .loop .candidate-floats) (c .before .before .before .before .before .before .before .before .before .before .before .before .before .before .before .before .before .before .loop .candidate-words) (c .if4 .s) (c .if4 .candidate-floats) (c .if4 .candidate-words)
+    Visited (searchAreas (a .padded .now) (a .nodes .now) (a .leaf-order .now) (a .leaves .now) (a .handles .now) (a .materials .now) (a .triangles .now) (a .plane-floats .now) (a .plane-words .now) (a .plane-triangles .now) (a .plane-edges .now)) (a .q) (a .depth + 1) (c .before .before .before .before .before .before .before .push .last .1 .1 .1 .1 .1 .0) (c .before .before .before .before .before .before .before .before .before .before .before .before .before .before .before .before .before .before .loop .s) (c .before .before .before .before .before .before .before .before .before .before .before .before .before .before .before .before .before .before .loop .candidate-floats) (c .before .before .before .before .before .before .before .before .before .before .before .before .before .before .before .before .before .before .loop .candidate-words) (c .if4 .s) (c .if4 .candidate-floats) (c .if4 .candidate-words)
     × (length (c .if4 .candidate-floats) ≡ length (c .before .before .before .before .before .before .before .before .before .before .before .before .before .before .before .before .before .before .loop .candidate-floats))
     × (length (c .if4 .candidate-words) ≡ length (c .before .before .before .before .before .before .before .before .before .before .before .before .before .before .before .before .before .before .loop .candidate-words))
 joined t c =
     let a = c .before .before .before .before .before .before .before .before .before .before .before .before .before .before .before .before .before .before .before .before .before .before .before .before .before .before .before .before .before .before .before .before .before .before .args in
     let pre = c .before .before .before .before .before .before .before .before .before .before .before .before .before .before .before .before .before .before .before .before .before .before .before .before .before .before .before .before .before .before .before .before .before .before .pre .1 in
     let l = c .before .before .before .before .before .before .before .before .before .before .before .before .before .before .before .before .before .before .loop in
-    let S : Scene = (scene (a .padded .now) (a .nodes .now) (a .leaf-order .now) (a .leaves .now) (a .handles .now) (a .materials .now) (a .triangles .now) (a .plane-floats .now) (a .plane-words .now) (a .plane-triangles .now) (a .plane-edges .now)) in
-    let r : Ready S (a .q) (a .depth) (state (l .seq) (l .images) (l .s)) (l .candidate-floats) (l .candidate-words) =
+    let S : SearchAreas = (searchAreas (a .padded .now) (a .nodes .now) (a .leaf-order .now) (a .leaves .now) (a .handles .now) (a .materials .now) (a .triangles .now) (a .plane-floats .now) (a .plane-words .now) (a .plane-triangles .now) (a .plane-edges .now)) in
+    let r : SearchReady S (a .q) (a .depth) (state (l .seq) (l .images) (l .s)) (l .candidate-floats) (l .candidate-words) =
     law.ready-same S (a .q) (a .depth) (a .depth) (state (a .seq .now) (a .images .now) (a .t)) (state (l .seq) (l .images) (l .s)) (a .candidate-floats .now) (l .candidate-floats) (a .candidate-words .now) (l .candidate-words) pre (pre .deep) (l .inv .3) (l .inv .4) (l .inv .5 .sound) in
     let v : Visitable S (a .q) (a .depth + 1) (state (c .before .before .before .before .before .before .before .push .last .1 .1 .1 .1 .1 .0) (c .before .before .before .before .before .before .before .push .last .1 .1 .1 .1 .1 .1 .0) (l .s)) (l .candidate-floats) (l .candidate-words) = law.visitable-push S (a .q) (a .depth) (l .p) (l .seq) (c .before .before .before .before .before .before .before .push .last .1 .1 .1 .1 .1 .0) (l .images) (c .before .before .before .before .before .before .before .push .last .1 .1 .1 .1 .1 .1 .0) (l .s) (c .before .before .before .before .before .before .before .push .ensures .0) (c .before .before .before .before .before .before .before .push .ensures .1 (a .plane-triangles .now) (a .plane-edges .now)) (l .candidate-floats) (l .candidate-words) r (c .before .before .before .before .before .before .before .before .before .before .before .before .before .before .before .before .if1 .taken) (c .before .before .before .before .before .before .before .before .before .before .before .before .before .if2 .left) in
     ⊎-elim
@@ -68,7 +68,7 @@ loop-holds : (t : ℕ) → lts.Need-loop-holds (may.Asked, may.Learnt, push.Aske
 unfolding upto
 loop-holds t c =
     let a = c .before .before .before .before .before .before .before .before .before .before .before .before .before .before .before .args in
-    (omega arith, refl, refl, refl, refl, law.walked-none (scene (a .padded .now) (a .nodes .now) (a .leaf-order .now) (a .leaves .now) (a .handles .now) (a .materials .now) (a .triangles .now) (a .plane-floats .now) (a .plane-words .now) (a .plane-triangles .now) (a .plane-edges .now)) (a .q) (a .depth) (state (a .seq .now) (a .images .now) (a .t)) (a .candidate-floats .now) (a .candidate-words .now) (c .before .before .before .before .before .before .before .before .before .before .before .before .before .before .before .pre .1 .sound))
+    (omega arith, refl, refl, refl, refl, law.walked-none (searchAreas (a .padded .now) (a .nodes .now) (a .leaf-order .now) (a .leaves .now) (a .handles .now) (a .materials .now) (a .triangles .now) (a .plane-floats .now) (a .plane-words .now) (a .plane-triangles .now) (a .plane-edges .now)) (a .q) (a .depth) (state (a .seq .now) (a .images .now) (a .t)) (a .candidate-floats .now) (a .candidate-words .now) (c .before .before .before .before .before .before .before .before .before .before .before .before .before .before .before .pre .1 .sound))
 
 add-p : (t : ℕ) → lts.Need-add-p (may.Asked, may.Learnt, push.Asked, push.Learnt, too-far.Asked, too-far.Learnt, passed.Asked, passed.Learnt, visit.Asked, visit.Learnt, last.Asked, last.Learnt, expand-below t, expand.Post) (expand-at t) expand.Post Inv-loop μ-loop
 add-p t c =
@@ -83,7 +83,7 @@ loop-again t c =
     let a = c .before .before .before .before .before .before .before .before .before .before .before .before .before .before .before .before .before .before .before .before .before .args in
     let pre = c .before .before .before .before .before .before .before .before .before .before .before .before .before .before .before .before .before .before .before .before .before .pre .1 in
     let l = c .before .before .before .before .before .loop in
-    let S : Scene = (scene (a .padded .now) (a .nodes .now) (a .leaf-order .now) (a .leaves .now) (a .handles .now) (a .materials .now) (a .triangles .now) (a .plane-floats .now) (a .plane-words .now) (a .plane-triangles .now) (a .plane-edges .now)) in (
+    let S : SearchAreas = (searchAreas (a .padded .now) (a .nodes .now) (a .leaf-order .now) (a .leaves .now) (a .handles .now) (a .materials .now) (a .triangles .now) (a .plane-floats .now) (a .plane-words .now) (a .plane-triangles .now) (a .plane-edges .now)) in (
       omega (arith, c .before .before .before .if1 .taken),
       l .inv .1,
       l .inv .2,
@@ -98,7 +98,7 @@ may-requires t c κs =
     let a = c .before .before .before .before .before .before .before .before .before .before .before .before .before .before .before .before .before .before .before .before .before .before .args in
     let pre = c .before .before .before .before .before .before .before .before .before .before .before .before .before .before .before .before .before .before .before .before .before .before .pre .1 in
     let l = c .before .before .before .before .before .before .loop in
-    let S : Scene = (scene (a .padded .now) (a .nodes .now) (a .leaf-order .now) (a .leaves .now) (a .handles .now) (a .materials .now) (a .triangles .now) (a .plane-floats .now) (a .plane-words .now) (a .plane-triangles .now) (a .plane-edges .now)) in
+    let S : SearchAreas = (searchAreas (a .padded .now) (a .nodes .now) (a .leaf-order .now) (a .leaves .now) (a .handles .now) (a .materials .now) (a .triangles .now) (a .plane-floats .now) (a .plane-words .now) (a .plane-triangles .now) (a .plane-edges .now)) in
     let h = pre .lent .planes .held in
     ((omega (arith, pre .deep, pre .within, l .inv .5 .sound .seq-room), c .before .before .before .before .if1 .taken), (h .floats-room, h .words-room))
 
@@ -107,7 +107,7 @@ push-requires t c κs =
     let a = c .before .before .before .before .before .before .before .before .before .before .before .before .before .before .before .before .before .before .before .before .before .before .before .before .before .before .args in
     let pre = c .before .before .before .before .before .before .before .before .before .before .before .before .before .before .before .before .before .before .before .before .before .before .before .before .before .before .pre .1 in
     let l = c .before .before .before .before .before .before .before .before .before .before .loop in
-    let S : Scene = (scene (a .padded .now) (a .nodes .now) (a .leaf-order .now) (a .leaves .now) (a .handles .now) (a .materials .now) (a .triangles .now) (a .plane-floats .now) (a .plane-words .now) (a .plane-triangles .now) (a .plane-edges .now)) in
+    let S : SearchAreas = (searchAreas (a .padded .now) (a .nodes .now) (a .leaf-order .now) (a .leaves .now) (a .handles .now) (a .materials .now) (a .triangles .now) (a .plane-floats .now) (a .plane-words .now) (a .plane-triangles .now) (a .plane-edges .now)) in
     let h = pre .lent .planes .held in
     ((omega (arith, pre .deep, pre .within, l .inv .5 .sound .seq-room), omega (arith, pre .deep, pre .within, l .inv .5 .sound .images-room), c .before .before .before .before .before .before .before .before .if1 .taken, pre .small), (h .floats-room, h .words-room))
 
@@ -133,8 +133,8 @@ visit-requires t c κs =
     let a = c .before .before .before .before .before .before .before .before .before .before .before .before .before .before .before .before .before .before .before .before .before .before .before .before .before .before .before .before .before .before .before .before .before .before .before .before .before .before .args in
     let pre = c .before .before .before .before .before .before .before .before .before .before .before .before .before .before .before .before .before .before .before .before .before .before .before .before .before .before .before .before .before .before .before .before .before .before .before .before .before .before .pre .1 in
     let l = c .before .before .before .before .before .before .before .before .before .before .before .before .before .before .before .before .before .before .before .before .before .before .loop in
-    let S : Scene = (scene (a .padded .now) (a .nodes .now) (a .leaf-order .now) (a .leaves .now) (a .handles .now) (a .materials .now) (a .triangles .now) (a .plane-floats .now) (a .plane-words .now) (a .plane-triangles .now) (a .plane-edges .now)) in
-    let r : Ready S (a .q) (a .depth) (state (l .seq) (l .images) (l .s)) (l .candidate-floats) (l .candidate-words) =
+    let S : SearchAreas = (searchAreas (a .padded .now) (a .nodes .now) (a .leaf-order .now) (a .leaves .now) (a .handles .now) (a .materials .now) (a .triangles .now) (a .plane-floats .now) (a .plane-words .now) (a .plane-triangles .now) (a .plane-edges .now)) in
+    let r : SearchReady S (a .q) (a .depth) (state (l .seq) (l .images) (l .s)) (l .candidate-floats) (l .candidate-words) =
     law.ready-same S (a .q) (a .depth) (a .depth) (state (a .seq .now) (a .images .now) (a .t)) (state (l .seq) (l .images) (l .s)) (a .candidate-floats .now) (l .candidate-floats) (a .candidate-words .now) (l .candidate-words) pre (pre .deep) (l .inv .3) (l .inv .4) (l .inv .5 .sound) in
     law.visitable-push S (a .q) (a .depth) (l .p) (l .seq) (c .before .before .before .before .before .before .before .before .before .before .before .push .last .1 .1 .1 .1 .1 .0) (l .images) (c .before .before .before .before .before .before .before .before .before .before .before .push .last .1 .1 .1 .1 .1 .1 .0) (l .s) (c .before .before .before .before .before .before .before .before .before .before .before .push .ensures .0) (c .before .before .before .before .before .before .before .before .before .before .before .push .ensures .1 (a .plane-triangles .now) (a .plane-edges .now)) (l .candidate-floats) (l .candidate-words) r (c .before .before .before .before .before .before .before .before .before .before .before .before .before .before .before .before .before .before .before .before .if1 .taken) (c .before .before .before .before .before .before .before .before .before .before .before .before .before .before .before .before .before .if2 .left)
 
@@ -151,8 +151,8 @@ loop-again-2 t c =
     let a = c .before .before .before .before .before .before .before .before .before .before .before .before .before .before .before .before .before .before .before .before .before .before .before .before .before .before .before .before .before .before .before .before .before .before .before .before .args in
     let pre = c .before .before .before .before .before .before .before .before .before .before .before .before .before .before .before .before .before .before .before .before .before .before .before .before .before .before .before .before .before .before .before .before .before .before .before .before .pre .1 in
     let l = c .before .before .before .before .before .before .before .before .before .before .before .before .before .before .before .before .before .before .before .before .loop in
-    let S : Scene = (scene (a .padded .now) (a .nodes .now) (a .leaf-order .now) (a .leaves .now) (a .handles .now) (a .materials .now) (a .triangles .now) (a .plane-floats .now) (a .plane-words .now) (a .plane-triangles .now) (a .plane-edges .now)) in
-    let r : Ready S (a .q) (a .depth) (state (l .seq) (l .images) (l .s)) (l .candidate-floats) (l .candidate-words) =
+    let S : SearchAreas = (searchAreas (a .padded .now) (a .nodes .now) (a .leaf-order .now) (a .leaves .now) (a .handles .now) (a .materials .now) (a .triangles .now) (a .plane-floats .now) (a .plane-words .now) (a .plane-triangles .now) (a .plane-edges .now)) in
+    let r : SearchReady S (a .q) (a .depth) (state (l .seq) (l .images) (l .s)) (l .candidate-floats) (l .candidate-words) =
     law.ready-same S (a .q) (a .depth) (a .depth) (state (a .seq .now) (a .images .now) (a .t)) (state (l .seq) (l .images) (l .s)) (a .candidate-floats .now) (l .candidate-floats) (a .candidate-words .now) (l .candidate-words) pre (pre .deep) (l .inv .3) (l .inv .4) (l .inv .5 .sound) in
     let v : Visitable S (a .q) (a .depth + 1) (state (c .before .before .before .before .before .before .before .before .before .push .last .1 .1 .1 .1 .1 .0) (c .before .before .before .before .before .before .before .before .before .push .last .1 .1 .1 .1 .1 .1 .0) (l .s)) (l .candidate-floats) (l .candidate-words) = law.visitable-push S (a .q) (a .depth) (l .p) (l .seq) (c .before .before .before .before .before .before .before .before .before .push .last .1 .1 .1 .1 .1 .0) (l .images) (c .before .before .before .before .before .before .before .before .before .push .last .1 .1 .1 .1 .1 .1 .0) (l .s) (c .before .before .before .before .before .before .before .before .before .push .ensures .0) (c .before .before .before .before .before .before .before .before .before .push .ensures .1 (a .plane-triangles .now) (a .plane-edges .now)) (l .candidate-floats) (l .candidate-words) r (c .before .before .before .before .before .before .before .before .before .before .before .before .before .before .before .before .before .before .if1 .taken) (c .before .before .before .before .before .before .before .before .before .before .before .before .before .before .before .if2 .left) in
     let j = joined t (c .before .before) in
@@ -180,8 +180,8 @@ last-planes-requires t c κs =
     let a = c .before .before .before .before .before .before .before .before .before .before .before .before .before .before .before .before .before .before .before .before .before .before .before .before .before .before .before .before .before .before .before .before .before .before .before .before .before .before .before .before .before .before .args in
     let pre = c .before .before .before .before .before .before .before .before .before .before .before .before .before .before .before .before .before .before .before .before .before .before .before .before .before .before .before .before .before .before .before .before .before .before .before .before .before .before .before .before .before .before .pre .1 in
     let l = c .before .before .before .before .before .before .before .before .before .before .before .before .before .before .before .before .before .before .before .before .before .before .before .before .before .before .loop in
-    let S : Scene = (scene (a .padded .now) (a .nodes .now) (a .leaf-order .now) (a .leaves .now) (a .handles .now) (a .materials .now) (a .triangles .now) (a .plane-floats .now) (a .plane-words .now) (a .plane-triangles .now) (a .plane-edges .now)) in
-    let r : Ready S (a .q) (a .depth) (state (l .seq) (l .images) (l .s)) (l .candidate-floats) (l .candidate-words) =
+    let S : SearchAreas = (searchAreas (a .padded .now) (a .nodes .now) (a .leaf-order .now) (a .leaves .now) (a .handles .now) (a .materials .now) (a .triangles .now) (a .plane-floats .now) (a .plane-words .now) (a .plane-triangles .now) (a .plane-edges .now)) in
+    let r : SearchReady S (a .q) (a .depth) (state (l .seq) (l .images) (l .s)) (l .candidate-floats) (l .candidate-words) =
     law.ready-same S (a .q) (a .depth) (a .depth) (state (a .seq .now) (a .images .now) (a .t)) (state (l .seq) (l .images) (l .s)) (a .candidate-floats .now) (l .candidate-floats) (a .candidate-words .now) (l .candidate-words) pre (pre .deep) (l .inv .3) (l .inv .4) (l .inv .5 .sound) in
     let v : Visitable S (a .q) (a .depth + 1) (state (c .before .before .before .before .before .before .before .before .before .before .before .before .before .before .before .push .last .1 .1 .1 .1 .1 .0) (c .before .before .before .before .before .before .before .before .before .before .before .before .before .before .before .push .last .1 .1 .1 .1 .1 .1 .0) (l .s)) (l .candidate-floats) (l .candidate-words) = law.visitable-push S (a .q) (a .depth) (l .p) (l .seq) (c .before .before .before .before .before .before .before .before .before .before .before .before .before .before .before .push .last .1 .1 .1 .1 .1 .0) (l .images) (c .before .before .before .before .before .before .before .before .before .before .before .before .before .before .before .push .last .1 .1 .1 .1 .1 .1 .0) (l .s) (c .before .before .before .before .before .before .before .before .before .before .before .before .before .before .before .push .ensures .0) (c .before .before .before .before .before .before .before .before .before .before .before .before .before .before .before .push .ensures .1 (a .plane-triangles .now) (a .plane-edges .now)) (l .candidate-floats) (l .candidate-words) r (c .before .before .before .before .before .before .before .before .before .before .before .before .before .before .before .before .before .before .before .before .before .before .before .before .if1 .taken) (c .before .before .before .before .before .before .before .before .before .before .before .before .before .before .before .before .before .before .before .before .before .if2 .left) in
     let j = joined t (c .before .before .before .before .before .before .before .before) in
@@ -198,8 +198,8 @@ loop-again-3 t c =
     let a = c .before .before .before .before .before .before .before .before .before .before .before .before .before .before .before .before .before .before .before .before .before .before .before .before .before .before .before .before .before .before .before .before .before .before .before .before .before .before .before .before .before .before .before .before .before .before .before .before .before .before .before .args in
     let pre = c .before .before .before .before .before .before .before .before .before .before .before .before .before .before .before .before .before .before .before .before .before .before .before .before .before .before .before .before .before .before .before .before .before .before .before .before .before .before .before .before .before .before .before .before .before .before .before .before .before .before .before .pre .1 in
     let l = c .before .before .before .before .before .before .before .before .before .before .before .before .before .before .before .before .before .before .before .before .before .before .before .before .before .before .before .before .before .before .before .before .before .before .before .loop in
-    let S : Scene = (scene (a .padded .now) (a .nodes .now) (a .leaf-order .now) (a .leaves .now) (a .handles .now) (a .materials .now) (a .triangles .now) (a .plane-floats .now) (a .plane-words .now) (a .plane-triangles .now) (a .plane-edges .now)) in
-    let r : Ready S (a .q) (a .depth) (state (l .seq) (l .images) (l .s)) (l .candidate-floats) (l .candidate-words) =
+    let S : SearchAreas = (searchAreas (a .padded .now) (a .nodes .now) (a .leaf-order .now) (a .leaves .now) (a .handles .now) (a .materials .now) (a .triangles .now) (a .plane-floats .now) (a .plane-words .now) (a .plane-triangles .now) (a .plane-edges .now)) in
+    let r : SearchReady S (a .q) (a .depth) (state (l .seq) (l .images) (l .s)) (l .candidate-floats) (l .candidate-words) =
     law.ready-same S (a .q) (a .depth) (a .depth) (state (a .seq .now) (a .images .now) (a .t)) (state (l .seq) (l .images) (l .s)) (a .candidate-floats .now) (l .candidate-floats) (a .candidate-words .now) (l .candidate-words) pre (pre .deep) (l .inv .3) (l .inv .4) (l .inv .5 .sound) in
     let j = joined t (c .before .before .before .before .before .before .before .before .before .before .before .before .before .before .before .before .before) in (
       omega (arith, c .before .before .before .before .before .before .before .before .before .before .before .before .before .before .before .before .before .before .before .before .before .before .before .before .before .before .before .before .before .before .before .before .before .if1 .taken),
@@ -220,8 +220,8 @@ expand-images-requires t c κs =
     let a = c .before .before .before .before .before .before .before .before .before .before .before .before .before .before .before .before .before .before .before .before .before .before .before .before .before .before .before .before .before .before .before .before .before .before .before .before .before .before .before .before .before .before .args in
     let pre = c .before .before .before .before .before .before .before .before .before .before .before .before .before .before .before .before .before .before .before .before .before .before .before .before .before .before .before .before .before .before .before .before .before .before .before .before .before .before .before .before .before .before .pre .1 in
     let l = c .before .before .before .before .before .before .before .before .before .before .before .before .before .before .before .before .before .before .before .before .before .before .before .before .before .before .loop in
-    let S : Scene = (scene (a .padded .now) (a .nodes .now) (a .leaf-order .now) (a .leaves .now) (a .handles .now) (a .materials .now) (a .triangles .now) (a .plane-floats .now) (a .plane-words .now) (a .plane-triangles .now) (a .plane-edges .now)) in
-    let r : Ready S (a .q) (a .depth) (state (l .seq) (l .images) (l .s)) (l .candidate-floats) (l .candidate-words) =
+    let S : SearchAreas = (searchAreas (a .padded .now) (a .nodes .now) (a .leaf-order .now) (a .leaves .now) (a .handles .now) (a .materials .now) (a .triangles .now) (a .plane-floats .now) (a .plane-words .now) (a .plane-triangles .now) (a .plane-edges .now)) in
+    let r : SearchReady S (a .q) (a .depth) (state (l .seq) (l .images) (l .s)) (l .candidate-floats) (l .candidate-words) =
     law.ready-same S (a .q) (a .depth) (a .depth) (state (a .seq .now) (a .images .now) (a .t)) (state (l .seq) (l .images) (l .s)) (a .candidate-floats .now) (l .candidate-floats) (a .candidate-words .now) (l .candidate-words) pre (pre .deep) (l .inv .3) (l .inv .4) (l .inv .5 .sound) in
     let v : Visitable S (a .q) (a .depth + 1) (state (c .before .before .before .before .before .before .before .before .before .before .before .before .before .before .before .push .last .1 .1 .1 .1 .1 .0) (c .before .before .before .before .before .before .before .before .before .before .before .before .before .before .before .push .last .1 .1 .1 .1 .1 .1 .0) (l .s)) (l .candidate-floats) (l .candidate-words) = law.visitable-push S (a .q) (a .depth) (l .p) (l .seq) (c .before .before .before .before .before .before .before .before .before .before .before .before .before .before .before .push .last .1 .1 .1 .1 .1 .0) (l .images) (c .before .before .before .before .before .before .before .before .before .before .before .before .before .before .before .push .last .1 .1 .1 .1 .1 .1 .0) (l .s) (c .before .before .before .before .before .before .before .before .before .before .before .before .before .before .before .push .ensures .0) (c .before .before .before .before .before .before .before .before .before .before .before .before .before .before .before .push .ensures .1 (a .plane-triangles .now) (a .plane-edges .now)) (l .candidate-floats) (l .candidate-words) r (c .before .before .before .before .before .before .before .before .before .before .before .before .before .before .before .before .before .before .before .before .before .before .before .before .if1 .taken) (c .before .before .before .before .before .before .before .before .before .before .before .before .before .before .before .before .before .before .before .before .before .if2 .left) in
     let j = joined t (c .before .before .before .before .before .before .before .before) in
@@ -238,8 +238,8 @@ loop-again-4 t c =
     let a = c .before .before .before .before .before .before .before .before .before .before .before .before .before .before .before .before .before .before .before .before .before .before .before .before .before .before .before .before .before .before .before .before .before .before .before .before .before .before .before .before .before .before .before .before .before .before .before .before .before .before .before .args in
     let pre = c .before .before .before .before .before .before .before .before .before .before .before .before .before .before .before .before .before .before .before .before .before .before .before .before .before .before .before .before .before .before .before .before .before .before .before .before .before .before .before .before .before .before .before .before .before .before .before .before .before .before .before .pre .1 in
     let l = c .before .before .before .before .before .before .before .before .before .before .before .before .before .before .before .before .before .before .before .before .before .before .before .before .before .before .before .before .before .before .before .before .before .before .before .loop in
-    let S : Scene = (scene (a .padded .now) (a .nodes .now) (a .leaf-order .now) (a .leaves .now) (a .handles .now) (a .materials .now) (a .triangles .now) (a .plane-floats .now) (a .plane-words .now) (a .plane-triangles .now) (a .plane-edges .now)) in
-    let r : Ready S (a .q) (a .depth) (state (l .seq) (l .images) (l .s)) (l .candidate-floats) (l .candidate-words) =
+    let S : SearchAreas = (searchAreas (a .padded .now) (a .nodes .now) (a .leaf-order .now) (a .leaves .now) (a .handles .now) (a .materials .now) (a .triangles .now) (a .plane-floats .now) (a .plane-words .now) (a .plane-triangles .now) (a .plane-edges .now)) in
+    let r : SearchReady S (a .q) (a .depth) (state (l .seq) (l .images) (l .s)) (l .candidate-floats) (l .candidate-words) =
     law.ready-same S (a .q) (a .depth) (a .depth) (state (a .seq .now) (a .images .now) (a .t)) (state (l .seq) (l .images) (l .s)) (a .candidate-floats .now) (l .candidate-floats) (a .candidate-words .now) (l .candidate-words) pre (pre .deep) (l .inv .3) (l .inv .4) (l .inv .5 .sound) in
     let j = joined t (c .before .before .before .before .before .before .before .before .before .before .before .before .before .before .before .before .before) in (
       omega (arith, c .before .before .before .before .before .before .before .before .before .before .before .before .before .before .before .before .before .before .before .before .before .before .before .before .before .before .before .before .before .before .before .before .before .if1 .taken),
@@ -260,7 +260,7 @@ loop-again-5 t c =
     let a = c .before .before .before .before .before .before .before .before .before .before .before .before .before .before .before .before .before .before .before .before .before .before .before .before .args in
     let pre = c .before .before .before .before .before .before .before .before .before .before .before .before .before .before .before .before .before .before .before .before .before .before .before .before .pre .1 in
     let l = c .before .before .before .before .before .before .before .before .loop in
-    let S : Scene = (scene (a .padded .now) (a .nodes .now) (a .leaf-order .now) (a .leaves .now) (a .handles .now) (a .materials .now) (a .triangles .now) (a .plane-floats .now) (a .plane-words .now) (a .plane-triangles .now) (a .plane-edges .now)) in (
+    let S : SearchAreas = (searchAreas (a .padded .now) (a .nodes .now) (a .leaf-order .now) (a .leaves .now) (a .handles .now) (a .materials .now) (a .triangles .now) (a .plane-floats .now) (a .plane-words .now) (a .plane-triangles .now) (a .plane-edges .now)) in (
       omega (arith, c .before .before .before .before .before .before .if1 .taken),
       l .inv .1,
       l .inv .2,
@@ -291,7 +291,7 @@ returns t c =
     let a = c .before .before .before .before .before .before .before .before .before .before .before .before .before .before .before .before .before .before .args in
     let pre = c .before .before .before .before .before .before .before .before .before .before .before .before .before .before .before .before .before .before .pre .1 in
     let l = c .before .before .loop in
-    let S : Scene = (scene (a .padded .now) (a .nodes .now) (a .leaf-order .now) (a .leaves .now) (a .handles .now) (a .materials .now) (a .triangles .now) (a .plane-floats .now) (a .plane-words .now) (a .plane-triangles .now) (a .plane-edges .now)) in
+    let S : SearchAreas = (searchAreas (a .padded .now) (a .nodes .now) (a .leaf-order .now) (a .leaves .now) (a .handles .now) (a .materials .now) (a .triangles .now) (a .plane-floats .now) (a .plane-words .now) (a .plane-triangles .now) (a .plane-edges .now)) in
     let e : l .p ≡ a .q .count = omega (arith, c .if1 .left, l .inv .0) in
     law.walked-all S (a .q) (a .depth) (l .p) (pre .deep) (e ∙ sym (law.firsts-length S (a .q))) (l .inv .5)
 

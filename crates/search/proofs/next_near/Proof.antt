@@ -9,7 +9,7 @@ use Rattle.mirror.specs.Plane.{planeAt}
 use Rattle.mirror.specs.Mirror.{mirrorOf}
 use Rattle.mirror.specs.Rows.{planesIn}
 use Rattle.bounces.specs.Areas.{pointIn}
-use Rattle.search.specs.Contract.{scene, squareOf, Skips}
+use Rattle.search.specs.Contract.{searchAreas, squareOf, Skips}
 use Rattle.search.proofs.Walks as law
 use Rattle.search.proofs.next_near.Statement.{statement}
 use Rattle.search.proofs.next_near.Tie as tie
@@ -21,7 +21,7 @@ Inv-loop floats words q seq images depth from image s₀ p₀ s p =
     (p ≤ q .count)
     × (from ≤ p)
     × ((padded : List Float) (nodes₁ : List ℕ) (perm : List ℕ) (rows : List Float) (handles : List ℕ) (materials : List Float) (columns : List Float) (members : List ℕ) (edges : List Float) →
-    Skips (scene padded nodes₁ perm rows handles materials columns floats words members edges) q depth seq images from s₀ p s)
+    Skips (searchAreas padded nodes₁ perm rows handles materials columns floats words members edges) q depth seq images from s₀ p s)
 
 abbrev μ-loop : tie.MeasureT-loop
 μ-loop floats words q seq images depth from image s₀ p₀ s p = q .count - p
@@ -34,7 +34,7 @@ vec-in-requires c κs = omega (arith, c .before .before .before .before .pre .0 
 
 loop-holds : tie.Need-loop-holds Inv-loop μ-loop
 loop-holds c = let a = c .before .before .before .before .before .args in
-    (c .before .before .before .before .before .pre .0 .2, omega arith, λ padded nodes₁ perm rows handles materials columns members edges. law.skips-none (scene padded nodes₁ perm rows handles materials columns (a .plane-floats .now) (a .plane-words .now) members edges) (a .q) (a .depth) (a .seq .now) (a .images .now) (a .from) (a .t))
+    (c .before .before .before .before .before .pre .0 .2, omega arith, λ padded nodes₁ perm rows handles materials columns members edges. law.skips-none (searchAreas padded nodes₁ perm rows handles materials columns (a .plane-floats .now) (a .plane-words .now) members edges) (a .q) (a .depth) (a .seq .now) (a .images .now) (a .from) (a .t))
 
 loop-less : tie.Need-loop-less Inv-loop μ-loop
 loop-less c = omega (arith, c .before .before .before .if1 .taken)
@@ -42,7 +42,7 @@ loop-less c = omega (arith, c .before .before .before .if1 .taken)
 loop-again : tie.Need-loop-again Inv-loop μ-loop
 loop-again c = let a = c .before .before .before .before .before .before .before .before .before .before .before .args in
     let l = c .before .before .before .before .before .loop in
-    (omega (arith, c .before .before .before .if1 .taken), omega (arith, l .inv .1), λ padded nodes₁ perm rows handles materials columns members edges. law.skips-full (scene padded nodes₁ perm rows handles materials columns (a .plane-floats .now) (a .plane-words .now) members edges) (a .q) (a .depth) (a .seq .now) (a .images .now) (a .from) (a .t) (l .p) (l .s) (l .inv .2 padded nodes₁ perm rows handles materials columns members edges) (c .if2 .taken))
+    (omega (arith, c .before .before .before .if1 .taken), omega (arith, l .inv .1), λ padded nodes₁ perm rows handles materials columns members edges. law.skips-full (searchAreas padded nodes₁ perm rows handles materials columns (a .plane-floats .now) (a .plane-words .now) members edges) (a .q) (a .depth) (a .seq .now) (a .images .now) (a .from) (a .t) (l .p) (l .s) (l .inv .2 padded nodes₁ perm rows handles materials columns members edges) (c .if2 .taken))
 
 may-requires : tie.Need-may-requires Inv-loop μ-loop
 may-requires c κs = ((omega (arith, c .before .before .before .before .before .before .before .before .before .before .before .pre .0 .0), c .before .before .before .if1 .taken), (c .before .before .before .before .before .before .before .before .before .before .before .pre .1 .0, c .before .before .before .before .before .before .before .before .before .before .before .pre .1 .1))
@@ -65,7 +65,7 @@ loop-again-2 c = let a = c .before .before .before .before .before .before .befo
           let is : c .before .before .before .next-image .result ≡ mirrorOf (planeAt (planesIn (a .plane-floats .now) (a .plane-words .now) members edges (a .q .count)) (l .p)) (pointIn (a .images .now) (a .depth)) =
           c .before .before .before .next-image .ensures members edges (a .q .count) (c .before .before .before .before .before .before .before .before .before .if1 .taken) ∙ ap (mirrorOf (planeAt (planesIn (a .plane-floats .now) (a .plane-words .now) members edges (a .q .count)) (l .p))) (c .before .before .before .before .before .before .before .before .before .before .before .before .vec-in .ensures) in
           rw (c .passed-over .ensures)
-          (law.skips-far (scene padded nodes₁ perm rows handles materials columns (a .plane-floats .now) (a .plane-words .now) members edges) (a .q) (a .depth) (a .seq .now) (a .images .now) (a .from) (a .t) (l .p) (l .s) (l .inv .2 padded nodes₁ perm rows handles materials columns members edges) (c .before .before .before .before .before .before .before .before .before .if1 .taken) (c .before .before .before .before .before .before .if2 .left) (sym (c .before .before .before .before .before .may .ensures members edges) ∙ c .before .before .before .before .if3 .taken)
+          (law.skips-far (searchAreas padded nodes₁ perm rows handles materials columns (a .plane-floats .now) (a .plane-words .now) members edges) (a .q) (a .depth) (a .seq .now) (a .images .now) (a .from) (a .t) (l .p) (l .s) (l .inv .2 padded nodes₁ perm rows handles materials columns members edges) (c .before .before .before .before .before .before .before .before .before .if1 .taken) (c .before .before .before .before .before .before .if2 .left) (sym (c .before .before .before .before .before .may .ensures members edges) ∙ c .before .before .before .before .if3 .taken)
           (ap (λ (v : Vec3). lt (a .q .beyond) (squareOf (a .q .listener) v)) (sym is) ∙ sym (c .before .before .far .ensures) ∙ c .before .if4 .taken)),
     )
 
@@ -79,7 +79,7 @@ loop-less-3 c = omega (arith, c .before .before .before .before .before .if1 .ta
 loop-again-3 : tie.Need-loop-again-3 Inv-loop μ-loop
 loop-again-3 c = let a = c .before .before .before .before .before .before .before .before .before .before .before .before .before .args in
     let l = c .before .before .before .before .before .before .before .loop in
-    (omega (arith, c .before .before .before .before .before .if1 .taken), omega (arith, l .inv .1), λ padded nodes₁ perm rows handles materials columns members edges. law.skips-not (scene padded nodes₁ perm rows handles materials columns (a .plane-floats .now) (a .plane-words .now) members edges) (a .q) (a .depth) (a .seq .now) (a .images .now) (a .from) (a .t) (l .p) (l .s) (l .inv .2 padded nodes₁ perm rows handles materials columns members edges) (sym (c .before .may .ensures members edges) ∙ c .if3 .left))
+    (omega (arith, c .before .before .before .before .before .if1 .taken), omega (arith, l .inv .1), λ padded nodes₁ perm rows handles materials columns members edges. law.skips-not (searchAreas padded nodes₁ perm rows handles materials columns (a .plane-floats .now) (a .plane-words .now) members edges) (a .q) (a .depth) (a .seq .now) (a .images .now) (a .from) (a .t) (l .p) (l .s) (l .inv .2 padded nodes₁ perm rows handles materials columns members edges) (sym (c .before .may .ensures members edges) ∙ c .if3 .left))
 
 returns-2 : tie.Need-returns-2 Inv-loop μ-loop
 returns-2 c = let l = c .before .before .loop in

@@ -17,7 +17,7 @@ use Rattle.bands.proofs.zeros.Reads as zeros-reads
 use Rattle.segments.proofs.counted.Reads as counted-reads
 use Rattle.segments.proofs.segment_ray.Reads as segment-ray-reads
 use Rattle.segments.proofs.transmission_of.Reads as transmission-of-reads
-use Rattle.trace.proofs.intersect.Reads as intersect-reads
+use Rattle.tree_trace.proofs.intersect.Reads as intersect-reads
 use Rattle.segments.proofs.+walk.{statement}
 use Rattle.segments.proofs.+walk.Tie.{close}
 
