@@ -1,5 +1,5 @@
-// The mirror planes of a scene, `build_planes`: `planesOf` of specs/Build.antt. Each step has a crate of its own: `faces`, `patches`, `buried`,
-// `links` and `groups`, `fit`, and `ranked` over `importance` and `borders`; here they are called in turn, and an area that a step has done with serves a
+// The mirror planes of a scene, `build_planes`: `planesOf` of specs/Build.antt. Each step has a crate of its own: `planes_faces`, `planes_patches`, `planes_buried`,
+// `planes_links` and `planes_groups`, `planes_fit`, and `planes_ranked` over `planes_importance` and `planes_borders`; here they are called in turn, and an area that a step has done with serves a
 // later one (specs/Areas.antt).
 use scene::Settings;
 ghost use mathlib.Core.Path.{_≡_};

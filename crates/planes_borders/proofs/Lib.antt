@@ -1,4 +1,4 @@
--- The laws that the proofs of `borders` and later steps cite.
+-- The laws that the proofs of `planes_borders` and later steps cite.
 pub mod Ends
 pub mod Keying
 pub mod Counting

@@ -1,5 +1,5 @@
 // Step 3 of `build_planes`: the patches that are not buried. A patch is left out where rays from both sides of its largest triangle hit
-// something near. Patches stand as `patches` leaves them: a row of floats each, and the number of each triangle's patch.
+// something near. Patches stand as `planes_patches` leaves them: a row of floats each, and the number of each triangle's patch.
 use geometry::Triangle;
 use vector::Ray;
 use vector::Vec3;

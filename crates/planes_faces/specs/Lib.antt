@@ -1,4 +1,4 @@
--- The definitions that the contracts of `faces` cite.
+-- The definitions that the contracts of `planes_faces` cite.
 pub mod Whole
 pub mod Key
 pub mod Triples

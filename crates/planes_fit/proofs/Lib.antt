@@ -1,4 +1,4 @@
--- The laws that the proofs of `fit` cite.
+-- The laws that the proofs of `planes_fit` cite.
 pub mod Folds
 pub mod Members
 pub mod Naming

@@ -1,4 +1,4 @@
--- What the code of `groups` rests on.
+-- What the code of `planes_groups` rests on.
 mod Seeding
 mod Taking
 mod Growing

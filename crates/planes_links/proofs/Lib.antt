@@ -1,4 +1,4 @@
--- What the loops of `links` rest on, and the laws of rising lists that other crates cite.
+-- What the loops of `planes_links` rest on, and the laws of rising lists that other crates cite.
 pub mod Rising
 pub mod Filters
 pub mod Compacting

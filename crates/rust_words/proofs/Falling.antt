@@ -1,4 +1,4 @@
--- The keys by which `groups` and `importance` sort have the Rust's order: larger floats first, and of equal ones the lower number.
+-- The keys by which `planes_groups` and `planes_importance` sort have the Rust's order: larger floats first, and of equal ones the lower number.
 --     descending-first     for floats of the format that are not NaN, and numbers below 2^32
 use Prim.Native.Nat.{ℕ, _+_, _-_, _*_, _≤_, _<_}
 use mathlib.Core.Path.{_≡_, refl, sym, ap, _∙_}

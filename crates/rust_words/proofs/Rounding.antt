@@ -1,4 +1,4 @@
--- One rounding: what `faces` makes keys and cells of is `float`'s `roundOf`, held to the range of an `i32`; for corners that pass refusal 6 nothing is held back.
+-- One rounding: what `planes_faces` makes keys and cells of is `float`'s `roundOf`, held to the range of an `i32`; for corners that pass refusal 6 nothing is held back.
 --     whole-held      for every float
 --     vertex-step     for a coordinate up to 10,000 in size our step of a millimetre is the Rust's, counted from -2^31
 --     same-keys       two points within 10,000 have one key of ours exactly when they have one of the Rust's

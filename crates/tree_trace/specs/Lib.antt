@@ -1,4 +1,4 @@
--- The definitions that the contracts of `trace` cite: the triangles of a leaf, the test of a box, the tree's recursion, and the Rust's stack.
+-- The definitions that the contracts of `tree_trace` cite: the triangles of a leaf, the test of a box, the tree's recursion, and the Rust's stack.
 pub mod Leaf
 pub mod Slopes
 pub mod Trace

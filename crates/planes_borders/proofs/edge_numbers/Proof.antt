@@ -1,4 +1,4 @@
--- `planes_borders::edge_numbers` meets its contract: the numbers of `faces`, at the scale of edges.
+-- `planes_borders::edge_numbers` meets its contract: the numbers of `planes_faces`, at the scale of edges.
 use borrow.Author.Needs.{needs}
 use Rattle.planes_borders.proofs.Bordering.{edge-numbered}
 use Rattle.planes_borders.proofs.edge_numbers.Statement.{statement}
