@@ -1,6 +1,6 @@
-// The mirror planes of a scene, `build_planes`: `planesOf` of specs/Build.antt. Each step has a crate of its own: `planes_faces`, `planes_patches`, `planes_buried`,
-// `planes_links` and `planes_groups`, `planes_fit`, and `planes_ranked` over `planes_importance` and `planes_borders`; here they are called in turn, and an area that a step has done with serves a
-// later one (specs/Areas.antt).
+// The mirror planes of a scene, `build_planes`: `planesOf` of specs/Build.antt. Each step has a crate of its own, so that each is checked alone:
+// `planes_faces`, `planes_patches`, `planes_buried`, `planes_links` and `planes_groups`, `planes_fit`, and `planes_ranked` over `planes_importance` and
+// `planes_borders`. Here they are called in turn, and an area that a step has done with serves a later one (specs/Areas.antt).
 use scene::Settings;
 ghost use mathlib.Core.Path.{_≡_};
 ghost use Prim.Native.Nat.{ℕ, _*_, _/_, _<_, _≤_};
