@@ -3,7 +3,7 @@
 use paths::Fate;
 use paths::PathCandidate;
 use ranking::Candidate;
-use searchAreas::Settings;
+use scene::Settings;
 use vector::Vec3;
 ghost use mathlib.Core.Path.{_≡_};
 ghost use mathlib.Core.Bool.{false};
