@@ -59,5 +59,14 @@ plane =
 
 -- nothing stands near enough on both sides to bury it
 pub planes-are : planesOf (planeSettings settings) (probeOf (triangleAt two) tree) two ≡ plane ∷ []
-unfolding filterBy allBy countBy triangleAt cornersOf boxOf largerPartOf largestPartOf isTurned neg3Of canonicalOf offsetOf patchAt planeAt keptOf cellOf aroundOf inCell isCoplanar foundOf newPatch joinedOf placedOf patchesOf largerOf largestOf signedOf probeRayOf isBuried openOf rankOf descendingKey seedsOf verticesOf runAt follow isLinked isAdjacent runsOf inCone isWithin takes grownOf groupsFrom groupsOf aloneOf sideOf weightedOf meanNormalOf totalAreaOf groupBoxOf groupTrisOf heightsOf meanOffsetOf reachOf spreadOf fittedOf planeOf grownByOf sceneBoxOf centreOf halfDiagOf momentOf meanOf areaCentreOf weighedOf importanceOf keyOfPlane rankingOf rankedOf edgeKey keyedOf sidesOf isSameEdge usedOnce borderOf borderedOf openPatchesOf groupPlanesOf planesOf wholeOf stepOf keyBy sameKey vertexKey anyOrder keysOf faceOf faceAt sameFace isFirst insert sortBy anyBy firstBy headOr upTo minOf maxOf absOf floatKey isqrt rootOf sqrtOf dot3Of sub3Of add3Of scale3Of cross3Of length3Of distance3Of normalize3Of lowOf highOf newEmptyOf unionOf growOf fromCornersOf crossOf triangleAreaOf thirdOf centroidOf edgesOf parallelOf outsideOf withinOf solveOf crossingOf intersectMaxOf add sub mul div neg lt le eq isNan ofBits flatMap round toBits probeOf intersectOf traceTree visitOf visitAllOf intersectTOf slabOf paddedOf padOf axisOf narrowOf pointAtOf
+unfolding filterBy allBy countBy triangleAt cornersOf boxOf largerPartOf largestPartOf isTurned neg3Of canonicalOf offsetOf patchAt planeAt keptOf
+    cellOf aroundOf inCell isCoplanar foundOf newPatch joinedOf placedOf patchesOf largerOf largestOf signedOf probeRayOf isBuried openOf rankOf
+    descendingKey seedsOf verticesOf runAt follow isLinked isAdjacent runsOf inCone isWithin takes grownOf groupsFrom groupsOf aloneOf sideOf
+    weightedOf meanNormalOf totalAreaOf groupBoxOf groupTrisOf heightsOf meanOffsetOf reachOf spreadOf fittedOf planeOf grownByOf sceneBoxOf centreOf
+    halfDiagOf momentOf meanOf areaCentreOf weighedOf importanceOf keyOfPlane rankingOf rankedOf edgeKey keyedOf sidesOf isSameEdge usedOnce borderOf
+    borderedOf openPatchesOf groupPlanesOf planesOf wholeOf stepOf keyBy sameKey vertexKey anyOrder keysOf faceOf faceAt sameFace isFirst insert
+    sortBy anyBy firstBy headOr upTo minOf maxOf absOf floatKey isqrt rootOf sqrtOf dot3Of sub3Of add3Of scale3Of cross3Of length3Of distance3Of
+    normalize3Of lowOf highOf newEmptyOf unionOf growOf fromCornersOf crossOf triangleAreaOf thirdOf centroidOf edgesOf parallelOf outsideOf withinOf
+    solveOf crossingOf intersectMaxOf add sub mul div neg lt le eq isNan ofBits flatMap round toBits probeOf intersectOf traceTree visitOf visitAllOf
+    intersectTOf slabOf paddedOf padOf axisOf narrowOf pointAtOf
 planes-are = refl

@@ -209,6 +209,9 @@ decimal-value (suc k) n h = by (ltb n 10) refl (decimal-value k (n / 10))
 
 -- ---- document 01's listing for `2 3 0`
 
-document : printed (50 ∷ 32 ∷ 51 ∷ 32 ∷ 48 ∷ []) ≡ 105 ∷ 109 ∷ 97 ∷ 103 ∷ 101 ∷ 115 ∷ 32 ∷ 54 ∷ 10 ∷ 49 ∷ 58 ∷ 32 ∷ 48 ∷ 10 ∷ 50 ∷ 58 ∷ 32 ∷ 48 ∷ 32 ∷ 49 ∷ 10 ∷ 51 ∷ 58 ∷ 32 ∷ 48 ∷ 32 ∷ 49 ∷ 32 ∷ 48 ∷ 10 ∷ 52 ∷ 58 ∷ 32 ∷ 49 ∷ 10 ∷ 53 ∷ 58 ∷ 32 ∷ 49 ∷ 32 ∷ 48 ∷ 10 ∷ 54 ∷ 58 ∷ 32 ∷ 49 ∷ 32 ∷ 48 ∷ 32 ∷ 49 ∷ 10 ∷ []
+document :
+    printed (50 ∷ 32 ∷ 51 ∷ 32 ∷ 48 ∷ [])
+    ≡ 105 ∷ 109 ∷ 97 ∷ 103 ∷ 101 ∷ 115 ∷ 32 ∷ 54 ∷ 10 ∷ 49 ∷ 58 ∷ 32 ∷ 48 ∷ 10 ∷ 50 ∷ 58 ∷ 32 ∷ 48 ∷ 32 ∷ 49 ∷ 10 ∷ 51 ∷ 58 ∷ 32 ∷ 48 ∷ 32 ∷ 49
+    ∷ 32 ∷ 48 ∷ 10 ∷ 52 ∷ 58 ∷ 32 ∷ 49 ∷ 10 ∷ 53 ∷ 58 ∷ 32 ∷ 49 ∷ 32 ∷ 48 ∷ 10 ∷ 54 ∷ 58 ∷ 32 ∷ 49 ∷ 32 ∷ 48 ∷ 32 ∷ 49 ∷ 10 ∷ []
 unfolding printed requestOf lineEnd words isDecimal all isDigit valueOf inRange imagesOf onOf below upto may headerOf linesFrom lineOf planesOf digitsOf
 document = refl

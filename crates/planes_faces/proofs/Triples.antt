@@ -100,27 +100,50 @@ tests-reordered a b c d e f t =
     let c3 : eqb a d && eqb b f && eqb c e ≡ true → Reordered a b c d e f = λ t. let h = three-eq a b c d f e t in rw (h .0, h .1, h .2) acb in
     let c4 : eqb a f && eqb b e && eqb c d ≡ true → Reordered a b c d e f = λ t. let h = three-eq a b c f e d t in rw (h .0, h .1, h .2) cba in
     let c5 : eqb a e && eqb b d && eqb c f ≡ true → Reordered a b c d e f = λ t. let h = three-eq a b c e d f t in rw (h .0, h .1, h .2) bac in
-    or-cases ((eqb a d && eqb b e && eqb c f) || (eqb a e && eqb b f && eqb c d) || (eqb a f && eqb b d && eqb c e) || (eqb a d && eqb b f && eqb c e) || (eqb a f && eqb b e && eqb c d)) (eqb a e && eqb b d && eqb c f) (λ u. or-cases ((eqb a d && eqb b e && eqb c f) || (eqb a e && eqb b f && eqb c d) || (eqb a f && eqb b d && eqb c e) || (eqb a d && eqb b f && eqb c e)) (eqb a f && eqb b e && eqb c d) (λ u. or-cases ((eqb a d && eqb b e && eqb c f) || (eqb a e && eqb b f && eqb c d) || (eqb a f && eqb b d && eqb c e)) (eqb a d && eqb b f && eqb c e) (λ u. or-cases ((eqb a d && eqb b e && eqb c f) || (eqb a e && eqb b f && eqb c d)) (eqb a f && eqb b d && eqb c e) (λ u. or-cases (eqb a d && eqb b e && eqb c f) (eqb a e && eqb b f && eqb c d) c0 c1 u) c2 u) c3 u) c4 u) c5 t
+    or-cases ((eqb a d && eqb b e && eqb c f) || (eqb a e && eqb b f && eqb c d) || (eqb a f && eqb b d && eqb c e) || (eqb a d && eqb b f && eqb c e) || (eqb a f && eqb b e && eqb c d)) (eqb a e && eqb b d && eqb c f)
+    (λ u. or-cases ((eqb a d && eqb b e && eqb c f) || (eqb a e && eqb b f && eqb c d) || (eqb a f && eqb b d && eqb c e) || (eqb a d && eqb b f && eqb c e)) (eqb a f && eqb b e && eqb c d)
+    (λ u. or-cases ((eqb a d && eqb b e && eqb c f) || (eqb a e && eqb b f && eqb c d) || (eqb a f && eqb b d && eqb c e)) (eqb a d && eqb b f && eqb c e)
+    (λ u. or-cases ((eqb a d && eqb b e && eqb c f) || (eqb a e && eqb b f && eqb c d)) (eqb a f && eqb b d && eqb c e)
+    (λ u. or-cases (eqb a d && eqb b e && eqb c f) (eqb a e && eqb b f && eqb c d) c0 c1 u) c2 u) c3 u) c4 u) c5 t
 
 reordered-abc : (a b c : ℕ) → anyOrder eqb a b c a b c ≡ true
 unfolding anyOrder
-reordered-abc a b c = or-left ((eqb a a && eqb b b && eqb c c) || (eqb a b && eqb b c && eqb c a) || (eqb a c && eqb b a && eqb c b) || (eqb a a && eqb b c && eqb c b) || (eqb a c && eqb b b && eqb c a)) (eqb a b && eqb b a && eqb c c) (or-left ((eqb a a && eqb b b && eqb c c) || (eqb a b && eqb b c && eqb c a) || (eqb a c && eqb b a && eqb c b) || (eqb a a && eqb b c && eqb c b)) (eqb a c && eqb b b && eqb c a) (or-left ((eqb a a && eqb b b && eqb c c) || (eqb a b && eqb b c && eqb c a) || (eqb a c && eqb b a && eqb c b)) (eqb a a && eqb b c && eqb c b) (or-left ((eqb a a && eqb b b && eqb c c) || (eqb a b && eqb b c && eqb c a)) (eqb a c && eqb b a && eqb c b) (or-left ((eqb a a && eqb b b && eqb c c)) (eqb a b && eqb b c && eqb c a) (three-same a b c)))))
+reordered-abc a b c =
+    or-left ((eqb a a && eqb b b && eqb c c) || (eqb a b && eqb b c && eqb c a) || (eqb a c && eqb b a && eqb c b) || (eqb a a && eqb b c && eqb c b) || (eqb a c && eqb b b && eqb c a)) (eqb a b && eqb b a && eqb c c)
+    (or-left ((eqb a a && eqb b b && eqb c c) || (eqb a b && eqb b c && eqb c a) || (eqb a c && eqb b a && eqb c b) || (eqb a a && eqb b c && eqb c b)) (eqb a c && eqb b b && eqb c a)
+    (or-left ((eqb a a && eqb b b && eqb c c) || (eqb a b && eqb b c && eqb c a) || (eqb a c && eqb b a && eqb c b)) (eqb a a && eqb b c && eqb c b)
+    (or-left ((eqb a a && eqb b b && eqb c c) || (eqb a b && eqb b c && eqb c a)) (eqb a c && eqb b a && eqb c b)
+    (or-left ((eqb a a && eqb b b && eqb c c)) (eqb a b && eqb b c && eqb c a) (three-same a b c)))))
 
 reordered-cab : (a b c : ℕ) → anyOrder eqb a b c c a b ≡ true
 unfolding anyOrder
-reordered-cab a b c = or-left ((eqb a c && eqb b a && eqb c b) || (eqb a a && eqb b b && eqb c c) || (eqb a b && eqb b c && eqb c a) || (eqb a c && eqb b b && eqb c a) || (eqb a b && eqb b a && eqb c c)) (eqb a a && eqb b c && eqb c b) (or-left ((eqb a c && eqb b a && eqb c b) || (eqb a a && eqb b b && eqb c c) || (eqb a b && eqb b c && eqb c a) || (eqb a c && eqb b b && eqb c a)) (eqb a b && eqb b a && eqb c c) (or-left ((eqb a c && eqb b a && eqb c b) || (eqb a a && eqb b b && eqb c c) || (eqb a b && eqb b c && eqb c a)) (eqb a c && eqb b b && eqb c a) (or-left ((eqb a c && eqb b a && eqb c b) || (eqb a a && eqb b b && eqb c c)) (eqb a b && eqb b c && eqb c a) (or-right ((eqb a c && eqb b a && eqb c b)) (eqb a a && eqb b b && eqb c c) (three-same a b c)))))
+reordered-cab a b c =
+    or-left ((eqb a c && eqb b a && eqb c b) || (eqb a a && eqb b b && eqb c c) || (eqb a b && eqb b c && eqb c a) || (eqb a c && eqb b b && eqb c a) || (eqb a b && eqb b a && eqb c c)) (eqb a a && eqb b c && eqb c b)
+    (or-left ((eqb a c && eqb b a && eqb c b) || (eqb a a && eqb b b && eqb c c) || (eqb a b && eqb b c && eqb c a) || (eqb a c && eqb b b && eqb c a)) (eqb a b && eqb b a && eqb c c)
+    (or-left ((eqb a c && eqb b a && eqb c b) || (eqb a a && eqb b b && eqb c c) || (eqb a b && eqb b c && eqb c a)) (eqb a c && eqb b b && eqb c a)
+    (or-left ((eqb a c && eqb b a && eqb c b) || (eqb a a && eqb b b && eqb c c)) (eqb a b && eqb b c && eqb c a)
+    (or-right ((eqb a c && eqb b a && eqb c b)) (eqb a a && eqb b b && eqb c c) (three-same a b c)))))
 
 reordered-bca : (a b c : ℕ) → anyOrder eqb a b c b c a ≡ true
 unfolding anyOrder
-reordered-bca a b c = or-left ((eqb a b && eqb b c && eqb c a) || (eqb a c && eqb b a && eqb c b) || (eqb a a && eqb b b && eqb c c) || (eqb a b && eqb b a && eqb c c) || (eqb a a && eqb b c && eqb c b)) (eqb a c && eqb b b && eqb c a) (or-left ((eqb a b && eqb b c && eqb c a) || (eqb a c && eqb b a && eqb c b) || (eqb a a && eqb b b && eqb c c) || (eqb a b && eqb b a && eqb c c)) (eqb a a && eqb b c && eqb c b) (or-left ((eqb a b && eqb b c && eqb c a) || (eqb a c && eqb b a && eqb c b) || (eqb a a && eqb b b && eqb c c)) (eqb a b && eqb b a && eqb c c) (or-right ((eqb a b && eqb b c && eqb c a) || (eqb a c && eqb b a && eqb c b)) (eqb a a && eqb b b && eqb c c) (three-same a b c))))
+reordered-bca a b c =
+    or-left ((eqb a b && eqb b c && eqb c a) || (eqb a c && eqb b a && eqb c b) || (eqb a a && eqb b b && eqb c c) || (eqb a b && eqb b a && eqb c c) || (eqb a a && eqb b c && eqb c b)) (eqb a c && eqb b b && eqb c a)
+    (or-left ((eqb a b && eqb b c && eqb c a) || (eqb a c && eqb b a && eqb c b) || (eqb a a && eqb b b && eqb c c) || (eqb a b && eqb b a && eqb c c)) (eqb a a && eqb b c && eqb c b)
+    (or-left ((eqb a b && eqb b c && eqb c a) || (eqb a c && eqb b a && eqb c b) || (eqb a a && eqb b b && eqb c c)) (eqb a b && eqb b a && eqb c c)
+    (or-right ((eqb a b && eqb b c && eqb c a) || (eqb a c && eqb b a && eqb c b)) (eqb a a && eqb b b && eqb c c) (three-same a b c))))
 
 reordered-acb : (a b c : ℕ) → anyOrder eqb a b c a c b ≡ true
 unfolding anyOrder
-reordered-acb a b c = or-left ((eqb a a && eqb b c && eqb c b) || (eqb a c && eqb b b && eqb c a) || (eqb a b && eqb b a && eqb c c) || (eqb a a && eqb b b && eqb c c) || (eqb a b && eqb b c && eqb c a)) (eqb a c && eqb b a && eqb c b) (or-left ((eqb a a && eqb b c && eqb c b) || (eqb a c && eqb b b && eqb c a) || (eqb a b && eqb b a && eqb c c) || (eqb a a && eqb b b && eqb c c)) (eqb a b && eqb b c && eqb c a) (or-right ((eqb a a && eqb b c && eqb c b) || (eqb a c && eqb b b && eqb c a) || (eqb a b && eqb b a && eqb c c)) (eqb a a && eqb b b && eqb c c) (three-same a b c)))
+reordered-acb a b c =
+    or-left ((eqb a a && eqb b c && eqb c b) || (eqb a c && eqb b b && eqb c a) || (eqb a b && eqb b a && eqb c c) || (eqb a a && eqb b b && eqb c c) || (eqb a b && eqb b c && eqb c a)) (eqb a c && eqb b a && eqb c b)
+    (or-left ((eqb a a && eqb b c && eqb c b) || (eqb a c && eqb b b && eqb c a) || (eqb a b && eqb b a && eqb c c) || (eqb a a && eqb b b && eqb c c)) (eqb a b && eqb b c && eqb c a)
+    (or-right ((eqb a a && eqb b c && eqb c b) || (eqb a c && eqb b b && eqb c a) || (eqb a b && eqb b a && eqb c c)) (eqb a a && eqb b b && eqb c c) (three-same a b c)))
 
 reordered-cba : (a b c : ℕ) → anyOrder eqb a b c c b a ≡ true
 unfolding anyOrder
-reordered-cba a b c = or-left ((eqb a c && eqb b b && eqb c a) || (eqb a b && eqb b a && eqb c c) || (eqb a a && eqb b c && eqb c b) || (eqb a c && eqb b a && eqb c b) || (eqb a a && eqb b b && eqb c c)) (eqb a b && eqb b c && eqb c a) (or-right ((eqb a c && eqb b b && eqb c a) || (eqb a b && eqb b a && eqb c c) || (eqb a a && eqb b c && eqb c b) || (eqb a c && eqb b a && eqb c b)) (eqb a a && eqb b b && eqb c c) (three-same a b c))
+reordered-cba a b c =
+    or-left ((eqb a c && eqb b b && eqb c a) || (eqb a b && eqb b a && eqb c c) || (eqb a a && eqb b c && eqb c b) || (eqb a c && eqb b a && eqb c b) || (eqb a a && eqb b b && eqb c c)) (eqb a b && eqb b c && eqb c a)
+    (or-right ((eqb a c && eqb b b && eqb c a) || (eqb a b && eqb b a && eqb c c) || (eqb a a && eqb b c && eqb c b) || (eqb a c && eqb b a && eqb c b)) (eqb a a && eqb b b && eqb c c) (three-same a b c))
 
 reordered-bac : (a b c : ℕ) → anyOrder eqb a b c b a c ≡ true
 unfolding anyOrder

@@ -35,12 +35,48 @@ use Rattle.geometry.specs.Intersect.{edgesOf, parallelOf, outsideOf, withinOf, 
 
 abbrev rank-tris : List Triangle
 rank-tris =
-    record { a = (vec (fin true 1 (pos 1)) (fin false 0 (pos 0)) (fin true 1 (pos 1))); b = (vec (fin true 1 (pos 1)) (fin false 0 (pos 0)) (fin false 1 (pos 1))); c = (vec (fin false 1 (pos 1)) (fin false 0 (pos 0)) (fin false 1 (pos 1))); normal = (vec (fin false 0 (pos 0)) (fin false 1 (pos 0)) (fin false 0 (pos 0))); «material_handle» = 0 }
-    ∷ record { a = (vec (fin true 1 (pos 1)) (fin false 0 (pos 0)) (fin true 1 (pos 1))); b = (vec (fin false 1 (pos 1)) (fin false 0 (pos 0)) (fin false 1 (pos 1))); c = (vec (fin false 1 (pos 1)) (fin false 0 (pos 0)) (fin true 1 (pos 1))); normal = (vec (fin false 0 (pos 0)) (fin false 1 (pos 0)) (fin false 0 (pos 0))); «material_handle» = 0 }
-    ∷ record { a = (vec (fin true 4152361 (negsuc 20)) (fin false 3 (pos 0)) (fin true 4152361 (negsuc 20))); b = (vec (fin true 4152361 (negsuc 20)) (fin false 3 (pos 0)) (fin false 4152361 (negsuc 20))); c = (vec (fin false 4152361 (negsuc 20)) (fin false 3 (pos 0)) (fin false 4152361 (negsuc 20))); normal = (vec (fin false 0 (pos 0)) (fin false 1 (pos 0)) (fin false 0 (pos 0))); «material_handle» = 0 }
-    ∷ record { a = (vec (fin true 4152361 (negsuc 20)) (fin false 3 (pos 0)) (fin true 4152361 (negsuc 20))); b = (vec (fin false 4152361 (negsuc 20)) (fin false 3 (pos 0)) (fin false 4152361 (negsuc 20))); c = (vec (fin false 4152361 (negsuc 20)) (fin false 3 (pos 0)) (fin true 4152361 (negsuc 20))); normal = (vec (fin false 0 (pos 0)) (fin false 1 (pos 0)) (fin false 0 (pos 0))); «material_handle» = 0 }
-    ∷ record { a = (vec (fin true 15938355 (negsuc 22)) (fin false 1 (pos 3)) (fin true 15938355 (negsuc 22))); b = (vec (fin true 15938355 (negsuc 22)) (fin false 1 (pos 3)) (fin false 15938355 (negsuc 22))); c = (vec (fin false 15938355 (negsuc 22)) (fin false 1 (pos 3)) (fin false 15938355 (negsuc 22))); normal = (vec (fin false 0 (pos 0)) (fin false 1 (pos 0)) (fin false 0 (pos 0))); «material_handle» = 0 }
-    ∷ record { a = (vec (fin true 15938355 (negsuc 22)) (fin false 1 (pos 3)) (fin true 15938355 (negsuc 22))); b = (vec (fin false 15938355 (negsuc 22)) (fin false 1 (pos 3)) (fin false 15938355 (negsuc 22))); c = (vec (fin false 15938355 (negsuc 22)) (fin false 1 (pos 3)) (fin true 15938355 (negsuc 22))); normal = (vec (fin false 0 (pos 0)) (fin false 1 (pos 0)) (fin false 0 (pos 0))); «material_handle» = 0 }
+    record {
+      a = (vec (fin true 1 (pos 1)) (fin false 0 (pos 0)) (fin true 1 (pos 1)));
+      b = (vec (fin true 1 (pos 1)) (fin false 0 (pos 0)) (fin false 1 (pos 1)));
+      c = (vec (fin false 1 (pos 1)) (fin false 0 (pos 0)) (fin false 1 (pos 1)));
+      normal = (vec (fin false 0 (pos 0)) (fin false 1 (pos 0)) (fin false 0 (pos 0)));
+      «material_handle» = 0;
+    }
+    ∷ record {
+      a = (vec (fin true 1 (pos 1)) (fin false 0 (pos 0)) (fin true 1 (pos 1)));
+      b = (vec (fin false 1 (pos 1)) (fin false 0 (pos 0)) (fin false 1 (pos 1)));
+      c = (vec (fin false 1 (pos 1)) (fin false 0 (pos 0)) (fin true 1 (pos 1)));
+      normal = (vec (fin false 0 (pos 0)) (fin false 1 (pos 0)) (fin false 0 (pos 0)));
+      «material_handle» = 0;
+    }
+    ∷ record {
+      a = (vec (fin true 4152361 (negsuc 20)) (fin false 3 (pos 0)) (fin true 4152361 (negsuc 20)));
+      b = (vec (fin true 4152361 (negsuc 20)) (fin false 3 (pos 0)) (fin false 4152361 (negsuc 20)));
+      c = (vec (fin false 4152361 (negsuc 20)) (fin false 3 (pos 0)) (fin false 4152361 (negsuc 20)));
+      normal = (vec (fin false 0 (pos 0)) (fin false 1 (pos 0)) (fin false 0 (pos 0)));
+      «material_handle» = 0;
+    }
+    ∷ record {
+      a = (vec (fin true 4152361 (negsuc 20)) (fin false 3 (pos 0)) (fin true 4152361 (negsuc 20)));
+      b = (vec (fin false 4152361 (negsuc 20)) (fin false 3 (pos 0)) (fin false 4152361 (negsuc 20)));
+      c = (vec (fin false 4152361 (negsuc 20)) (fin false 3 (pos 0)) (fin true 4152361 (negsuc 20)));
+      normal = (vec (fin false 0 (pos 0)) (fin false 1 (pos 0)) (fin false 0 (pos 0)));
+      «material_handle» = 0;
+    }
+    ∷ record {
+      a = (vec (fin true 15938355 (negsuc 22)) (fin false 1 (pos 3)) (fin true 15938355 (negsuc 22)));
+      b = (vec (fin true 15938355 (negsuc 22)) (fin false 1 (pos 3)) (fin false 15938355 (negsuc 22)));
+      c = (vec (fin false 15938355 (negsuc 22)) (fin false 1 (pos 3)) (fin false 15938355 (negsuc 22)));
+      normal = (vec (fin false 0 (pos 0)) (fin false 1 (pos 0)) (fin false 0 (pos 0)));
+      «material_handle» = 0;
+    }
+    ∷ record {
+      a = (vec (fin true 15938355 (negsuc 22)) (fin false 1 (pos 3)) (fin true 15938355 (negsuc 22)));
+      b = (vec (fin false 15938355 (negsuc 22)) (fin false 1 (pos 3)) (fin false 15938355 (negsuc 22)));
+      c = (vec (fin false 15938355 (negsuc 22)) (fin false 1 (pos 3)) (fin true 15938355 (negsuc 22)));
+      normal = (vec (fin false 0 (pos 0)) (fin false 1 (pos 0)) (fin false 0 (pos 0)));
+      «material_handle» = 0;
+    }
     ∷ []
 
 abbrev rank-settings : Settings
@@ -96,5 +132,13 @@ rank-planes =
     ∷ []
 
 rank-built : planesOf rank-settings (λ r. false) rank-tris ≡ rank-planes
-unfolding filterBy allBy countBy triangleAt cornersOf boxOf largerPartOf largestPartOf isTurned neg3Of canonicalOf offsetOf patchAt planeAt keptOf cellOf aroundOf inCell isCoplanar foundOf newPatch joinedOf placedOf patchesOf largerOf largestOf signedOf probeRayOf isBuried openOf rankOf descendingKey seedsOf verticesOf runAt follow isLinked isAdjacent runsOf inCone isWithin takes grownOf groupsFrom groupsOf aloneOf sideOf weightedOf meanNormalOf totalAreaOf groupBoxOf groupTrisOf heightsOf meanOffsetOf reachOf spreadOf fittedOf planeOf grownByOf sceneBoxOf centreOf halfDiagOf momentOf meanOf areaCentreOf weighedOf importanceOf keyOfPlane rankingOf rankedOf edgeKey keyedOf sidesOf isSameEdge usedOnce borderOf borderedOf openPatchesOf groupPlanesOf planesOf wholeOf stepOf keyBy sameKey vertexKey anyOrder keysOf faceOf faceAt sameFace isFirst insert sortBy anyBy firstBy headOr upTo minOf maxOf absOf floatKey isqrt rootOf sqrtOf dot3Of sub3Of add3Of scale3Of cross3Of length3Of distance3Of normalize3Of lowOf highOf newEmptyOf unionOf growOf fromCornersOf crossOf triangleAreaOf thirdOf centroidOf edgesOf parallelOf outsideOf withinOf solveOf crossingOf intersectMaxOf add sub mul div neg lt le eq isNan ofBits flatMap round toBits
+unfolding filterBy allBy countBy triangleAt cornersOf boxOf largerPartOf largestPartOf isTurned neg3Of canonicalOf offsetOf patchAt planeAt keptOf
+    cellOf aroundOf inCell isCoplanar foundOf newPatch joinedOf placedOf patchesOf largerOf largestOf signedOf probeRayOf isBuried openOf rankOf
+    descendingKey seedsOf verticesOf runAt follow isLinked isAdjacent runsOf inCone isWithin takes grownOf groupsFrom groupsOf aloneOf sideOf
+    weightedOf meanNormalOf totalAreaOf groupBoxOf groupTrisOf heightsOf meanOffsetOf reachOf spreadOf fittedOf planeOf grownByOf sceneBoxOf centreOf
+    halfDiagOf momentOf meanOf areaCentreOf weighedOf importanceOf keyOfPlane rankingOf rankedOf edgeKey keyedOf sidesOf isSameEdge usedOnce borderOf
+    borderedOf openPatchesOf groupPlanesOf planesOf wholeOf stepOf keyBy sameKey vertexKey anyOrder keysOf faceOf faceAt sameFace isFirst insert
+    sortBy anyBy firstBy headOr upTo minOf maxOf absOf floatKey isqrt rootOf sqrtOf dot3Of sub3Of add3Of scale3Of cross3Of length3Of distance3Of
+    normalize3Of lowOf highOf newEmptyOf unionOf growOf fromCornersOf crossOf triangleAreaOf thirdOf centroidOf edgesOf parallelOf outsideOf withinOf
+    solveOf crossingOf intersectMaxOf add sub mul div neg lt le eq isNan ofBits flatMap round toBits
 rank-built = refl

@@ -1,3 +1,4 @@
+-- `answer::answer_loaded` meets its contract: the handles are made ready, what the search found is sent, and the areas are cleared at the end.
 use mathlib.Core.Path.{_≡_, _∙_}
 use lib.ListN.{length}
 use native.Mathlib.Omega.{arith}
@@ -19,8 +20,6 @@ use Rattle.answer.proofs.Answering.{end-is, by-same}
 use Rattle.answer.proofs.Silence.{used-most, silent-some, unrefused, within-area}
 use Rattle.answer.proofs.answer_loaded.Statement.{statement}
 use Rattle.answer.proofs.answer_loaded.Tie as tie
-
--- `answer::answer_loaded` meets its contract: the handles are made ready, what the search found is sent, and the areas are cleared at the end.
 
 clear-from-requires : tie.Need-clear-from-requires
 clear-from-requires c κs = let s = c .before .before .before .before .before .before .before .before .before .before .before .before .before .before .before .before .before .before .before .before .before .before in let a = s .args in within-area (a .refusal) (a .m) (length (a .handles .now)) (λ none. let t = s .pre .0 none .lent in omega (arith, t .named, t .some)) (s .pre .1)

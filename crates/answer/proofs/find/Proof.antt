@@ -1,3 +1,4 @@
+-- `answer::find` meets its contract: nothing is searched, or the search goes over the tree and the planes of the scene's triangles.
 use mathlib.Core.Path.{_≡_, sym, _∙_}
 use lib.ListN.{length, take, drop}
 use lib.Seq.{length-take-le}
@@ -15,8 +16,6 @@ use Rattle.answer.proofs.Planes.{search-lent, search-reads, search-for}
 use Rattle.answer.proofs.Silence.{silent-finds, heard-finds, silent-some}
 use Rattle.answer.proofs.find.Statement.{statement}
 use Rattle.answer.proofs.find.Tie as tie
-
--- `answer::find` meets its contract: nothing is searched, or the search goes over the tree and the planes of the scene's triangles.
 
 returns : tie.Need-returns
 returns c = let a = c .before .before .before .before .before .before .before .before .before .before .before .before .before .before .before .before .before .before .before .before .before .before .args in (record { over = λ s f l cleared same. silent-finds (a .settings) (triangles s) (s .materials) (a .source) (a .listener) (silentOf (a .separated) (a .source) (a .listener) (a .m)) (searchOrder (a .settings)) (a .room) (a .floats .now) (a .numbers .now) (_∙_ {b = c .before .silent .result} (sym (c .before .silent .ensures)) (c .if1 .taken)) }, omega arith)

@@ -1,3 +1,4 @@
+-- `answer::send` meets its contract: the refusal handed in, refusal 7, or the ranked candidates as a packet.
 use mathlib.Core.Path.{_≡_, refl, sym, ap, _∙_}
 use borrow.Author.Needs.{needs}
 use Prim.Native.Nat.{ℕ}
@@ -12,8 +13,6 @@ use Rattle.answer.specs.Answer.{answeredOf, outputOf}
 use Rattle.answer.proofs.Answering.{over-answer, given-answer, sent-answer, by-some, by-none, sends-limit}
 use Rattle.answer.proofs.send.Statement.{statement}
 use Rattle.answer.proofs.send.Tie as tie
-
--- `answer::send` meets its contract: the refusal handed in, refusal 7, or the ranked candidates as a packet.
 
 returns : tie.Need-returns
 returns c = let a = c .before .before .before .before .before .before .before .before .before .args in let f = a .found in let st = a .settings in

@@ -1,10 +1,9 @@
+-- `booth::ask` meets its contract: each part is within its area.
 use native.Mathlib.Omega.{arith}
 use mathlib.Core.Path.{sym}
 use lib.Seq.{length-take-le}
 use Rattle.booth.proofs.ask.Statement.{statement}
 use Rattle.booth.proofs.ask.Tie as tie
-
--- `booth::ask` meets its contract: each part is within its area.
 
 mul-rows : tie.Need-mul-rows
 mul-rows c = omega (arith, c .limited .ensures)

@@ -1,8 +1,7 @@
+-- `booth::name_walls` meets its contract: each area has its length, and the planes have room in theirs.
 use mathlib.Core.Path.{sym, _∙_}
 use Rattle.booth.proofs.name_walls.Statement.{statement}
 use Rattle.booth.proofs.name_walls.Tie as tie
-
--- `booth::name_walls` meets its contract: each area has its length, and the planes have room in theirs.
 
 slice-aggregate-planes-of : tie.Need-slice-aggregate-planes-of
 slice-aggregate-planes-of c = sym (c .before .before .before .before .before .before .before .before .before .before .before .before .before .before .before .before .before .before .before .before .before .before .fresh-triangles .ensures)

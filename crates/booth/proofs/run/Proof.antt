@@ -1,10 +1,9 @@
+-- `booth::run` meets its contract: each area has the length that it was made with.
 use borrow.Author.Needs.{needs}
 use native.Mathlib.Omega.{arith}
 use mathlib.Core.Path.{sym, _∙_}
 use Rattle.booth.proofs.run.Statement.{statement}
 use Rattle.booth.proofs.run.Tie as tie
-
--- `booth::run` meets its contract: each area has the length that it was made with.
 
 slice-aggregate-read-case : tie.Need-slice-aggregate-read-case
 slice-aggregate-read-case c = sym (c .before .before .before .before .before .before .before .before .before .before .before .fresh-case-words .ensures)

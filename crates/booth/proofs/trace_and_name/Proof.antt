@@ -1,8 +1,7 @@
+-- `booth::trace_and_name` meets its contract: each area keeps its length.
 use lib.ListN.{length}
 use Rattle.booth.proofs.trace_and_name.Statement.{statement}
 use Rattle.booth.proofs.trace_and_name.Tie as tie
-
--- `booth::trace_and_name` meets its contract: each area keeps its length.
 
 same-length : tie.Need-same-length
 same-length c = c .before .before .before .before .trace .kept .0

@@ -1,3 +1,4 @@
+-- `bounces::fate_back` meets its contract: the fate from here on is that of the whole way.
 use mathlib.Core.Path.{_≡_, refl, sym, ap, _∙_}
 use mathlib.Core.List.{[]}
 use Prim.Native.Nat.{ℕ, _+_, _-_, _*_, _≤_, _<_}
@@ -14,8 +15,6 @@ use Rattle.bounces.specs.declared.Turn.the-variants.{NotCrossed, OffSurf
 use Rattle.bounces.proofs.Laws.{fate-none, fate-next}
 use Rattle.bounces.proofs.fate_back.Statement.{statement}
 use Rattle.bounces.proofs.fate_back.Tie as tie
-
--- `bounces::fate_back` meets its contract: the fate from here on is that of the whole way.
 
 abbrev Inv-loop : tie.InvT-loop
 Inv-loop columns n floats words members edges count seq images order prev₀ k₀ prev k =

@@ -1,3 +1,4 @@
+-- `bounces::turn_on` meets its contract: the plane's row, its crossing and its spot.
 use mathlib.Core.Path.{_≡_, sym, _∙_}
 use native.Mathlib.Omega.{arith}
 use borrow.Author.Needs.{needs}
@@ -8,8 +9,6 @@ use Rattle.bounces.specs.Bounces.{bounceOf}
 use Rattle.bounces.proofs.Laws.{plane-row}
 use Rattle.bounces.proofs.turn_on.Statement.{statement}
 use Rattle.bounces.proofs.turn_on.Tie as tie
-
--- `bounces::turn_on` meets its contract: the plane's row, its crossing and its spot.
 
 plane-at-requires : tie.Need-plane-at-requires
 plane-at-requires c κs = (omega (arith, c .before .before .before .before .before .pre .0 .held .floats-room, c .before .before .before .before .before .pre .1), omega (arith, c .before .before .before .before .before .pre .0 .held .words-room, c .before .before .before .before .before .pre .1))

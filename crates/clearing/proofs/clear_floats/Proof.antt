@@ -1,3 +1,4 @@
+-- `clearing::clear_floats` meets its contract: each of the three areas by that of `wipe_f32` (`zero-of`).
 use native.Mathlib.Omega.{arith}
 use borrow.Author.Needs.{needs}
 use lib.ListN.{length}
@@ -5,8 +6,6 @@ use Rattle.clearing.proofs.Zero.{zero-of}
 use Rattle.float.specs.Literals.{zero32}
 use Rattle.clearing.proofs.clear_floats.Statement.{statement}
 use Rattle.clearing.proofs.clear_floats.Tie as tie
-
--- `clearing::clear_floats` meets its contract.
 
 returns : tie.Need-returns
 returns c = (zero-of zero32 (length (c .before .before .before .before .before .before .before .before .before .before .before .before .before .before .before .args .a .now)) _ (c .before .before .before .before .before .before .before .before .before .before .wipe-f32 .ensures), zero-of zero32 (length (c .before .before .before .before .before .before .before .before .before .before .before .before .before .before .before .args .b .now)) _ (c .before .before .before .before .before .before .wipe-f322 .ensures), zero-of zero32 (length (c .before .before .before .before .before .before .before .before .before .before .before .before .before .before .before .args .c .now)) _ (c .before .before .wipe-f323 .ensures))

@@ -1,3 +1,4 @@
+-- `clearing::clear_keys` meets its contract: each of the four areas by that of `wipe_u64` (`zero-of`).
 use native.Mathlib.Omega.{arith}
 use borrow.Author.Needs.{needs}
 use lib.ListN.{length}
@@ -5,8 +6,6 @@ use Rattle.clearing.proofs.Zero.{zero-of}
 use Rattle.float.specs.Literals.{zero32}
 use Rattle.clearing.proofs.clear_keys.Statement.{statement}
 use Rattle.clearing.proofs.clear_keys.Tie as tie
-
--- `clearing::clear_keys` meets its contract.
 
 returns : tie.Need-returns
 returns c = (zero-of 0 (length (c .before .before .before .before .before .before .before .before .before .before .before .before .before .before .before .before .before .before .before .before .args .keys .now)) _ (c .before .before .before .before .before .before .before .before .before .before .before .before .before .before .wipe-u64 .ensures), zero-of 0 (length (c .before .before .before .before .before .before .before .before .before .before .before .before .before .before .before .before .before .before .before .before .args .low-keys .now)) _ (c .before .before .before .before .before .before .before .before .before .before .wipe-u642 .ensures), zero-of 0 (length (c .before .before .before .before .before .before .before .before .before .before .before .before .before .before .before .before .before .before .before .before .args .words .now)) _ (c .before .before .before .before .before .before .wipe-u643 .ensures), zero-of 0 (length (c .before .before .before .before .before .before .before .before .before .before .before .before .before .before .before .before .before .before .before .before .args .scratch .now)) _ (c .before .before .wipe-u644 .ensures))

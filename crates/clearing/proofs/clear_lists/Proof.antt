@@ -1,11 +1,10 @@
+-- `clearing::clear_lists` meets its contract: each of the five areas by that of `wipe_u32` (`zero-of`).
 use native.Mathlib.Omega.{arith}
 use borrow.Author.Needs.{needs}
 use lib.ListN.{length}
 use Rattle.clearing.proofs.Zero.{zero-of}
 use Rattle.clearing.proofs.clear_lists.Statement.{statement}
 use Rattle.clearing.proofs.clear_lists.Tie as tie
-
--- `clearing::clear_lists` meets its contract.
 
 returns : tie.Need-returns
 returns c = (zero-of 0 (length (c .before .before .before .before .before .before .before .before .before .before .before .before .before .before .before .before .before .before .before .before .before .before .before .before .before .args .a .now)) _ (c .before .before .before .before .before .before .before .before .before .before .before .before .before .before .before .before .before .before .wipe-u32 .ensures), zero-of 0 (length (c .before .before .before .before .before .before .before .before .before .before .before .before .before .before .before .before .before .before .before .before .before .before .before .before .before .args .b .now)) _ (c .before .before .before .before .before .before .before .before .before .before .before .before .before .before .wipe-u322 .ensures), zero-of 0 (length (c .before .before .before .before .before .before .before .before .before .before .before .before .before .before .before .before .before .before .before .before .before .before .before .before .before .args .c .now)) _ (c .before .before .before .before .before .before .before .before .before .before .wipe-u323 .ensures), zero-of 0 (length (c .before .before .before .before .before .before .before .before .before .before .before .before .before .before .before .before .before .before .before .before .before .before .before .before .before .args .d .now)) _ (c .before .before .before .before .before .before .wipe-u324 .ensures), zero-of 0 (length (c .before .before .before .before .before .before .before .before .before .before .before .before .before .before .before .before .before .before .before .before .before .before .before .before .before .args .e .now)) _ (c .before .before .wipe-u325 .ensures))

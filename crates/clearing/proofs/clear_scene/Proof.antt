@@ -1,3 +1,4 @@
+-- `clearing::clear_scene` meets its contract: area by area, by those of `wipe_f32` and `wipe_u32` (`zero-of`).
 use native.Mathlib.Omega.{arith}
 use borrow.Author.Needs.{needs}
 use lib.ListN.{length}
@@ -5,8 +6,6 @@ use Rattle.clearing.proofs.Zero.{zero-of}
 use Rattle.float.specs.Literals.{zero32}
 use Rattle.clearing.proofs.clear_scene.Statement.{statement}
 use Rattle.clearing.proofs.clear_scene.Tie as tie
-
--- `clearing::clear_scene` meets its contract.
 
 returns : tie.Need-returns
 returns c = record {

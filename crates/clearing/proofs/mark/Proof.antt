@@ -1,3 +1,4 @@
+-- `clearing::mark` meets its contract: a NaN gives no 0, and the chain ends at -0 only where all eight are +0 (`eight-zero`).
 use mathlib.Core.Path.{_≡_, sym, subst}
 use native.Mathlib.Omega.{arith}
 use lib.Dec.{T}
@@ -8,8 +9,6 @@ use Rattle.clearing.proofs.Wiping.{bits-zero}
 use Rattle.clearing.proofs.MinusZero.{eight-zero, neg-number}
 use Rattle.clearing.proofs.mark.Statement.{statement}
 use Rattle.clearing.proofs.mark.Tie as tie
-
--- `clearing::mark` meets its contract.
 
 returns : tie.Need-returns
 returns c = λ e. absurd (let n : ⊥ = omega (arith, e) in n)

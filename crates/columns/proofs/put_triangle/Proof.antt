@@ -1,3 +1,4 @@
+-- `columns::put_triangle` meets its contract: part by part, by the law of proofs/Storing.antt.
 use Prim.Native.Nat.{ℕ, _+_, _*_, _≤_}
 use mathlib.Core.Path.{_≡_, refl, sym, ap, _∙_}
 use native.Mathlib.Omega.{arith}
@@ -10,8 +11,6 @@ use Rattle.columns.specs.Columns.{dotsRowOf, putColumns}
 use Rattle.columns.proofs.Storing.{parts-stored}
 use Rattle.columns.proofs.put_triangle.Statement.{statement}
 use Rattle.columns.proofs.put_triangle.Tie as tie
-
--- `columns::put_triangle` meets its contract: part by part, by the law of proofs/Storing.antt.
 
 put-vec-requires : tie.Need-put-vec-requires
 put-vec-requires c κs = let a = c .before .before .pre .0 in let b = c .before .before .pre .1 in let d = c .before .before .pre .2 in (omega arith, omega arith, omega arith)

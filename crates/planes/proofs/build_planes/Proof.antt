@@ -1,3 +1,4 @@
+-- `planes::build_planes` meets its contract: each step works on what the one before it left.
 use lib.ListN.{length}
 use mathlib.Core.Path.{_≡_, refl, sym, ap, _∙_}
 use mathlib.Core.List.{List, map}
@@ -13,8 +14,6 @@ use Rattle.planes.specs.Build.{planeSettings, groupPlanesOf, planesOf}
 use Rattle.planes.proofs.Rooms.{still, still-below, under, three-of, third-of, fifth-of, twelfth-of, rows-of, fewer-rows, seated, seated-below}
 use Rattle.planes.proofs.build_planes.Statement.{statement}
 use Rattle.planes.proofs.build_planes.Tie as tie
-
--- `planes::build_planes` meets its contract: each step works on what the one before it left.
 
 slice-aggregate-open-patches : tie.Need-slice-aggregate-open-patches
 slice-aggregate-open-patches c = sym (c .before .before .before .before .before .before .before .before .before .fresh .ensures)

@@ -1,3 +1,4 @@
+-- `planes::group_planes` meets its contract: the groups of step 4, and a plane for each.
 use lib.ListN.{length}
 use mathlib.Core.Path.{_≡_, refl, sym, ap, _∙_}
 use mathlib.Core.List.{map}
@@ -14,8 +15,6 @@ use Rattle.planes.specs.Build.{groupPlanesOf}
 use Rattle.planes.proofs.Steps.{mergeSettings, numbered-fewer, vertex-numbers}
 use Rattle.planes.proofs.group_planes.Statement.{statement}
 use Rattle.planes.proofs.group_planes.Tie as tie
-
--- `planes::group_planes` meets its contract: the groups of step 4, and a plane for each.
 
 mul-merge-patches : tie.Need-mul-merge-patches
 mul-merge-patches c = omega (arith, c .before .before .before .before .before .before .before .before .before .before .before .before .before .before .before .before .before .pre .0 .few)

@@ -1,3 +1,4 @@
+-- `planes::open_patches` meets its contract: the steps in turn.
 use lib.ListN.{length}
 use mathlib.Core.Path.{_≡_, sym, ap, _∙_}
 use native.Mathlib.Nat.{le-trans}
@@ -9,8 +10,6 @@ use Rattle.planes_buried.specs.Buried.{openOf}
 use Rattle.planes.specs.Build.{openPatchesOf}
 use Rattle.planes.proofs.open_patches.Statement.{statement}
 use Rattle.planes.proofs.open_patches.Tie as tie
-
--- `planes::open_patches` meets its contract: the steps in turn.
 
 mul-duplicates : tie.Need-mul-duplicates
 mul-duplicates c = omega (arith, c .before .before .before .before .before .before .before .before .before .before .before .before .before .before .before .before .before .before .pre .0 .few)

@@ -1,4 +1,4 @@
--- `planes_buried::beside` meets its contract.
+-- `planes_buried::beside` meets its contract: by computation.
 use mathlib.Core.Path.{refl}
 use Rattle.vector.specs.Vector.{add3Of, scale3Of}
 use Rattle.planes_buried.proofs.beside.Statement.{statement}

@@ -1,4 +1,4 @@
--- `planes_buried::signed` meets its contract.
+-- `planes_buried::signed` meets its contract: by computation.
 use mathlib.Core.Path.{refl}
 use Rattle.planes_buried.specs.Buried.{signedOf}
 use Rattle.planes_buried.proofs.signed.Statement.{statement}

@@ -1,3 +1,4 @@
+-- `planes_fit::add_height` meets its contract: by those of `triangle_area`, `centroid` and `dot3`.
 use Rattle.planes_fit.specs.Fit.{heightsOf}
 use Rattle.planes_fit.proofs.add_height.Statement.{statement}
 use Rattle.planes_fit.proofs.add_height.Tie as tie

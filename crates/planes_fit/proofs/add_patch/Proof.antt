@@ -1,3 +1,4 @@
+-- `planes_fit::add_patch` meets its contract: by those of `side` and `union`; the sums are those of the definition.
 use Rattle.planes_fit.specs.Rows.{summedOf}
 use Rattle.planes_fit.specs.Fit.{weightedOf}
 use Rattle.vector.specs.Vector.{add3Of}

@@ -1,3 +1,4 @@
+-- `planes_fit::alone` meets its contract: its row is that of the definition, by computation.
 use Rattle.planes_fit.specs.Rows.{aloneRowOf}
 use mathlib.Core.Path.{refl}
 use Rattle.planes_fit.proofs.alone.Statement.{statement}

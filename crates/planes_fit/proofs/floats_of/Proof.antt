@@ -1,4 +1,4 @@
--- `planes_fit::floats_of` meets its contract.
+-- `planes_fit::floats_of` meets its contract: by computation.
 use mathlib.Core.Path.{refl}
 use Rattle.planes_fit.proofs.floats_of.Statement.{statement}
 use Rattle.planes_fit.proofs.floats_of.Tie as tie

@@ -1,3 +1,4 @@
+-- `planes_fit::reach` meets its contract: corner by corner, by the contracts of `dot3`, `abs` and `max`.
 use Rattle.planes_fit.specs.Fit.{reachOf}
 use Rattle.planes_patches.specs.Triangles.{cornersOf}
 use Rattle.planes_fit.proofs.reach.Statement.{statement}

@@ -1,3 +1,4 @@
+-- `planes_fit::side` meets its contract: by that of `dot3`, and its test.
 use Rattle.planes_fit.specs.Fit.{sideOf}
 use Rattle.planes_fit.proofs.side.Statement.{statement}
 use Rattle.planes_fit.proofs.side.Tie as tie

@@ -1,4 +1,4 @@
--- `planes_fit::words_of` meets its contract.
+-- `planes_fit::words_of` meets its contract: by that of `flag`; a small row loses nothing in 32 bits.
 use native.Mathlib.Omega.{arith}
 use Rattle.planes_fit.proofs.words_of.Statement.{statement}
 use Rattle.planes_fit.proofs.words_of.Tie as tie

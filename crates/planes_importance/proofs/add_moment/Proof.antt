@@ -1,3 +1,4 @@
+-- `planes_importance::add_moment` meets its contract: by those of `triangle_area` and `centroid`.
 use Rattle.vector.specs.Vector.{add3Of}
 use Rattle.planes_importance.specs.Importance.{momentOf}
 use Rattle.planes_importance.proofs.add_moment.Statement.{statement}

@@ -1,3 +1,4 @@
+-- `planes_importance::centre` meets its contract: by computation.
 use Rattle.vector.specs.Vector.{scale3Of, add3Of}
 use Rattle.planes_importance.specs.Importance.{centreOf}
 use mathlib.Core.Path.{refl}

@@ -1,3 +1,4 @@
+-- `planes_importance::grow` meets its contract: each coordinate by the contract of `min` or `max`.
 use Rattle.geometry.specs.Aabb.{growOf, lowOf, highOf}
 use Rattle.planes_importance.proofs.grow.Statement.{statement}
 use Rattle.planes_importance.proofs.grow.Tie as tie

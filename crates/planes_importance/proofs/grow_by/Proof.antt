@@ -1,3 +1,4 @@
+-- `planes_importance::grow_by` meets its contract: by that of `grow` at each of the three corners.
 use Rattle.planes_patches.specs.Triangles.{cornersOf}
 use Rattle.planes_importance.specs.Importance.{grownByOf}
 use Rattle.planes_importance.proofs.grow_by.Statement.{statement}

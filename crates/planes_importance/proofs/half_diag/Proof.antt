@@ -1,3 +1,4 @@
+-- `planes_importance::half_diag` meets its contract: by those of `distance3` and `max`.
 use Rattle.planes_importance.specs.Importance.{halfDiagOf}
 use Rattle.planes_importance.proofs.half_diag.Statement.{statement}
 use Rattle.planes_importance.proofs.half_diag.Tie as tie

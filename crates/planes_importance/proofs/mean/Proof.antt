@@ -1,3 +1,4 @@
+-- `planes_importance::mean` meets its contract: by that of `max`; the quotients are those of the definition.
 use Rattle.planes_importance.specs.Importance.{meanOf}
 use Rattle.planes_importance.proofs.mean.Statement.{statement}
 use Rattle.planes_importance.proofs.mean.Tie as tie

@@ -1,4 +1,4 @@
--- `planes_patches::below` meets its contract.
+-- `planes_patches::below` meets its contract: by its test, and arithmetic.
 use native.Mathlib.Omega.{arith}
 use Rattle.planes_patches.proofs.below.Statement.{statement}
 use Rattle.planes_patches.proofs.below.Tie as tie

@@ -1,4 +1,4 @@
--- `planes_patches::bucket` meets its contract.
+-- `planes_patches::bucket` meets its contract: three digits below 16, by computation and arithmetic.
 use mathlib.Core.Path.{refl}
 use native.Mathlib.Omega.{arith}
 use borrow.Author.Needs.{needs}

@@ -1,4 +1,4 @@
--- `planes::canonical` meets its contract, by its test.
+-- `planes_patches::canonical` meets its contract, by its test.
 use Rattle.planes_patches.specs.Normal.{canonicalOf, neg3Of}
 use Rattle.planes_patches.proofs.canonical.Statement.{statement}
 use Rattle.planes_patches.proofs.canonical.Tie as tie

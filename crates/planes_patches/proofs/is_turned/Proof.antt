@@ -1,4 +1,4 @@
--- `planes::is_turned` meets its contract: its call and its test are those of the definition.
+-- `planes_patches::is_turned` meets its contract: its call and its test are those of the definition.
 use Rattle.planes_patches.specs.Normal.{isTurned}
 use Rattle.planes_patches.proofs.is_turned.Statement.{statement}
 use Rattle.planes_patches.proofs.is_turned.Tie as tie

@@ -1,4 +1,4 @@
--- `planes::larger_part` meets its contract, by its test.
+-- `planes_patches::larger_part` meets its contract, by its test.
 use Rattle.planes_patches.specs.Normal.{largerPartOf}
 use Rattle.planes_patches.proofs.larger_part.Statement.{statement}
 use Rattle.planes_patches.proofs.larger_part.Tie as tie

@@ -1,4 +1,4 @@
--- `planes::largest_part` meets its contract: its calls are those of the definition.
+-- `planes_patches::largest_part` meets its contract: its calls are those of the definition.
 use Rattle.planes_patches.specs.Normal.{largestPartOf}
 use Rattle.planes_patches.proofs.largest_part.Statement.{statement}
 use Rattle.planes_patches.proofs.largest_part.Tie as tie

@@ -1,4 +1,4 @@
--- `planes::offset_of` meets its contract, by its test.
+-- `planes_patches::offset_of` meets its contract, by its test.
 use Rattle.planes_patches.specs.Normal.{offsetOf}
 use Rattle.planes_patches.proofs.offset_of.Statement.{statement}
 use Rattle.planes_patches.proofs.offset_of.Tie as tie

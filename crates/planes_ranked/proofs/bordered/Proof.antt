@@ -1,3 +1,4 @@
+-- `planes_ranked::bordered` meets its contract: by the contract of `put_border`.
 use mathlib.Core.Path.{_≡_, refl, sym, ap, _∙_}
 use Prim.Native.Nat.{ℕ, _+_, _-_, _*_, _≤_}
 use native.Mathlib.Omega.{arith}
@@ -9,8 +10,6 @@ use Rattle.planes_ranked.proofs.bordered.Statement.{statement}
 use Rattle.planes_ranked.proofs.bordered.Tie as tie
 use Rattle.planes_ranked.proofs.bordered.Statement.{statement}
 use Rattle.planes_ranked.proofs.bordered.Tie as tie
-
--- `planes_ranked::bordered` meets its contract: by the contract of `put_border`.
 
 add-to : tie.Need-add-to
 add-to c = omega (arith, c .before .before .before .before .before .before .pre .1 .0 .0, c .before .before .before .before .before .before .good)

@@ -1,3 +1,4 @@
+-- `planes_ranked::count_edges` meets its contract: parts of the areas are lent, and read back as they were left.
 use mathlib.Core.Path.{_≡_, sym, ap, _∙_}
 use Prim.Native.Nat.{_*_}
 use native.Mathlib.Omega.{arith}
@@ -7,8 +8,6 @@ use lib.Seq.{length-take-le, length-front, take-at}
 use borrow.Author.Needs.{needs}
 use Rattle.planes_ranked.proofs.count_edges.Statement.{statement}
 use Rattle.planes_ranked.proofs.count_edges.Tie as tie
-
--- `planes_ranked::count_edges` meets its contract: parts of the areas are lent, and read back as they were left.
 
 mul-edge-numbers : tie.Need-mul-edge-numbers
 mul-edge-numbers c = omega (arith, c .before .before .before .before .before .before .before .before .before .before .pre .0 .0)

@@ -1,3 +1,4 @@
+-- `planes_ranked::put_ranked` meets its contract: the planes so far stand in their rows.
 use mathlib.Core.Path.{_≡_, refl, sym, ap, _∙_}
 use Prim.Native.Nat.{ℕ, _+_, _-_, _*_, _<_, _≤_}
 use native.Mathlib.Nat.{not-suc-le-zero}
@@ -12,8 +13,6 @@ use Rattle.planes_ranked.proofs.put_ranked.Statement.{statement}
 use Rattle.planes_ranked.proofs.put_ranked.Tie as tie
 use Rattle.planes_ranked.proofs.put_ranked.Statement.{statement}
 use Rattle.planes_ranked.proofs.put_ranked.Tie as tie
-
--- `planes_ranked::put_ranked` meets its contract: the planes so far stand in their rows.
 
 abbrev Inv-loop : tie.InvT-loop
 Inv-loop area n m gfloats gwords members index count first uses floats₀ words₀ edges₀ at₀ r₀ floats words edges at r =

@@ -1,3 +1,4 @@
+-- `planes_ranked::ranked_planes` meets its contract: ranking, edges counted, the best planes stored.
 use mathlib.Core.Path.{_≡_, sym, ap, _∙_}
 use mathlib.Core.List.{_++_}
 use Prim.Native.Nat.{_*_}
@@ -9,8 +10,6 @@ use Rattle.order.proofs.Laws.{below-take}
 use Rattle.planes_ranked.proofs.Ranked.{counts-all, ranking-below, stored-is, order-is, cut-is}
 use Rattle.planes_ranked.proofs.ranked_planes.Statement.{statement}
 use Rattle.planes_ranked.proofs.ranked_planes.Tie as tie
-
--- `planes_ranked::ranked_planes` meets its contract: ranking, edges counted, the best planes stored.
 
 slice-relend-prefix-rank-planes : tie.Need-slice-relend-prefix-rank-planes
 slice-relend-prefix-rank-planes c = omega (arith, c .before .before .before .before .before .before .before .before .before .before .before .before .before .before .before .before .before .before .pre .1 .0 .few, c .before .before .before .before .before .before .before .before .before .before .before .before .before .before .before .before .before .before .pre .0 .some, c .before .before .before .before .before .before .before .before .before .before .before .before .before .before .before .before .before .before .pre .1 .1 .0 .keys-room)

@@ -1,3 +1,4 @@
+-- `query::trace_early_reflections` meets its contract: what loading answers decides, and each way ends as the definition says.
 use mathlib.Core.Path.{_≡_, refl, sym, ap, subst, _∙_}
 use mathlib.Core.Bool.{true, false}
 use mathlib.Core.List.{List, [], _∷_}
@@ -20,8 +21,6 @@ use Rattle.query.proofs.Zero.{all-zero}
 use Rattle.query.proofs.Call.{front-refusal, fronted, none-kept, within, left-found, early-some, early-less, scene-found, work-cleared, refused-answers, loaded-answers, traced}
 use Rattle.query.proofs.trace_early_reflections.Statement.{statement}
 use Rattle.query.proofs.trace_early_reflections.Tie as tie
-
--- `query::trace_early_reflections` meets its contract: what loading answers decides, and each way ends as the definition says.
 
 load-scene-requires : tie.Need-load-scene-requires
 load-scene-requires c κs = (omega arith, omega arith)

@@ -1,4 +1,4 @@
--- `scene_bvh` meets its contract: `lent` for what the build asks, `returned` for what the areas then read as.
+-- `scene_bvh::scene_bvh` meets its contract: `lent` for what the build asks, `returned` for what the areas then read as.
 use mathlib.Core.Path.{sym}
 use native.Mathlib.Omega.{arith}
 use lib.Seq.{length-take-le, length-front}

@@ -1,3 +1,4 @@
+-- `scene_planes::build_scene` meets its contract: the tree that stands is that of the scene's triangles, and the planes are built over it.
 use mathlib.Core.Path.{sym, _∙_}
 use lib.ListN.{length, take, drop}
 use lib.Seq.{length-take-le}
@@ -9,8 +10,6 @@ use Rattle.scene_bvh.proofs.Asked.{scene-tree-from-zero}
 use Rattle.scene_planes.proofs.Planes.{planes-are}
 use Rattle.scene_planes.proofs.build_scene.Statement.{statement}
 use Rattle.scene_planes.proofs.build_scene.Tie as tie
-
--- `scene_planes::build_scene` meets its contract: the tree that stands is that of the scene's triangles, and the planes are built over it.
 
 scene-bvh-requires : tie.Need-scene-bvh-requires
 scene-bvh-requires c κs = let h = c .before .before .before .before .before .before .before .before .before .before .before .before .before .before .before .before .before .before .before .before .before .before .before .before .before .before .before .before .pre in let t = h .lent in let q = h .for-tree in let p = h .for-planes in

@@ -1,9 +1,8 @@
+-- `search::all_points` meets its contract: nine points, one after the other.
 use native.Mathlib.Omega.{arith}
 use Rattle.search.proofs.Points.{nine-at}
 use Rattle.search.proofs.all_points.Statement.{statement}
 use Rattle.search.proofs.all_points.Tie as tie
-
--- `search::all_points` meets its contract: nine points, one after the other.
 
 vec-in-requires : tie.Need-vec-in-requires
 vec-in-requires c κs = omega (arith, c .before .pre)

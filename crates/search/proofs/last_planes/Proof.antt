@@ -1,3 +1,4 @@
+-- `search::last_planes` meets its contract: the planes up to the next near one were run over, then that one is (`proofs/Walks.antt`).
 use Prim.Native.Nat.{_+_, _-_, _≤_, _<_}
 use mathlib.Core.Path.{_≡_, refl, sym, _∙_}
 use native.Mathlib.Omega.{arith}
@@ -7,9 +8,6 @@ use Rattle.search.specs.Contract.{SearchAreas, searchAreas, state, first
 use Rattle.search.proofs.Walks as law
 use Rattle.search.proofs.last_planes.Statement.{statement}
 use Rattle.search.proofs.last_planes.Tie as tie
-
--- `search::last_planes` meets its contract, by the laws of `proofs/Walks.antt`: the planes up to the next near one were run over, then
--- that one is.
 
 abbrev Inv-loop : tie.InvT-loop
 Inv-loop padded nodes perm rows handles materials columns floats words members edges q depth seq₀ images₀ fs₀ ws₀ s₀ p₀ seq images fs ws s p =

@@ -1,3 +1,4 @@
+-- `search::next_near` meets its contract: each turn runs over one plane more, by the laws of `proofs/Walks.antt`.
 use borrow.Author.Needs.{needs}
 use Prim.Native.Nat.{ℕ, _-_, _≤_}
 use mathlib.Core.Path.{_≡_, sym, ap, _∙_}
@@ -13,8 +14,6 @@ use Rattle.search.specs.Contract.{searchAreas, squareOf, Skips}
 use Rattle.search.proofs.Walks as law
 use Rattle.search.proofs.next_near.Statement.{statement}
 use Rattle.search.proofs.next_near.Tie as tie
-
--- `search::next_near` meets its contract: each turn runs over one plane more, by the laws of `proofs/Walks.antt`.
 
 abbrev Inv-loop : tie.InvT-loop
 Inv-loop floats words q seq images depth from image s₀ p₀ s p =

@@ -1,3 +1,4 @@
+-- `search::search_images` meets its contract: with no planes at once, else by the end of the recursion.
 use borrow.Author.Needs.{needs}
 use mathlib.Core.Path.{refl}
 use mathlib.Core.List.{[], _∷_}
@@ -11,8 +12,6 @@ use Rattle.search.specs.Contract.{State, searchAreas, state}
 use Rattle.search.proofs.Ends.{Fresh, searched-none, sound-fresh, searched-all}
 use Rattle.search.proofs.search_images.Statement.{statement}
 use Rattle.search.proofs.search_images.Tie as tie
-
--- `search::search_images` meets its contract: with no planes at once, else by the end of the recursion.
 
 returns : tie.Need-returns
 returns c = let a = c .before .before .before .before .before .before .before .before .before .before .before .before .before .before .args in

@@ -1,10 +1,9 @@
+-- `search::visit` meets its contract: a path whose bounces are not all made fails with no ray traced.
 use native.Mathlib.Omega.{arith}
 use Rattle.search.specs.Contract.{searchAreas}
 use Rattle.search.proofs.Walks as law
 use Rattle.search.proofs.visit.Statement.{statement}
 use Rattle.search.proofs.visit.Tie as tie
-
--- `search::visit` meets its contract: a path whose bounces are not all made fails with no ray traced.
 
 made-requires : tie.Need-made-requires
 made-requires c κs = let pre = c .before .before .before .before .before .before .before .before .before .before .before .before .before .before .before .pre in

@@ -1,3 +1,4 @@
+-- `stages::biv_bounces` meets its contract: by that of `bounces::back`, on the course of the sequence.
 use Prim.Native.Nat.{ℕ}
 use mathlib.Core.Path.{_≡_, ap, _∙_}
 use mathlib.Core.List.{[]}
@@ -14,8 +15,6 @@ use Rattle.paths.proofs.Laws.{path-bounces}
 use Rattle.stages.proofs.Courses.{whole, planes-below, bounced-trail}
 use Rattle.stages.proofs.biv_bounces.Statement.{statement}
 use Rattle.stages.proofs.biv_bounces.Tie as tie
-
--- `exports::biv_bounces` meets its contract: by that of `bounces::back`, on the course of the sequence.
 
 point-from-requires : tie.Need-point-from-requires
 point-from-requires c κs = c .before .before .before .before .before .before .before .before .before .pre .1 .1 .1 .0

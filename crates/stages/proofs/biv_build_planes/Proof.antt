@@ -1,8 +1,7 @@
+-- `stages::biv_build_planes` meets its contract: by that of `build_planes`, with settings read from slices.
 use borrow.Author.Needs.{needs}
 use Rattle.stages.proofs.biv_build_planes.Statement.{statement}
 use Rattle.stages.proofs.biv_build_planes.Tie as tie
-
--- `exports::biv_build_planes` meets its contract: by that of `build_planes`, with settings read from slices.
 
 settings-from-requires : tie.Need-settings-from-requires
 settings-from-requires c κs = c .before .before .before .before .before .before .before .before .before .before .before .before .before .before .before .before .before .before .before .before .before .before .pre .1 .0

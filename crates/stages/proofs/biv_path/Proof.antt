@@ -1,4 +1,4 @@
--- `exports::biv_path` meets its contract: by that of `validate_image_path`, on the course of the sequence.
+-- `stages::biv_path` meets its contract: by that of `validate_image_path`, on the course of the sequence.
 use native.Mathlib.Omega.{arith}
 use borrow.Author.Needs.{needs}
 use Rattle.stages.proofs.Courses.{whole, planes-below, crossings-within, walked-passed, walked-not}

@@ -1,3 +1,4 @@
+-- `stages::biv_search_images` meets its contract: by that of `search_images`, with settings and positions read from slices.
 use mathlib.Core.Path.{_≡_, refl, sym, _∙_}
 use native.Mathlib.Omega.{arith}
 use borrow.Author.Needs.{needs}
@@ -6,8 +7,6 @@ use Rattle.stages.proofs.Three.{three}
 use Rattle.stages.proofs.Courses.{crossings-within}
 use Rattle.stages.proofs.biv_search_images.Statement.{statement}
 use Rattle.stages.proofs.biv_search_images.Tie as tie
-
--- `exports::biv_search_images` meets its contract: by that of `search_images`, with settings and positions read from slices.
 
 settings-from-requires : tie.Need-settings-from-requires
 settings-from-requires c κs = let p = c .before .before .before .before .before .before .before .before .before .before .before .before .before .before .before .before .before .before .pre .1 .0 in (p .0, p .1)

@@ -1,4 +1,4 @@
--- `exports::course_of` meets its contract: the first k planes are there, and the images of their beginnings.
+-- `stages::course_of` meets its contract: the first k planes are there, and the images of their beginnings.
 use mathlib.Core.Path.{_≡_, refl}
 use Prim.Native.Nat.{_-_, _≤_}
 use native.Mathlib.Omega.{arith}

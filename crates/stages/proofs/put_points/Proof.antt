@@ -1,3 +1,4 @@
+-- `stages::put_points` meets its contract: the points before k stand in their places.
 use Prim.Native.Nat.{ℕ, _+_, _-_, _*_, _≤_, _<_}
 use mathlib.Core.Path.{_≡_, refl, _∙_}
 use native.Mathlib.Omega.{arith}
@@ -8,8 +9,6 @@ use Rattle.bounces.specs.Areas.{maxOrder, pointIn}
 use Rattle.stages.proofs.Courses.{points-more}
 use Rattle.stages.proofs.put_points.Statement.{statement}
 use Rattle.stages.proofs.put_points.Tie as tie
-
--- `exports::put_points` meets its contract: the points before k stand in their places.
 
 abbrev Inv-loop : tie.InvT-loop
 Inv-loop points₀ all k₀ points k =

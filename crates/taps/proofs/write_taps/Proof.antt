@@ -1,3 +1,4 @@
+-- `taps::write_taps` meets its contract: what is ranked is stored, and the writer takes it (`ended`).
 use borrow.Author.Needs.{needs}
 use mathlib.Core.Path.{sym, _∙_}
 use lib.ListN.{length}
@@ -5,8 +6,6 @@ use native.Mathlib.Omega.{arith}
 use Rattle.taps.proofs.Ending.{fewer, pointing, ended, exactly, within}
 use Rattle.taps.proofs.write_taps.Statement.{statement}
 use Rattle.taps.proofs.write_taps.Tie as tie
-
--- `taps::write_taps` meets its contract: what is ranked is stored, and the writer takes it (`ended`).
 
 slice-aggregate-rank-reflections : tie.Need-slice-aggregate-rank-reflections
 slice-aggregate-rank-reflections c = sym (c .before .before .before .before .before .before .fresh-positions .ensures)

@@ -1,4 +1,4 @@
--- `tree_trace::only` meets its contract.
+-- `tree_trace::only` meets its contract: by computation.
 use mathlib.Core.Path.{refl}
 use Rattle.tree_trace.specs.Trace.{onlyOf}
 use Rattle.tree_trace.proofs.only.Statement.{statement}

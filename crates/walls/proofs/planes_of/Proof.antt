@@ -1,3 +1,4 @@
+-- `walls::planes_of` meets its contract: no triangle is kept, or the scene is loaded and its planes are built.
 use mathlib.Core.Path.{refl, sym, _∙_}
 use lib.ListN.{length}
 use native.Mathlib.Omega.{arith}
@@ -14,8 +15,6 @@ use Rattle.walls.specs.Walls.{lensOf}
 use Rattle.walls.proofs.Unbuilt.{work-unbuilt}
 use Rattle.walls.proofs.planes_of.Statement.{statement}
 use Rattle.walls.proofs.planes_of.Tie as tie
-
--- `walls::planes_of` meets its contract: no triangle is kept, or the scene is loaded and its planes are built.
 
 load-scene-requires : tie.Need-load-scene-requires
 load-scene-requires c κs = (omega arith, omega arith)
