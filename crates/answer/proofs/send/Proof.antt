@@ -28,18 +28,24 @@ returns-2 c = let a = c .before .before .before .before .before .before .before 
     record { answer = c .refused2 .ensures ∙ ap answeredOf e; output = ap (λ (q : Query). outputOf q (a .out .now)) e }
 
 write-taps-requires : tie.Need-write-taps-requires
-write-taps-requires c κs = let a = c .before .before .before .before .before .before .before .before .before .before .before .before .before .before .before .before .args in let f = a .found in
-    sends-limit (f .found) (limitOf (a .settings)) (c .before .before .before .before .before .before .list-limit .result) (f .images) (a .candidate-floats .now) (a .candidate-words .now) (a .keys .now) (a .queue .now) (a .words .now) (a .scratch .now) (a .out .now) (c .before .before .before .before .before .before .list-limit .ensures) (c .before .before .before .before .before .before .before .before .before .before .before .before .before .before .before .before .pre (c .before .before .before .before .before .before .before .before .if1 .left))
+write-taps-requires c κs =
+    let b16 = c .before .before .before .before .before .before .before .before .before .before .before .before .before .before .before .before in
+    let a = b16 .args in let f = a .found in
+    sends-limit (f .found) (limitOf (a .settings)) (c .before .before .before .before .before .before .list-limit .result) (f .images) (a .candidate-floats .now) (a .candidate-words .now) (a .keys .now) (a .queue .now) (a .words .now) (a .scratch .now) (a .out .now) (c .before .before .before .before .before .before .list-limit .ensures) (b16 .pre
+    (c .before .before .before .before .before .before .before .before .if1 .left))
 
 returns-3 : tie.Need-returns-3
-returns-3 c = let a = c .before .before .before .before .before .before .before .before .before .before .before .before .before .before .before .before .before .before .before .before .before .before .before .before .before .before .before .args in let f = a .found in let st = a .settings in let limit = c .before .before .before .before .before .before .before .before .before .before .before .before .before .before .before .before .before .list-limit .result in let v = c .before .before .before .before .before .before .before .before .before .before .before .before .before .before .before .before .speed-of-sound in let t = c .before .before .before .before .before .before .before .before .before .before .write-taps in
+returns-3 c =
+    let b17 = c .before .before .before .before .before .before .before .before .before .before .before .before .before .before .before .before .before in
+    let a = c .before .before .before .before .before .before .before .before .before .before .before .before .before .before .before .before .before .before .before .before .before .before .before .before .before .before .before .args in let f = a .found in let st = a .settings in let limit = b17 .list-limit .result in let v = c .before .before .before .before .before
+    .before .before .before .before .before .before .before .before .before .before .before .speed-of-sound in let t = c .before .before .before .before .before .before .before .before .before .before .write-taps in
     let cs = candidatesIn (f .found) (a .candidate-floats .now) (a .candidate-words .now) in
     let w = claim.search (f .images) (f .rays) cs (f .over) in
     let q = ended (speedOf (st .«temperature_celsius»)) (st .«sample_rate») (limitOf st) w in
     let e =
     given-answer (v .result) (st .«sample_rate») limit (f .images) (f .rays) cs (f .over) (ended (v .result) (st .«sample_rate») limit w) (c .before .before .before .before .before .before .before .before .before .before .before .before .before .before .before .before .before .before .if2 .left) refl
     ∙ ap (λ (z : Float). ended z (st .«sample_rate») limit w) (v .ensures)
-    ∙ ap (λ (l : ℕ). ended (speedOf (st .«temperature_celsius»)) (st .«sample_rate») l w) (c .before .before .before .before .before .before .before .before .before .before .before .before .before .before .before .before .before .list-limit .ensures)
+    ∙ ap (λ (l : ℕ). ended (speedOf (st .«temperature_celsius»)) (st .«sample_rate») l w) (b17 .list-limit .ensures)
     ∙ by-none (a .refusal) q (c .before .before .before .before .before .before .before .before .before .before .before .before .before .before .before .before .before .before .before .if1 .left)
     in
     let s = sent-answer (f .images) (f .rays) (ranked (v .result) (st .«sample_rate») limit cs) (t .result .count) (t .result .bytes) (a .out .now) (t .last .1 .1 .1 .1 .1 .1 .1 .1 .1 .1 .1 .1 .0) (t .ensures .0) (t .ensures .1 .0) (t .ensures .1 .1 .0) in

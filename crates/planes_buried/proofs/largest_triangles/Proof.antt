@@ -20,14 +20,18 @@ reset-requires : tie.Need-reset-requires Inv-loop μ-loop
 reset-requires c κs = let p = c .before .before .before .before .before .before .before .pre .1 .0 in (p .1, p .2)
 
 loop-holds : tie.Need-loop-holds Inv-loop μ-loop
-loop-holds c = let a = c .before .before .before .before .before .before .before .before .before .before .before .before .args in meeting-none (trianglesIn (a .triangles .now) (a .handles .now) (a .n) (a .m)) (a .of .now) (a .m) (a .np) (c .before .before .before .before .reset .last .0) (c .before .before .before .before .reset .last .1 .0) (c .before .before .before .before .reset .last .0) (c .before .before .before .before .reset .last .1 .0) refl refl (c .before .before .before .before .reset .ensures)
+loop-holds c = let a = c .before .before .before .before .before .before .before .before .before .before .before .before .args in meeting-none (trianglesIn (a .triangles .now) (a .handles .now) (a .n) (a .m)) (a .of .now) (a .m) (a .np) (c .before .before .before .before .reset .last .0) (c .before .before .before .before .reset .last .1 .0)
+    (c .before .before .before .before .reset .last .0) (c .before .before .before .before .reset .last .1 .0) refl refl (c .before .before .before .before .reset .ensures)
 
 shared-slice-read-p : tie.Need-shared-slice-read-p Inv-loop μ-loop
 shared-slice-read-p c = let h = c .before .loop-test .taken in let p = c .before .before .before .before .before .before .before .before .before .before .before .before .before .before .before .pre .0 in omega arith
 
 meet-requires : tie.Need-meet-requires Inv-loop μ-loop
-meet-requires c κs = let p = c .before .before .before .before .before .before .before .before .before .before .before .before .before .before .before .before .before .pre .0 in let q = c .before .before .before .before .before .before .before .before .before .before .before .before .before .before .before .before .before .pre .1 .0 in let i = c .before .before .before .before .loop .inv in let h = c .before .before .before .loop-test .taken in let la = i .len-areas in let ll = i .len-largest in let ka = c .before .before .before .before .before .before .before .before .before .reset .kept .0 in let kl = c .before .before .before .before .before .before .before .before .before .reset .kept .1 .0 in
-    ((p .0, p .1, omega arith, omega arith), ((omega arith, omega arith), numbered-at (c .before .before .before .before .before .before .before .before .before .before .before .before .before .before .before .before .before .args .of .now) (c .before .before .before .before .before .before .before .before .before .before .before .before .before .before .before .before .before .args .m) (c .before .before .before .before .before .before .before .before .before .before .before .before .before .before .before .before .before .args .np) (c .before .before .before .before .loop .t) (c .before .before .before .before .before .before .before .before .before .before .before .before .before .before .before .before .before .pre .1 .1) h (p .4)))
+meet-requires c κs =
+    let b9 = c .before .before .before .before .before .before .before .before .before in
+    let b17 = b9 .before .before .before .before .before .before .before .before in
+    let p = b17 .pre .0 in let q = b17 .pre .1 .0 in let i = c .before .before .before .before .loop .inv in let h = c .before .before .before .loop-test .taken in let la = i .len-areas in let ll = i .len-largest in let ka = b9 .reset .kept .0 in let kl = b9 .reset .kept .1 .0 in
+    ((p .0, p .1, omega arith, omega arith), ((omega arith, omega arith), numbered-at (b17 .args .of .now) (b17 .args .m) (b17 .args .np) (c .before .before .before .before .loop .t) (b17 .pre .1 .1) h (p .4)))
 
 add-t : tie.Need-add-t Inv-loop μ-loop
 add-t c = let h = c .before .before .before .before .before .before .before .before .loop-test .taken in let p = c .before .before .before .before .before .before .before .before .before .before .before .before .before .before .before .before .before .before .before .before .before .before .pre .0 in omega arith
@@ -36,10 +40,15 @@ loop-less : tie.Need-loop-less Inv-loop μ-loop
 loop-less c = let h = c .before .before .before .before .before .before .before .before .loop-test .taken in omega arith
 
 loop-again : tie.Need-loop-again Inv-loop μ-loop
-loop-again c = let a = c .before .before .before .before .before .before .before .before .before .before .before .before .before .before .before .before .before .before .before .before .before .before .args in let l = c .before .before .before .before .before .before .before .before .before .loop in let ts = trianglesIn (a .triangles .now) (a .handles .now) (a .n) (a .m) in
-    let far : a .np ≤ noneOf = omega (arith, c .before .before .before .before .before .before .before .before .before .before .before .before .before .before .before .before .before .before .before .before .before .before .pre .0 .3, c .before .before .before .before .before .before .before .before .before .before .before .before .before .before .before .before .before .before .before .before .before .before .pre .1 .0 .0) in
-    meeting-more ts (a .of .now) (a .m) (a .np) (c .before .before .before .before .before .before .before .before .before .before .before .before .before .before .reset .last .0) (c .before .before .before .before .before .before .before .before .before .before .before .before .before .before .reset .last .1 .0) (l .areas) (l .largest) (l .t) (c .before .before .before .before .meet .last .1 .1 .1 .1 .1 .1 .0) (c .before .before .before .before .meet .last .1 .1 .1 .1 .1 .1 .1 .0) (l .inv) (c .before .before .before .before .before .before .before .before .loop-test .taken) (c .before .before .before .before .before .before .before .before .before .before .before .before .before .before .before .before .before .before .before .before .before .before .pre .0 .4) (c .before .before .before .before .meet .kept .1 .1 .1 .1 .1 .1 .0) (c .before .before .before .before .meet .kept .1 .1 .1 .1 .1 .1 .1 .0)
-    (λ q h. c .before .before .before .before .meet .ensures ts (triangle-in (a .triangles .now) (a .handles .now) (a .n) (a .m) (l .t) (c .before .before .before .before .before .before .before .before .loop-test .taken)) q h far)
+loop-again c =
+    let b8 = c .before .before .before .before .before .before .before .before in
+    let b14 = b8 .before .before .before .before .before .before in
+    let b22 = b14 .before .before .before .before .before .before .before .before in
+    let a = b22 .args in let l = c .before .before .before .before .before .before .before .before .before .loop in let ts = trianglesIn (a .triangles .now) (a .handles .now) (a .n) (a .m) in
+    let far : a .np ≤ noneOf = omega (arith, b22 .pre .0 .3, b22 .pre .1 .0 .0) in
+    meeting-more ts (a .of .now) (a .m) (a .np) (b14 .reset .last .0) (b14 .reset .last .1 .0) (l .areas) (l .largest) (l .t) (c .before .before .before .before .meet .last .1 .1 .1 .1 .1 .1 .0) (c .before .before .before .before .meet .last .1 .1 .1 .1 .1 .1 .1 .0) (l .inv) (b8 .loop-test .taken) (b22 .pre .0 .4)
+    (c .before .before .before .before .meet .kept .1 .1 .1 .1 .1 .1 .0) (c .before .before .before .before .meet .kept .1 .1 .1 .1 .1 .1 .1 .0)
+    (λ q h. c .before .before .before .before .meet .ensures ts (triangle-in (a .triangles .now) (a .handles .now) (a .n) (a .m) (l .t) (b8 .loop-test .taken)) q h far)
 
 same-length : tie.Need-same-length Inv-loop μ-loop
 same-length c = c .before .loop .inv .len-areas ∙ c .before .before .before .before .before .before .reset .kept .0
@@ -48,7 +57,8 @@ same-length-2 : tie.Need-same-length-2 Inv-loop μ-loop
 same-length-2 c = c .before .loop .inv .len-largest ∙ c .before .before .before .before .before .before .reset .kept .1 .0
 
 returns : tie.Need-returns Inv-loop μ-loop
-returns c = let a = c .before .before .before .before .before .before .before .before .before .before .before .before .before .before .args in let l = c .before .loop in meeting-all (trianglesIn (a .triangles .now) (a .handles .now) (a .n) (a .m)) (a .of .now) (a .m) (a .np) (c .before .before .before .before .before .before .reset .last .0) (c .before .before .before .before .before .before .reset .last .1 .0) (l .areas) (l .largest) (l .t) (l .inv) (c .loop-test .left)
+returns c = let a = c .before .before .before .before .before .before .before .before .before .before .before .before .before .before .args in let l = c .before .loop in meeting-all (trianglesIn (a .triangles .now) (a .handles .now) (a .n) (a .m)) (a .of .now) (a .m) (a .np) (c .before .before .before .before .before .before .reset .last .0)
+    (c .before .before .before .before .before .before .reset .last .1 .0) (l .areas) (l .largest) (l .t) (l .inv) (c .loop-test .left)
 
 pub largest-triangles-spec : {M : Type 1} → statement M
 largest-triangles-spec =

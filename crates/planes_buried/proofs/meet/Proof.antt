@@ -18,13 +18,18 @@ triangle-at-requires : tie.Need-triangle-at-requires
 triangle-at-requires c κs = let p = c .before .before .before .before .before .pre .0 in (p .0, p .1, p .2)
 
 larger-requires : tie.Need-larger-requires
-larger-requires c κs = let p = c .before .before .before .before .before .before .before .before .before .pre .0 in let q = c .before .before .before .before .before .before .before .before .before .pre .1 .0 in
-    let low : c .before .before .before .before .before .before .before .before .before .args .p < c .before .before .before .before .before .before .before .before .before .args .np = ⊎-elim (λ l. l) (λ e. absurd (c .before .before .before .before .if1 .left e)) (c .before .before .before .before .before .before .before .before .before .pre .1 .1) in (omega arith, omega arith, p .3)
+larger-requires c κs =
+    let b9 = c .before .before .before .before .before .before .before .before .before in
+    let p = b9 .pre .0 in let q = b9 .pre .1 .0 in
+    let low : b9 .args .p < b9 .args .np = ⊎-elim (λ l. l) (λ e. absurd (c .before .before .before .before .if1 .left e)) (b9 .pre .1 .1) in (omega arith, omega arith, p .3)
 
 returns-2 : tie.Need-returns-2
-returns-2 c = λ ts e q h g. let p = c .before .before .before .before .before .before .before .before .before .before .before .before .before .before .args .p in
+returns-2 c =
+    let b14 = c .before .before .before .before .before .before .before .before .before .before .before .before .before .before in
+    λ ts e q h g. let p = b14 .args .p in
     by-eq p q
-    (λ s. rw (eq-eqb p q s) (ap (bestAt (c .before .before .before .before .larger .last .0) (c .before .before .before .before .larger .last .1 .0)) (sym s) ∙ c .before .before .before .before .larger .ensures .0 ts (c .before .before .before .before .before .before .before .triangle-area .ensures ∙ ap triangleAreaOf (c .before .before .before .before .before .before .before .before .triangle-at .ensures ∙ sym e)) ∙ ap (λ (k : ℕ). bestOf ts (bestAt (c .before .before .before .before .before .before .before .before .before .before .before .before .before .before .args .areas .now) (c .before .before .before .before .before .before .before .before .before .before .before .before .before .before .args .largest .now) k) (c .before .before .before .before .before .before .before .before .before .before .before .before .before .before .args .t)) s))
+    (λ s. rw (eq-eqb p q s) (ap (bestAt (c .before .before .before .before .larger .last .0) (c .before .before .before .before .larger .last .1 .0)) (sym s) ∙ c .before .before .before .before .larger .ensures .0 ts (c .before .before .before .before .before .before .before .triangle-area .ensures ∙ ap triangleAreaOf
+    (c .before .before .before .before .before .before .before .before .triangle-at .ensures ∙ sym e)) ∙ ap (λ (k : ℕ). bestOf ts (bestAt (b14 .args .areas .now) (b14 .args .largest .now) k) (b14 .args .t)) s))
     (λ d. rw (ne-eqb p q d) (c .before .before .before .before .larger .ensures .1 q (λ s. d (sym s))))
 
 pub meet-spec : {M : Type 1} → statement M

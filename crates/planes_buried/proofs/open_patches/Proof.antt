@@ -17,18 +17,35 @@ unfolding openOf
 returns c = (λ tri k h. sym (rw (c .if1 .left)), ((omega arith, c .before .before .before .before .before .before .before .before .before .before .before .before .pre .1 .1 .1 .1), (refl, refl, refl)))
 
 largest-triangles-requires : tie.Need-largest-triangles-requires
-largest-triangles-requires c κs = let q = c .before .before .before .before .before .before .before .before .before .before .before .before .before .before .before .pre .1 .0 in (c .before .before .before .before .before .before .before .before .before .before .before .before .before .before .before .pre .0, ((q .0, q .1, q .2), c .before .before .before .before .before .before .before .before .before .before .before .before .before .before .before .pre .1 .1 .1 .1))
+largest-triangles-requires c κs =
+    let b15 = c .before .before .before .before .before .before .before .before .before .before .before .before .before .before .before in
+    let q = b15 .pre .1 .0 in (b15 .pre .0, ((q .0, q .1, q .2), b15 .pre .1 .1 .1 .1))
 
 mark-open-requires : tie.Need-mark-open-requires
-mark-open-requires c κs = let a = c .before .before .before .before .before .before .before .before .before .before .before .before .before .before .before .before .before .before .before .before .before .before .args in let p = c .before .before .before .before .before .before .before .before .before .before .before .before .before .before .before .before .before .before .before .before .before .before .pre .0 in let q = c .before .before .before .before .before .before .before .before .before .before .before .before .before .before .before .before .before .before .before .before .before .before .pre .1 .0 in let k = c .before .before .before .before .before .before .largest-triangles .kept .1 .1 .1 .1 .1 .1 .1 .0 in
-    ((p .0, p .1, omega arith, q .3, omega arith), (c .before .before .before .before .before .before .before .before .before .before .before .before .before .before .before .before .before .before .before .before .before .before .pre .1 .1 .0, (c .before .before .before .before .before .before .before .before .before .before .before .before .before .before .before .before .before .before .before .before .before .before .pre .1 .1 .1 .0, λ i h. let b = largest-below (a .triangles .now) (a .handles .now) (a .n) (a .m) (a .of .now) (a .np) (c .before .before .before .before .before .before .largest-triangles .last .1 .1 .1 .1 .1 .1 .0) (c .before .before .before .before .before .before .largest-triangles .last .1 .1 .1 .1 .1 .1 .1 .0) (p .3) (c .before .before .before .before .before .before .largest-triangles .ensures) i h (q .0) in omega arith)))
+mark-open-requires c κs =
+    let b22 = c .before .before .before .before .before .before .before .before .before .before .before .before .before .before .before .before .before .before .before .before .before .before in
+    let a = b22 .args in let p = b22 .pre .0 in let q = b22 .pre .1 .0 in let k = c .before .before .before .before .before .before .largest-triangles .kept .1 .1 .1 .1 .1 .1 .1 .0 in (
+      (p .0, p .1, omega arith, q .3, omega arith),
+      (
+        b22 .pre .1 .1 .0,
+        (
+          b22 .pre .1 .1 .1 .0,
+          λ i h. let b = largest-below (a .triangles .now) (a .handles .now) (a .n) (a .m) (a .of .now) (a .np) (c .before .before .before .before .before .before .largest-triangles .last .1 .1 .1 .1 .1 .1 .0)
+              (c .before .before .before .before .before .before .largest-triangles .last .1 .1 .1 .1 .1 .1 .1 .0) (p .3) (c .before .before .before .before .before .before .largest-triangles .ensures) i h (q .0) in omega arith,
+        ),
+      ),
+    )
 
 close-rows-requires : tie.Need-close-rows-requires
-close-rows-requires c κs = let p = c .before .before .before .before .before .before .before .before .before .before .before .before .before .before .before .before .before .before .before .before .before .before .before .before .before .before .before .before .pre .0 in let q = c .before .before .before .before .before .before .before .before .before .before .before .before .before .before .before .before .before .before .before .before .before .before .before .before .before .before .before .before .pre .1 .0 in let k = c .before .before .before .before .before .mark-open .kept .1 .1 .1 .1 .1 .1 .1 .1 .1 .1 .1 .0 in let l = c .before .before .before .before .before .before .before .before .before .before .before .before .largest-triangles .kept .1 .1 .1 .1 .1 .1 .1 .0 in (q .4, omega arith, omega arith, omega arith)
+close-rows-requires c κs =
+    let b28 = c .before .before .before .before .before .before .before .before .before .before .before .before .before .before .before .before .before .before .before .before .before .before .before .before .before .before .before .before in
+    let p = b28 .pre .0 in let q = b28 .pre .1 .0 in let k = c .before .before .before .before .before .mark-open .kept .1 .1 .1 .1 .1 .1 .1 .1 .1 .1 .1 .0 in let l = c .before .before .before .before .before .before .before .before .before .before .before .before .largest-triangles .kept .1 .1 .1 .1 .1 .1 .1 .0 in (q .4, omega arith, omega arith, omega arith)
 
 renumber-requires : tie.Need-renumber-requires
-renumber-requires c κs = let a = c .before .before .before .before .before .before .before .before .before .before .before .before .before .before .before .before .before .before .before .before .before .before .before .before .before .before .before .before .before .before .before .before .before .before .before .args in let p = c .before .before .before .before .before .before .before .before .before .before .before .before .before .before .before .before .before .before .before .before .before .before .before .before .before .before .before .before .before .before .before .before .before .before .before .pre .0 in let q = c .before .before .before .before .before .before .before .before .before .before .before .before .before .before .before .before .before .before .before .before .before .before .before .before .before .before .before .before .before .before .before .before .before .before .before .pre .1 .0 in let k = c .before .before .before .before .before .before .close-rows .kept .1 .1 .1 .0 in let l = c .before .before .before .before .before .before .before .before .before .before .before .before .before .before .before .before .before .before .before .largest-triangles .kept .1 .1 .1 .1 .1 .1 .1 .0 in
-    (p .4, numbered-wider (a .of .now) (a .m) (a .np) (length (c .before .before .before .before .before .before .close-rows .last .1 .1 .1 .0)) (c .before .before .before .before .before .before .before .before .before .before .before .before .before .before .before .before .before .before .before .before .before .before .before .before .before .before .before .before .before .before .before .before .before .before .before .pre .1 .1 .1 .1) (omega arith))
+renumber-requires c κs =
+    let b35 = c .before .before .before .before .before .before .before .before .before .before .before .before .before .before .before .before .before .before .before .before .before .before .before .before .before .before .before .before .before .before .before .before .before .before .before in
+    let a = b35 .args in let p = b35 .pre .0 in let q = b35 .pre .1 .0 in let k = c .before .before .before .before .before .before .close-rows .kept .1 .1 .1 .0 in let l = c .before .before .before .before .before .before .before .before .before .before .before .before .before .before .before .before .before .before .before .largest-triangles .kept .1 .1 .1 .1 .1 .1 .1 .0 in
+    (p .4, numbered-wider (a .of .now) (a .m) (a .np) (length (c .before .before .before .before .before .before .close-rows .last .1 .1 .1 .0)) (b35 .pre .1 .1 .1 .1) (omega arith))
 
 same-length : tie.Need-same-length
 same-length c = search needs
@@ -40,12 +57,19 @@ same-length-3 : tie.Need-same-length-3
 same-length-3 c = search needs
 
 returns-2 : tie.Need-returns-2
-returns-2 c = let a = c .before .before .before .before .before .before .before .before .before .before .before .before .before .before .before .before .before .before .before .before .before .before .before .before .before .before .before .before .before .before .before .before .before .before .before .before .before .before .args in let q = c .before .before .before .before .before .before .before .before .before .before .before .before .before .before .before .before .before .before .before .before .before .before .before .before .before .before .before .before .before .before .before .before .before .before .before .before .before .before .pre .1 .0 in let f = c .before .before .before .before .before .before .before .before .before .before .before .before .before .before .before .mark-open .last .1 .1 .1 .1 .1 .1 .1 .1 .1 .1 .1 .0 in let old = c .before .before .before .before .before .before .before .before .before .before .before .before .before .before .before .before .before .before .before .before .before .before .before .before .before .before .before .before .before .before .before .before .before .before .before .before .before .before .pre .1 .1 .1 .1 in
-    let far : a .np ≤ noneOf = omega (arith, c .before .before .before .before .before .before .before .before .before .before .before .before .before .before .before .before .before .before .before .before .before .before .before .before .before .before .before .before .before .before .before .before .before .before .before .before .before .before .pre .0 .3, q .0) in
+returns-2 c =
+    let b9 = c .before .before .before .before .before .before .before .before .before in
+    let b15 = b9 .before .before .before .before .before .before in
+    let b22 = b15 .before .before .before .before .before .before .before in
+    let b38 = b22 .before .before .before .before .before .before .before .before .before .before .before .before .before .before .before .before in
+    let a = b38 .args in let q = b38 .pre .1 .0 in let f = b15 .mark-open .last .1 .1 .1 .1 .1 .1 .1 .1 .1 .1 .1 .0 in let old = b38 .pre .1 .1 .1 .1 in
+    let far : a .np ≤ noneOf = omega (arith, b38 .pre .0 .3, q .0) in
     let le = open-le f (a .np) in
-    let er = c .before .before .before .before .before .before .before .before .before .close-rows .ensures .0 in (
-      λ tri k h. opened-is (a .triangles .now) (a .handles .now) (a .n) (a .m) (a .of .now) (a .np) (c .before .before .before .before .before .before .before .before .before .before .before .before .before .before .before .before .before .before .before .before .before .before .largest-triangles .last .1 .1 .1 .1 .1 .1 .0) (c .before .before .before .before .before .before .before .before .before .before .before .before .before .before .before .before .before .before .before .before .before .before .largest-triangles .last .1 .1 .1 .1 .1 .1 .1 .0) (c .before .before .before .before .before .before .before .before .before .before .before .before .before .before .before .before .before .before .before .before .before .before .before .before .before .before .before .before .before .before .before .before .before .before .before .before .before .before .pre .0 .3) (c .before .before .before .before .before .before .before .before .before .before .before .before .before .before .before .before .before .before .before .before .before .before .largest-triangles .ensures) (probeOf tri k) (a .reach) (a .rows .now) (c .before .before .before .before .before .before .before .before .before .close-rows .last .1 .1 .0) (c .before .before .renumber .last .0) f (c .before .before .before .before .before .before .before .before .before .close-rows .last .1 .1 .1 .0) (c .before .before .before .before .before .before .before .before .before .close-rows .result) (q .0) (c .before .before .before .before .before .before .before .before .before .before .before .before .before .before .before .before .before .before .before .before .before .before .before .before .before .before .if1 .taken) (λ p g. c .before .before .before .before .before .before .before .before .before .before .before .before .before .before .before .mark-open .ensures p g tri k h) er (c .before .before .before .before .before .before .before .before .before .close-rows .ensures .1 .0) (c .before .before .before .before .before .before .before .before .before .close-rows .ensures .1 .1) old (c .before .before .renumber .ensures),
-      ((omega arith, rw er (numbered-new f (a .np) far (c .before .before .before .before .before .before .before .before .before .close-rows .last .1 .1 .1 .0) (c .before .before .before .before .before .before .before .before .before .close-rows .ensures .1 .0) (a .m) (a .of .now) (c .before .before .renumber .last .0) old (c .before .before .renumber .ensures))), (same-length c, same-length-2 c, same-length-3 c)),
+    let er = b9 .close-rows .ensures .0 in (
+      λ tri k h. opened-is (a .triangles .now) (a .handles .now) (a .n) (a .m) (a .of .now) (a .np) (b22 .largest-triangles .last .1 .1 .1 .1 .1 .1 .0) (b22 .largest-triangles .last .1 .1 .1 .1 .1 .1 .1 .0) (b38 .pre .0 .3) (b22 .largest-triangles .ensures) (probeOf tri k) (a .reach) (a .rows .now) (b9 .close-rows .last .1 .1 .0) (c .before .before .renumber .last .0) f
+          (b9 .close-rows .last .1 .1 .1 .0) (b9 .close-rows .result) (q .0) (c .before .before .before .before .before .before .before .before .before .before .before .before .before .before .before .before .before .before .before .before .before .before .before .before .before .before .if1 .taken) (λ p g. b15 .mark-open .ensures p g tri k h) er
+          (b9 .close-rows .ensures .1 .0) (b9 .close-rows .ensures .1 .1) old (c .before .before .renumber .ensures),
+      ((omega arith, rw er (numbered-new f (a .np) far (b9 .close-rows .last .1 .1 .1 .0) (b9 .close-rows .ensures .1 .0) (a .m) (a .of .now) (c .before .before .renumber .last .0) old (c .before .before .renumber .ensures))), (same-length c, same-length-2 c, same-length-3 c)),
     )
 
 pub open-patches-spec : {M : Type 1} → statement M

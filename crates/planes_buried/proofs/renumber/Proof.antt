@@ -22,7 +22,8 @@ slice-read-p c = let h = c .before .loop-test .taken in let l = c .before .befor
 
 renumbered-requires : tie.Need-renumbered-requires Inv-loop μ-loop
 renumbered-requires c κs = let h = c .before .loop-test .taken in
-    rw (renumbering-at (c .before .before .before .before .before .args .numbers .now) (c .before .before .before .before .before .args .of .now) (c .before .before .loop .of) (c .before .before .loop .i) (c .before .before .loop .inv .1)) (numbered-at (c .before .before .before .before .before .args .of .now) (c .before .before .before .before .before .args .m) (length (c .before .before .before .before .before .args .numbers .now)) (c .before .before .loop .i) (c .before .before .before .before .before .pre .1) h (c .before .before .before .before .before .pre .0))
+    rw (renumbering-at (c .before .before .before .before .before .args .numbers .now) (c .before .before .before .before .before .args .of .now) (c .before .before .loop .of) (c .before .before .loop .i) (c .before .before .loop .inv .1)) (numbered-at (c .before .before .before .before .before .args .of .now) (c .before .before .before .before .before .args .m) (length
+    (c .before .before .before .before .before .args .numbers .now)) (c .before .before .loop .i) (c .before .before .before .before .before .pre .1) h (c .before .before .before .before .before .pre .0))
 
 slice-write-of : tie.Need-slice-write-of Inv-loop μ-loop
 slice-write-of c = let h = c .before .before .loop-test .taken in let l = c .before .before .before .loop .inv .1 .len in let p = c .before .before .before .before .before .before .pre .0 in omega arith

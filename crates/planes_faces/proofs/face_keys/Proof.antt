@@ -40,8 +40,11 @@ face-keys-spec =
     (λ c. let g = c .before .before .before .before .before .before .before .before .before .before in let l = c .before .before .before .before .before .before .loop in let k = l .inv .1 .len-lo in omega arith)
     (λ c. search needs)
     (λ c. search needs)
-    (λ c. let s = c .before .before .before .before .before .before .before .before .before .before in let g = s .args in let l = c .before .before .before .before .before .before .loop in
-    (omega arith, keys-more (g .numbers .now) (g .n) (l .i) (g .keys .now) (g .low-keys .now) (l .keys) (l .low-keys) (c .before .face-hi .result) (c .face-lo .result) (l .inv .1) (omega (arith, c .before .before .before .before .before .loop-test .taken, s .pre .1 .0)) (omega (arith, c .before .before .before .before .before .loop-test .taken, s .pre .1 .1)) (c .before .face-hi .ensures) (c .face-lo .ensures)))
+    (λ c. let s = c .before .before .before .before .before .before .before .before .before .before in let g = s .args in let l = c .before .before .before .before .before .before .loop in (
+      omega arith,
+      keys-more (g .numbers .now) (g .n) (l .i) (g .keys .now) (g .low-keys .now) (l .keys) (l .low-keys) (c .before .face-hi .result) (c .face-lo .result) (l .inv .1) (omega (arith, c .before .before .before .before .before .loop-test .taken, s .pre .1 .0)) (omega (arith, c .before .before .before .before .before .loop-test .taken, s .pre .1 .1))
+          (c .before .face-hi .ensures) (c .face-lo .ensures),
+    ))
     (λ c. c .before .loop .inv .1 .len-hi)
     (λ c. c .before .loop .inv .1 .len-lo)
     (λ c. let s = c .before .before .before .before .before in let g = s .args in let l = c .before .loop in

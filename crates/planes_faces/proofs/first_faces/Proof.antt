@@ -71,7 +71,12 @@ slice-aggregate-first-indexes-2 c =
     sym (ap length (room (s .args .n) (s .args .vlo .now) (f .last .1 .1 .1 .0) (s .pre .1 .1 .0) (f .kept .1 .1 .1 .0)) ∙ kept-length (s .args .n) (s .args .vlo .now) (f .last .1 .1 .1 .0) (s .pre .1 .1 .0) (f .kept .1 .1 .1 .0))
 
 slice-relend-prefix-first-indexes : tie.Need-slice-relend-prefix-first-indexes
-slice-relend-prefix-first-indexes c = omega (arith, c .before .before .before .before .before .before .before .before .before .before .before .before .before .before .before .before .before .before .first-indexes .kept .1 .1 .0, c .before .before .before .before .before .before .before .before .before .before .before .before .before .before .before .before .before .before .before .before .before .before .before .before .before .before .before .before .before .before .before .before .pre .1 .1 .1 .1 .0)
+slice-relend-prefix-first-indexes c = omega (
+  arith,
+  c .before .before .before .before .before .before .before .before .before .before .before .before .before .before .before .before .before .before .first-indexes .kept .1 .1 .0,
+  c .before .before .before .before .before .before .before .before .before .before .before .before .before .before .before .before .before .before .before .before .before .before
+      .before .before .before .before .before .before .before .before .before .before .pre .1 .1 .1 .1 .0,
+)
 
 slice-aggregate-first-indexes-3 : tie.Need-slice-aggregate-first-indexes-3
 slice-aggregate-first-indexes-3 c =
@@ -92,16 +97,21 @@ first-indexes-requires-2 c κs =
     (omega (arith, kh, s .pre .0), (kl ∙ sym kh, (subst (Below 4294967296) (sym tl) (f .ensures .0), (ki ∙ sym kh, (omega (arith, kh, g .kept .1 .1 .1 .0, s .pre .1 .1 .1 .1 .1 .0), (omega (arith, kh, g .kept .1 .1 .1 .1 .0, s .pre .1 .1 .1 .1 .1 .1 .0), omega (arith, kh, s .pre .1 .1 .1 .1 .1 .1 .1 .1)))))))
 
 same-length : tie.Need-same-length
-same-length c = let s = c .before .before .before .before .before .before .before .before .before .before .before .before .before .before .before .before .before .before .before .before .before .before .before .before .before .before .before .before .before .before .before .before .before .before .before .before .before .before .before .before .before .before .before .before .before in let f = c .before .before .before .before .before .before .before .before .before .before .before .before .before .before .before .before .before .before .before .face-keys in length-front (s .args .vhi .now) (f .last .1 .1 .0) (s .args .n) (f .kept .1 .1 .0)
+same-length c = let s = c .before .before .before .before .before .before .before .before .before .before .before .before .before .before .before .before .before .before .before .before .before .before .before .before .before .before .before .before .before .before .before .before .before .before .before .before .before .before .before .before .before .before .before
+    .before .before in let f = c .before .before .before .before .before .before .before .before .before .before .before .before .before .before .before .before .before .before .before .face-keys in length-front (s .args .vhi .now) (f .last .1 .1 .0) (s .args .n) (f .kept .1 .1 .0)
 
 same-length-2 : tie.Need-same-length-2
-same-length-2 c = let s = c .before .before .before .before .before .before .before .before .before .before .before .before .before .before .before .before .before .before .before .before .before .before .before .before .before .before .before .before .before .before .before .before .before .before .before .before .before .before .before .before .before .before .before .before .before in let f = c .before .before .before .before .before .before .before .before .before .before .before .before .before .before .before .before .before .before .before .face-keys in length-front (s .args .vlo .now) (f .last .1 .1 .1 .0) (s .args .n) (f .kept .1 .1 .1 .0)
+same-length-2 c = let s = c .before .before .before .before .before .before .before .before .before .before .before .before .before .before .before .before .before .before .before .before .before .before .before .before .before .before .before .before .before .before .before .before .before .before .before .before .before .before .before .before .before .before .before
+    .before .before in let f = c .before .before .before .before .before .before .before .before .before .before .before .before .before .before .before .before .before .before .before .face-keys in length-front (s .args .vlo .now) (f .last .1 .1 .1 .0) (s .args .n) (f .kept .1 .1 .1 .0)
 
 same-length-3 : tie.Need-same-length-3
-same-length-3 c = let g = c .before .before .before .before .before .before .before .before .before .before .before .before .before .before .before .before .before .before .before .before .before .before .before .before .before .before .before .before .before .before .before .first-indexes in let h = c .before .before .before .before .before .before .before .before .first-indexes2 in length-front (g .last .1 .1 .0) (h .last .1 .1 .0) (c .before .before .before .before .before .before .before .before .before .before .before .before .before .before .before .before .before .before .before .before .before .before .before .before .before .before .before .before .before .before .before .before .before .before .before .before .before .before .before .before .before .before .before .before .before .args .n) (h .kept .1 .1 .0) ∙ g .kept .1 .1 .0
+same-length-3 c = let g = c .before .before .before .before .before .before .before .before .before .before .before .before .before .before .before .before .before .before .before .before .before .before .before .before .before .before .before .before .before .before .before .first-indexes in let h = c .before .before .before .before .before .before .before
+    .before .first-indexes2 in length-front (g .last .1 .1 .0) (h .last .1 .1 .0) (c .before .before .before .before .before .before .before .before .before .before .before .before .before .before .before .before .before .before .before .before .before .before .before .before .before .before .before .before .before .before .before .before .before .before .before .before
+    .before .before .before .before .before .before .before .before .before .args .n) (h .kept .1 .1 .0) ∙ g .kept .1 .1 .0
 
 returns : tie.Need-returns
 returns c =
+    let b8 = c .before .before .before .before .before .before .before .before in
     let s = c .before .before .before .before .before .before .before .before .before .before .before .before .before .before .before .before .before .before .before .before .before .before .before .before .before .before .before .before .before .before .before .before .before .before .before .before .before .before .before .before .before .before .before .before .before in
     let g = c .before .before .before .before .before .before .before .before .before .before .before .before .before .before .before .before .before .before .before .before .before .before .before .before .before .before .before .before .before .before .before .first-indexes in
     let f = c .before .before .before .before .before .before .before .before .before .before .before .before .before .before .before .before .before .before .before .face-keys in
@@ -112,8 +122,8 @@ returns c =
       named,
       λ i h.
           new-is (s .args .n) (keyAt (s .args .vhi .now) (s .args .vlo .now)) (keyAt (f .last .1 .1 .0) (f .last .1 .1 .1 .0)) (g .last .1 .1 .1 .1 .1 .0) (s .pre .0)
-          named (f .ensures .1) i (getD (c .before .before .before .before .before .before .before .before .first-indexes2 .last .1 .1 .1 .1 .1 .0) i 0) h
-          (c .before .before .before .before .before .before .before .before .first-indexes2 .ensures .0 i (omega (arith, kh, h)) ∙ ap (λ (z : List ℕ). firstAt (keyAt z (take (s .args .n) (f .last .1 .1 .1 .0 ++ drop (s .args .n) (s .args .vlo .now)))) i) th ∙ ap (λ (z : List ℕ). firstAt (keyAt (f .last .1 .1 .0) z) i) tl),
+          named (f .ensures .1) i (getD (b8 .first-indexes2 .last .1 .1 .1 .1 .1 .0) i 0) h
+          (b8 .first-indexes2 .ensures .0 i (omega (arith, kh, h)) ∙ ap (λ (z : List ℕ). firstAt (keyAt z (take (s .args .n) (f .last .1 .1 .1 .0 ++ drop (s .args .n) (s .args .vlo .now)))) i) th ∙ ap (λ (z : List ℕ). firstAt (keyAt (f .last .1 .1 .0) z) i) tl),
     )
 
 pub first-faces-spec : {M : Type 1} → statement M

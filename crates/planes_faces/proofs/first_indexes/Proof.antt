@@ -21,29 +21,34 @@ sort-by-key-requires c κs =
 
 sort-by-key-requires-2 : tie.Need-sort-by-key-requires-2
 sort-by-key-requires-2 c κs =
+    let b9 = c .before .before .before .before .before .before .before .before .before in
+    let b15 = b9 .before .before .before .before .before .before in
     let g = c .before .before .before .before .before .before .before .before .before .before .before .before .before .before .before .before .before .before .before .before .before .before .before in
     let n = length (g .args .index .now) in
-    let xs = c .before .before .before .before .before .before .before .before .before .before .before .before .before .before .before .count-up .last .0 in
-    let len = counted-length n xs (c .before .before .before .before .before .before .before .before .before .before .before .before .before .before .before .count-up .ensures) in (
-      omega (arith, len, c .before .before .before .before .before .before .before .before .before .sort-by-key .kept .1 .0, c .before .before .before .before .before .before .before .before .before .sort-by-key .kept .1 .1 .0, g .pre .1 .1 .1 .0, g .pre .1 .1 .1 .1 .0),
+    let xs = b15 .count-up .last .0 in
+    let len = counted-length n xs (b15 .count-up .ensures) in (
+      omega (arith, len, b9 .sort-by-key .kept .1 .0, b9 .sort-by-key .kept .1 .1 .0, g .pre .1 .1 .1 .0, g .pre .1 .1 .1 .1 .0),
       (
-        omega (arith, len, c .before .before .before .before .before .before .before .before .before .sort-by-key .kept .1 .0, c .before .before .before .before .before .before .before .before .before .sort-by-key .kept .1 .1 .1 .0, g .pre .1 .1 .1 .0, g .pre .1 .1 .1 .1 .1 .0),
-        sorted-below (keyOf (g .args .low-keys .now)) (length (g .args .keys .now)) xs (c .before .before .before .before .before .before .before .before .before .sort-by-key .last .1 .0) (c .before .before .before .before .before .before .before .before .before .sort-by-key .ensures .0) (counted-below n (length (g .args .keys .now)) xs (c .before .before .before .before .before .before .before .before .before .before .before .before .before .before .before .count-up .ensures) (g .pre .1 .1 .1 .0)),
+        omega (arith, len, b9 .sort-by-key .kept .1 .0, b9 .sort-by-key .kept .1 .1 .1 .0, g .pre .1 .1 .1 .0, g .pre .1 .1 .1 .1 .1 .0),
+        sorted-below (keyOf (g .args .low-keys .now)) (length (g .args .keys .now)) xs (b9 .sort-by-key .last .1 .0) (b9 .sort-by-key .ensures .0) (counted-below n (length (g .args .keys .now)) xs (b15 .count-up .ensures) (g .pre .1 .1 .1 .0)),
       ),
     )
 
 mark-run-starts-requires : tie.Need-mark-run-starts-requires
 mark-run-starts-requires c κs =
+    let b8 = c .before .before .before .before .before .before .before .before in
+    let b18 = b8 .before .before .before .before .before .before .before .before .before .before in
+    let b24 = b18 .before .before .before .before .before .before in
     let g = c .before .before .before .before .before .before .before .before .before .before .before .before .before .before .before .before .before .before .before .before .before .before .before .before .before .before .before .before .before .before .before .before in
     let n = length (g .args .index .now) in
-    let xs = c .before .before .before .before .before .before .before .before .before .before .before .before .before .before .before .before .before .before .before .before .before .before .before .before .count-up .last .0 in (
+    let xs = b24 .count-up .last .0 in (
       g .pre .1 .0,
       (
         g .pre .1 .1 .0,
         (
           g .pre .1 .1 .1 .1 .1 .1,
-          sorted-below (keyOf (g .args .keys .now)) (length (g .args .keys .now)) (c .before .before .before .before .before .before .before .before .before .before .before .before .before .before .before .before .before .before .sort-by-key .last .1 .0) (c .before .before .before .before .before .before .before .before .sort-by-key2 .last .1 .0) (c .before .before .before .before .before .before .before .before .sort-by-key2 .ensures .0)
-              (sorted-below (keyOf (g .args .low-keys .now)) (length (g .args .keys .now)) xs (c .before .before .before .before .before .before .before .before .before .before .before .before .before .before .before .before .before .before .sort-by-key .last .1 .0) (c .before .before .before .before .before .before .before .before .before .before .before .before .before .before .before .before .before .before .sort-by-key .ensures .0) (counted-below n (length (g .args .keys .now)) xs (c .before .before .before .before .before .before .before .before .before .before .before .before .before .before .before .before .before .before .before .before .before .before .before .before .count-up .ensures) (g .pre .1 .1 .1 .0))),
+          sorted-below (keyOf (g .args .keys .now)) (length (g .args .keys .now)) (b18 .sort-by-key .last .1 .0) (b8 .sort-by-key2 .last .1 .0) (b8 .sort-by-key2 .ensures .0)
+              (sorted-below (keyOf (g .args .low-keys .now)) (length (g .args .keys .now)) xs (b18 .sort-by-key .last .1 .0) (b18 .sort-by-key .ensures .0) (counted-below n (length (g .args .keys .now)) xs (b24 .count-up .ensures) (g .pre .1 .1 .1 .0))),
         ),
       ),
     )
@@ -59,9 +64,12 @@ same-length-3 c = search needs
 
 returns : tie.Need-returns
 returns c =
+    let b11 = c .before .before .before .before .before .before .before .before .before .before .before in
+    let b21 = b11 .before .before .before .before .before .before .before .before .before .before in
+    let b27 = b21 .before .before .before .before .before .before in
     let g = c .before .before .before .before .before .before .before .before .before .before .before .before .before .before .before .before .before .before .before .before .before .before .before .before .before .before .before .before .before .before .before .before .before .before .before in (
-      indexes-are (g .args .keys .now) (g .args .low-keys .now) (c .before .before .before .before .before .before .before .before .before .before .before .before .before .before .before .before .before .before .before .before .before .before .before .before .before .before .before .count-up .last .0) (c .before .before .before .before .before .before .before .before .before .before .before .before .before .before .before .before .before .before .before .before .before .sort-by-key .last .1 .0) (c .before .before .before .before .before .before .before .before .before .before .before .sort-by-key2 .last .1 .0) (g .args .first .now) (c .before .before .mark-run-starts .last .1 .1 .1 .0)
-          (c .before .before .before .before .before .before .before .before .before .before .before .before .before .before .before .before .before .before .before .before .before .before .before .before .before .before .before .count-up .ensures ∙ ap upTo (g .pre .1 .1 .1 .0)) (c .before .before .before .before .before .before .before .before .before .before .before .before .before .before .before .before .before .before .before .before .before .sort-by-key .ensures .0) (c .before .before .before .before .before .before .before .before .before .before .before .sort-by-key2 .ensures .0) (c .before .before .mark-run-starts .ensures) (g .pre .1 .1 .0) (g .pre .1 .1 .1 .1 .1 .1),
+      indexes-are (g .args .keys .now) (g .args .low-keys .now) (b27 .count-up .last .0) (b21 .sort-by-key .last .1 .0) (b11 .sort-by-key2 .last .1 .0) (g .args .first .now) (c .before .before .mark-run-starts .last .1 .1 .1 .0)
+          (b27 .count-up .ensures ∙ ap upTo (g .pre .1 .1 .1 .0)) (b21 .sort-by-key .ensures .0) (b11 .sort-by-key2 .ensures .0) (c .before .before .mark-run-starts .ensures) (g .pre .1 .1 .0) (g .pre .1 .1 .1 .1 .1 .1),
       (same-length c, same-length-2 c, same-length-3 c),
     )
 

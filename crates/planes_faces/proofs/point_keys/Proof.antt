@@ -26,13 +26,15 @@ slice-write-low-keys c = omega (arith, c .before .before .before .before .before
 
 loop-again : tie.Need-loop-again Inv-loop μ-loop
 loop-again c =
+    let b8 = c .before .before .before .before .before .before .before .before in
     let s = c .before .before .before .before .before .before .before .before .before .before .before .before .before in
     let g = s .args in
     let l = c .before .before .before .before .before .before .before .before .before .loop in (
       omega arith,
       made-more (g .triangles .now) (g .n) (g .at) (g .put) (g .scale) (l .i) (g .keys .now) (g .low-keys .now) (l .keys) (l .low-keys) (c .before .before .before .before .before .before .step .result) (c .before .before .before .before .step2 .result) (c .before .before .step3 .result) (c .before .pair .result) (c .wide .result) (l .inv .1)
-          (omega (arith, c .before .before .before .before .before .before .before .before .loop-test .taken, s .pre .1 .0)) (omega (arith, c .before .before .before .before .before .before .before .before .loop-test .taken, s .pre .1 .1))
-          (part-x (g .triangles .now) (g .n) (g .at) (g .scale) (l .i) (c .before .before .before .before .before .before .step .result) (c .before .before .before .before .before .before .step .ensures)) (part-y (g .triangles .now) (g .n) (g .at) (g .scale) (l .i) (c .before .before .before .before .step2 .result) (c .before .before .before .before .step2 .ensures)) (part-z (g .triangles .now) (g .n) (g .at) (g .scale) (l .i) (c .before .before .step3 .result) (c .before .before .step3 .ensures))
+          (omega (arith, b8 .loop-test .taken, s .pre .1 .0)) (omega (arith, b8 .loop-test .taken, s .pre .1 .1))
+          (part-x (g .triangles .now) (g .n) (g .at) (g .scale) (l .i) (c .before .before .before .before .before .before .step .result) (c .before .before .before .before .before .before .step .ensures)) (part-y (g .triangles .now) (g .n) (g .at) (g .scale) (l .i) (c .before .before .before .before .step2 .result) (c .before .before .before .before .step2 .ensures)) (part-z
+          (g .triangles .now) (g .n) (g .at) (g .scale) (l .i) (c .before .before .step3 .result) (c .before .before .step3 .ensures))
           (c .before .pair .ensures) (c .wide .ensures),
     )
 

@@ -20,7 +20,9 @@ loop-holds : tie.Need-loop-holds Inv-loop μ-loop
 loop-holds c = placed-none _ _ _ _
 
 mul-from : tie.Need-mul-from Inv-loop μ-loop
-mul-from c = omega (arith, c .before .before .before .before .before .before .before .before .before .before .before .good, c .before .before .before .before .before .before .before .before .before .before .before .pre .1 .0 .long, c .loop-test .taken)
+mul-from c =
+    let b11 = c .before .before .before .before .before .before .before .before .before .before .before in
+    omega (arith, b11 .good, b11 .pre .1 .0 .long, c .loop-test .taken)
 
 shared-slice-read-from : tie.Need-shared-slice-read-from Inv-loop μ-loop
 shared-slice-read-from c = omega (arith, c .before .before .before .before .before .before .before .before .before .before .before .before .pre .1 .0 .long, c .before .loop-test .taken)
@@ -29,10 +31,14 @@ cast-from : tie.Need-cast-from Inv-loop μ-loop
 cast-from c = omega (arith, c .shared-slice-known8 .given (c .before .before .loop .g))
 
 add-to : tie.Need-add-to Inv-loop μ-loop
-add-to c = omega (arith, c .before .before .before .before .before .before .before .before .before .before .before .before .good, c .before .before .before .before .before .before .before .before .before .before .before .before .pre .1 .0 .long, c .before .loop-test .taken)
+add-to c =
+    let b12 = c .before .before .before .before .before .before .before .before .before .before .before .before in
+    omega (arith, b12 .good, b12 .pre .1 .0 .long, c .before .loop-test .taken)
 
 mul-to : tie.Need-mul-to Inv-loop μ-loop
-mul-to c = omega (arith, c .before .before .before .before .before .before .before .before .before .before .before .before .good, c .before .before .before .before .before .before .before .before .before .before .before .before .pre .1 .0 .long, c .before .loop-test .taken)
+mul-to c =
+    let b12 = c .before .before .before .before .before .before .before .before .before .before .before .before in
+    omega (arith, b12 .good, b12 .pre .1 .0 .long, c .before .loop-test .taken)
 
 shared-slice-read-to : tie.Need-shared-slice-read-to Inv-loop μ-loop
 shared-slice-read-to c = omega (arith, c .before .before .before .before .before .before .before .before .before .before .before .before .before .pre .1 .0 .long, c .before .before .loop-test .taken)
@@ -41,7 +47,9 @@ cast-to : tie.Need-cast-to Inv-loop μ-loop
 cast-to c = omega (arith, c .shared-slice-known9 .given (c .before .before .before .loop .g + 1))
 
 mul-first : tie.Need-mul-first Inv-loop μ-loop
-mul-first c = omega (arith, c .before .before .before .before .before .before .before .before .before .before .before .before .before .good, c .before .before .before .before .before .before .before .before .before .before .before .before .before .pre .1 .1 .0 .long, c .before .before .loop-test .taken)
+mul-first c =
+    let b13 = c .before .before .before .before .before .before .before .before .before .before .before .before .before in
+    omega (arith, b13 .good, b13 .pre .1 .1 .0 .long, c .before .before .loop-test .taken)
 
 shared-slice-read-first : tie.Need-shared-slice-read-first Inv-loop μ-loop
 shared-slice-read-first c = omega (arith, c .before .before .before .before .before .before .before .before .before .before .before .before .before .before .pre .1 .1 .0 .long, c .before .before .before .loop-test .taken)
@@ -50,10 +58,14 @@ cast-first : tie.Need-cast-first Inv-loop μ-loop
 cast-first c = omega (arith, c .shared-slice-known10 .given (c .before .before .before .before .loop .g))
 
 add-end : tie.Need-add-end Inv-loop μ-loop
-add-end c = omega (arith, c .before .before .before .before .before .before .before .before .before .before .before .before .before .before .good, c .before .before .before .before .before .before .before .before .before .before .before .before .before .before .pre .1 .1 .0 .long, c .before .before .before .loop-test .taken)
+add-end c =
+    let b14 = c .before .before .before .before .before .before .before .before .before .before .before .before .before .before in
+    omega (arith, b14 .good, b14 .pre .1 .1 .0 .long, c .before .before .before .loop-test .taken)
 
 mul-end : tie.Need-mul-end Inv-loop μ-loop
-mul-end c = omega (arith, c .before .before .before .before .before .before .before .before .before .before .before .before .before .before .good, c .before .before .before .before .before .before .before .before .before .before .before .before .before .before .pre .1 .1 .0 .long, c .before .before .before .loop-test .taken)
+mul-end c =
+    let b14 = c .before .before .before .before .before .before .before .before .before .before .before .before .before .before in
+    omega (arith, b14 .good, b14 .pre .1 .1 .0 .long, c .before .before .before .loop-test .taken)
 
 shared-slice-read-end : tie.Need-shared-slice-read-end Inv-loop μ-loop
 shared-slice-read-end c = omega (arith, c .before .before .before .before .before .before .before .before .before .before .before .before .before .before .before .pre .1 .1 .0 .long, c .before .before .before .before .loop-test .taken)
@@ -62,7 +74,9 @@ cast-end : tie.Need-cast-end Inv-loop μ-loop
 cast-end c = omega (arith, c .shared-slice-known11 .given (c .before .before .before .before .before .loop .g + 1))
 
 mul-group : tie.Need-mul-group Inv-loop μ-loop
-mul-group c = omega (arith, c .before .before .before .before .before .before .before .before .before .before .before .before .before .before .before .good, c .before .before .before .before .before .before .before .before .before .before .before .before .before .before .before .pre .1 .0 .rise _ (c .before .before .before .before .loop-test .taken), c .before .before .before .before .before .before .before .before .before .before .before .before .before .before .before .pre .1 .0 .ends (c .before .before .before .before .before .loop .g + 1) (omega (arith, c .before .before .before .before .loop-test .taken)))
+mul-group c =
+    let b15 = c .before .before .before .before .before .before .before .before .before .before .before .before .before .before .before in
+    omega (arith, b15 .good, b15 .pre .1 .0 .rise _ (c .before .before .before .before .loop-test .taken), b15 .pre .1 .0 .ends (c .before .before .before .before .before .loop .g + 1) (omega (arith, c .before .before .before .before .loop-test .taken)))
 
 sub-group : tie.Need-sub-group Inv-loop μ-loop
 sub-group c = omega (arith, c .before .before .before .before .before .before .before .before .before .before .before .before .before .before .before .pre .1 .0 .rise _ (c .before .before .before .before .loop-test .taken))
@@ -74,7 +88,9 @@ part-group-end : tie.Need-part-group-end Inv-loop μ-loop
 part-group-end c = c .before .before .before .before .before .before .before .before .before .before .before .before .before .before .before .pre .1 .0 .ends (c .before .before .before .before .before .loop .g + 1) (omega (arith, c .before .before .before .before .loop-test .taken))
 
 mul-tris : tie.Need-mul-tris Inv-loop μ-loop
-mul-tris c = omega (arith, c .before .before .before .before .before .before .before .before .before .before .before .before .before .before .before .before .good, c .before .before .before .before .before .before .before .before .before .before .before .before .before .before .before .before .pre .1 .1 .0 .fenced .rise _ (c .before .before .before .before .before .loop-test .taken), c .before .before .before .before .before .before .before .before .before .before .before .before .before .before .before .before .pre .1 .1 .0 .fenced .ends (c .before .before .before .before .before .before .loop .g + 1) (omega (arith, c .before .before .before .before .before .loop-test .taken)))
+mul-tris c =
+    let b16 = c .before .before .before .before .before .before .before .before .before .before .before .before .before .before .before .before in
+    omega (arith, b16 .good, b16 .pre .1 .1 .0 .fenced .rise _ (c .before .before .before .before .before .loop-test .taken), b16 .pre .1 .1 .0 .fenced .ends (c .before .before .before .before .before .before .loop .g + 1) (omega (arith, c .before .before .before .before .before .loop-test .taken)))
 
 sub-tris : tie.Need-sub-tris Inv-loop μ-loop
 sub-tris c = omega (arith, c .before .before .before .before .before .before .before .before .before .before .before .before .before .before .before .before .pre .1 .1 .0 .fenced .rise _ (c .before .before .before .before .before .loop-test .taken))
@@ -87,37 +103,50 @@ part-tris-end c = c .before .before .before .before .before .before .before .bef
 
 plane-row-requires : tie.Need-plane-row-requires Inv-loop μ-loop
 plane-row-requires c κs =
-    let p = c .before .before .before .before .before .before .before .before .before .before .before .before .before .before .before .before .before .pre in
+    let b7 = c .before .before .before .before .before .before .before in
+    let b17 = b7 .before .before .before .before .before .before .before .before .before .before in
+    let p = b17 .pre in
     let t = c .before .before .before .before .before .before .loop-test .taken in
     let rise = p .1 .0 .rise _ t in
-    let ends = p .1 .0 .ends (c .before .before .before .before .before .before .before .loop .g + 1) (omega (arith, t)) in
-    let long = part-length (c .before .before .before .before .before .before .before .before .before .before .before .before .before .before .before .before .before .args .queue .now) (getD (c .before .before .before .before .before .before .before .before .before .before .before .before .before .before .before .before .before .args .offsets .now) (c .before .before .before .before .before .before .before .loop .g) 0) (getD (c .before .before .before .before .before .before .before .before .before .before .before .before .before .before .before .before .before .args .offsets .now) (c .before .before .before .before .before .before .before .loop .g + 1) 0) ends in
+    let ends = p .1 .0 .ends (b7 .loop .g + 1) (omega (arith, t)) in
+    let long = part-length (b17 .args .queue .now) (getD (b17 .args .offsets .now) (b7 .loop .g) 0) (getD (b17 .args .offsets .now) (b7 .loop .g + 1) 0) ends in
     (p .0 .0, (p .0 .1, (p .0 .2, (p .1 .0 .below _ t, (omega arith, p .1 .1 .0 .below _ t)))))
 
 put-plane-requires : tie.Need-put-plane-requires Inv-loop μ-loop
 put-plane-requires c κs =
-    let a = c .before .before .before .before .before .before .before .before .before .before .before .before .before .before .before .before .before .before .before .before .args in
-    let g = c .before .before .before .before .before .before .before .before .before .before .loop .g in
-    let p = c .before .before .before .before .before .before .before .before .before .before .before .before .before .before .before .before .before .before .before .before .pre in
+    let b10 = c .before .before .before .before .before .before .before .before .before .before in
+    let b20 = b10 .before .before .before .before .before .before .before .before .before .before in
+    let a = b20 .args in
+    let g = b10 .loop .g in
+    let p = b20 .pre in
     let t = c .before .before .before .before .before .before .before .before .before .loop-test .taken in
-    let i = c .before .before .before .before .before .before .before .before .before .before .loop .inv in
+    let i = b10 .loop .inv in
     let r = p .1 .1 .0 in
     let rise = r .fenced .rise _ t in
-    let ends = r .fenced .ends (c .before .before .before .before .before .before .before .before .before .before .loop .g + 1) (omega (arith, t)) in
+    let ends = r .fenced .ends (b10 .loop .g + 1) (omega (arith, t)) in
     let low = c .before .before .before .before .before .before .shared-slice-known10 .given g in
     let high = c .before .before .before .before .before .shared-slice-known11 .given (g + 1) in
-    let long = part-length (c .before .before .before .before .before .before .before .before .before .before .before .before .before .before .before .before .before .before .before .before .args .plane-triangles .now) (getD (c .before .before .before .before .before .before .before .before .before .before .before .before .before .before .before .before .before .before .before .before .args .mstarts .now) (c .before .before .before .before .before .before .before .before .before .before .loop .g) 0) (getD (c .before .before .before .before .before .before .before .before .before .before .before .before .before .before .before .before .before .before .before .before .args .mstarts .now) (c .before .before .before .before .before .before .before .before .before .before .loop .g + 1) 0) ends in
-    (omega (arith, p .1 .1 .1 .0, t, i .len-floats), (omega (arith, p .1 .1 .1 .1, t, i .len-words), row-small (triangleAtOf (a .triangles .now) (a .handles .now) (a .n)) (a .rows .now) (groupIn (a .queue .now) (a .offsets .now) g) (groupIn (a .plane-triangles .now) (a .mstarts .now) g) (getD (a .mstarts .now) g 0) (c .before .before .plane-row .result) (c .before .before .plane-row .ensures) (omega arith) (omega arith)))
+    let long = part-length (b20 .args .plane-triangles .now) (getD (b20 .args .mstarts .now) (b10 .loop .g) 0) (getD (b20 .args .mstarts .now) (b10 .loop .g + 1) 0) ends in (
+      omega (arith, p .1 .1 .1 .0, t, i .len-floats),
+      (
+        omega (arith, p .1 .1 .1 .1, t, i .len-words),
+        row-small (triangleAtOf (a .triangles .now) (a .handles .now) (a .n)) (a .rows .now) (groupIn (a .queue .now) (a .offsets .now) g) (groupIn (a .plane-triangles .now) (a .mstarts .now) g) (getD (a .mstarts .now) g 0) (c .before .before .plane-row .result)
+            (c .before .before .plane-row .ensures) (omega arith) (omega arith),
+      ),
+    )
 
 add-g : tie.Need-add-g Inv-loop μ-loop
-add-g c = omega (arith, c .before .before .before .before .before .before .before .before .before .before .before .before .before .before .before .before .before .before .before .before .before .before .before .before .before .good, c .before .before .before .before .before .before .before .before .before .before .before .before .before .before .before .before .before .before .before .before .before .before .before .before .before .pre .1 .0 .long, c .before .before .before .before .before .before .before .before .before .before .before .before .before .before .loop-test .taken)
+add-g c =
+    let b25 = c .before .before .before .before .before .before .before .before .before .before .before .before .before .before .before .before .before .before .before .before .before .before .before .before .before in
+    omega (arith, b25 .good, b25 .pre .1 .0 .long, c .before .before .before .before .before .before .before .before .before .before .before .before .before .before .loop-test .taken)
 
 loop-less : tie.Need-loop-less Inv-loop μ-loop
 loop-less c = omega (arith, c .before .before .before .before .before .before .before .before .before .before .before .before .before .before .loop-test .taken)
 
 loop-again : tie.Need-loop-again Inv-loop μ-loop
 unfolding planeRowIn
-loop-again c = placed-more _ _ _ _ _ _ _ _ _ (c .before .before .before .before .before .before .before .before .before .before .before .before .before .before .before .loop .inv) (c .before .before .before .before .before .before .before .before .before .before .before .before .before .before .loop-test .taken) (c .before .before .before .before .put-plane .kept .0) (c .before .before .before .before .put-plane .kept .1 .0) (c .before .before .before .before .put-plane .ensures .0 ∙ c .before .before .before .before .before .before .before .plane-row .ensures) (c .before .before .before .before .put-plane .ensures .1)
+loop-again c = placed-more _ _ _ _ _ _ _ _ _ (c .before .before .before .before .before .before .before .before .before .before .before .before .before .before .before .loop .inv) (c .before .before .before .before .before .before .before .before .before .before .before .before .before .before .loop-test .taken) (c .before .before .before .before .put-plane .kept .0)
+    (c .before .before .before .before .put-plane .kept .1 .0) (c .before .before .before .before .put-plane .ensures .0 ∙ c .before .before .before .before .before .before .before .plane-row .ensures) (c .before .before .before .before .put-plane .ensures .1)
 
 same-length : tie.Need-same-length Inv-loop μ-loop
 same-length c = c .before .loop .inv .len-floats

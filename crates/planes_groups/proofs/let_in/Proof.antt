@@ -36,8 +36,13 @@ slice-read-if1 c =
 
 loop-again : tie.Need-loop-again Inv-loop μ-loop
 loop-again c =
-    let st = c .before .before .before .before .before .before .before .before .before .before .before .before .before in let lp = c .before .before .before .before .loop in
-    (omega arith, lp .inv .1, lp .inv .2, let-taken (st .args .np) (takesIn (st .args .triangles .now) (st .args .handles .now) (st .args .n) (st .args .rows .now) (st .args .tsorted .now) (st .args .tstarts .now) (st .args .least) (st .args .most) (st .args .seed)) (st .args .mark) (st .pre .1 .1 .1 .0 .1) (st .args .row .now) (st .args .assigned .now) (st .args .queue .now) (st .args .from) (lp .assigned) (lp .queue) (lp .tail) (lp .i) (lp .inv .3) (c .before .before .before .loop-test .taken) (c .if1 .taken))
+    let st = c .before .before .before .before .before .before .before .before .before .before .before .before .before in let lp = c .before .before .before .before .loop in (
+      omega arith,
+      lp .inv .1,
+      lp .inv .2,
+      let-taken (st .args .np) (takesIn (st .args .triangles .now) (st .args .handles .now) (st .args .n) (st .args .rows .now) (st .args .tsorted .now) (st .args .tstarts .now) (st .args .least) (st .args .most) (st .args .seed)) (st .args .mark) (st .pre .1 .1 .1 .0 .1) (st .args .row .now) (st .args .assigned .now) (st .args .queue .now)
+          (st .args .from) (lp .assigned) (lp .queue) (lp .tail) (lp .i) (lp .inv .3) (c .before .before .before .loop-test .taken) (c .if1 .taken),
+    )
 
 takes-requires : tie.Need-takes-requires Inv-loop μ-loop
 takes-requires c κs =
@@ -57,28 +62,42 @@ slice-write-assigned c =
 mul-queue : tie.Need-mul-queue Inv-loop μ-loop
 mul-queue c =
     let st = c .before .before .before .before .before .before .before .before .before .before .before .before .before .before .before in let lp = c .before .before .before .before .before .before .loop in
-    let b = low-below (st .args .np) (st .args .row .now) (lp .i) (st .pre .1 .1 .1 .1 .0) (c .before .before .before .before .before .loop-test .taken) in let r = let-room (st .args .np) (takesIn (st .args .triangles .now) (st .args .handles .now) (st .args .n) (st .args .rows .now) (st .args .tsorted .now) (st .args .tstarts .now) (st .args .least) (st .args .most) (st .args .seed)) (st .args .mark) (st .pre .1 .1 .1 .0 .1) (st .args .row .now) (st .args .assigned .now) (st .args .queue .now) (st .args .from) (lp .assigned) (lp .queue) (lp .tail) (lp .i) (lp .inv .3) (c .before .before .before .before .before .loop-test .taken) b (c .before .before .if1 .left) in let w = lp .inv .3 .queue-is .room in omega (arith, r, w, lp .inv .2)
+    let b = low-below (st .args .np) (st .args .row .now) (lp .i) (st .pre .1 .1 .1 .1 .0) (c .before .before .before .before .before .loop-test .taken) in let r = let-room (st .args .np) (takesIn (st .args .triangles .now) (st .args .handles .now) (st .args .n) (st .args .rows .now) (st .args .tsorted .now) (st .args .tstarts .now) (st .args .least) (st .args .most)
+    (st .args .seed)) (st .args .mark) (st .pre .1 .1 .1 .0 .1) (st .args .row .now) (st .args .assigned .now) (st .args .queue .now) (st .args .from) (lp .assigned) (lp .queue) (lp .tail) (lp .i) (lp .inv .3) (c .before .before .before .before .before .loop-test .taken) b (c .before .before .if1 .left) in let w = lp .inv .3 .queue-is .room in omega (arith, r, w, lp .inv .2)
 
 slice-write-queue : tie.Need-slice-write-queue Inv-loop μ-loop
 slice-write-queue c =
     let st = c .before .before .before .before .before .before .before .before .before .before .before .before .before .before .before in let lp = c .before .before .before .before .before .before .loop in
-    let b = low-below (st .args .np) (st .args .row .now) (lp .i) (st .pre .1 .1 .1 .1 .0) (c .before .before .before .before .before .loop-test .taken) in let r = let-room (st .args .np) (takesIn (st .args .triangles .now) (st .args .handles .now) (st .args .n) (st .args .rows .now) (st .args .tsorted .now) (st .args .tstarts .now) (st .args .least) (st .args .most) (st .args .seed)) (st .args .mark) (st .pre .1 .1 .1 .0 .1) (st .args .row .now) (st .args .assigned .now) (st .args .queue .now) (st .args .from) (lp .assigned) (lp .queue) (lp .tail) (lp .i) (lp .inv .3) (c .before .before .before .before .before .loop-test .taken) b (c .before .before .if1 .left) in let w = lp .inv .3 .queue-is .room in omega (arith, r, w)
+    let b = low-below (st .args .np) (st .args .row .now) (lp .i) (st .pre .1 .1 .1 .1 .0) (c .before .before .before .before .before .loop-test .taken) in let r = let-room (st .args .np) (takesIn (st .args .triangles .now) (st .args .handles .now) (st .args .n) (st .args .rows .now) (st .args .tsorted .now) (st .args .tstarts .now) (st .args .least) (st .args .most)
+    (st .args .seed)) (st .args .mark) (st .pre .1 .1 .1 .0 .1) (st .args .row .now) (st .args .assigned .now) (st .args .queue .now) (st .args .from) (lp .assigned) (lp .queue) (lp .tail) (lp .i) (lp .inv .3) (c .before .before .before .before .before .loop-test .taken) b (c .before .before .if1 .left) in let w = lp .inv .3 .queue-is .room in omega (arith, r, w)
 
 add-tail : tie.Need-add-tail Inv-loop μ-loop
 add-tail c =
     let st = c .before .before .before .before .before .before .before .before .before .before .before .before .before .before .before in let lp = c .before .before .before .before .before .before .loop in
-    let b = low-below (st .args .np) (st .args .row .now) (lp .i) (st .pre .1 .1 .1 .1 .0) (c .before .before .before .before .before .loop-test .taken) in let r = let-room (st .args .np) (takesIn (st .args .triangles .now) (st .args .handles .now) (st .args .n) (st .args .rows .now) (st .args .tsorted .now) (st .args .tstarts .now) (st .args .least) (st .args .most) (st .args .seed)) (st .args .mark) (st .pre .1 .1 .1 .0 .1) (st .args .row .now) (st .args .assigned .now) (st .args .queue .now) (st .args .from) (lp .assigned) (lp .queue) (lp .tail) (lp .i) (lp .inv .3) (c .before .before .before .before .before .loop-test .taken) b (c .before .before .if1 .left) in omega (arith, r)
+    let b = low-below (st .args .np) (st .args .row .now) (lp .i) (st .pre .1 .1 .1 .1 .0) (c .before .before .before .before .before .loop-test .taken) in let r = let-room (st .args .np) (takesIn (st .args .triangles .now) (st .args .handles .now) (st .args .n) (st .args .rows .now) (st .args .tsorted .now) (st .args .tstarts .now) (st .args .least) (st .args .most)
+    (st .args .seed)) (st .args .mark) (st .pre .1 .1 .1 .0 .1) (st .args .row .now) (st .args .assigned .now) (st .args .queue .now) (st .args .from) (lp .assigned) (lp .queue) (lp .tail) (lp .i) (lp .inv .3) (c .before .before .before .before .before .loop-test .taken) b (c .before .before .if1 .left) in omega (arith, r)
 
 loop-again-2 : tie.Need-loop-again-2 Inv-loop μ-loop
 loop-again-2 c =
     let st = c .before .before .before .before .before .before .before .before .before .before .before .before .before .before .before in let lp = c .before .before .before .before .before .before .loop in
-    let b = low-below (st .args .np) (st .args .row .now) (lp .i) (st .pre .1 .1 .1 .1 .0) (c .before .before .before .before .before .loop-test .taken) in
-    (omega arith, length-set (lp .assigned) (getD (st .args .row .now) (lp .i) 0 % 4096) (st .args .mark) ∙ lp .inv .1, length-set (lp .queue) (lp .tail) (getD (st .args .row .now) (lp .i) 0 % 4096) ∙ lp .inv .2, let-more (st .args .np) (takesIn (st .args .triangles .now) (st .args .handles .now) (st .args .n) (st .args .rows .now) (st .args .tsorted .now) (st .args .tstarts .now) (st .args .least) (st .args .most) (st .args .seed)) (st .args .mark) (st .pre .1 .1 .1 .0 .1) (st .args .row .now) (st .args .assigned .now) (st .args .queue .now) (st .args .from) (lp .assigned) (lp .queue) (lp .tail) (lp .i) (lp .inv .3) (c .before .before .before .before .before .loop-test .taken) b (c .before .before .if1 .left) (sym (c .before .takes .ensures) ∙ c .if2 .taken))
+    let b = low-below (st .args .np) (st .args .row .now) (lp .i) (st .pre .1 .1 .1 .1 .0) (c .before .before .before .before .before .loop-test .taken) in (
+      omega arith,
+      length-set (lp .assigned) (getD (st .args .row .now) (lp .i) 0 % 4096) (st .args .mark) ∙ lp .inv .1,
+      length-set (lp .queue) (lp .tail) (getD (st .args .row .now) (lp .i) 0 % 4096) ∙ lp .inv .2,
+      let-more (st .args .np) (takesIn (st .args .triangles .now) (st .args .handles .now) (st .args .n) (st .args .rows .now) (st .args .tsorted .now)
+          (st .args .tstarts .now) (st .args .least) (st .args .most) (st .args .seed)) (st .args .mark) (st .pre .1 .1 .1 .0 .1) (st .args .row .now) (st .args .assigned .now) (st .args .queue .now) (st .args .from) (lp .assigned) (lp .queue) (lp .tail) (lp .i) (lp .inv .3) (c .before .before .before .before .before .loop-test .taken) b (c .before .before .if1 .left) (sym
+          (c .before .takes .ensures) ∙ c .if2 .taken),
+    )
 
 loop-again-3 : tie.Need-loop-again-3 Inv-loop μ-loop
 loop-again-3 c =
-    let st = c .before .before .before .before .before .before .before .before .before .before .before .before .before .before .before in let lp = c .before .before .before .before .before .before .loop in
-    (omega arith, lp .inv .1, lp .inv .2, let-unfit (st .args .np) (takesIn (st .args .triangles .now) (st .args .handles .now) (st .args .n) (st .args .rows .now) (st .args .tsorted .now) (st .args .tstarts .now) (st .args .least) (st .args .most) (st .args .seed)) (st .args .mark) (st .pre .1 .1 .1 .0 .1) (st .args .row .now) (st .args .assigned .now) (st .args .queue .now) (st .args .from) (lp .assigned) (lp .queue) (lp .tail) (lp .i) (lp .inv .3) (c .before .before .before .before .before .loop-test .taken) (sym (c .before .takes .ensures) ∙ c .if2 .left))
+    let st = c .before .before .before .before .before .before .before .before .before .before .before .before .before .before .before in let lp = c .before .before .before .before .before .before .loop in (
+      omega arith,
+      lp .inv .1,
+      lp .inv .2,
+      let-unfit (st .args .np) (takesIn (st .args .triangles .now) (st .args .handles .now) (st .args .n) (st .args .rows .now) (st .args .tsorted .now) (st .args .tstarts .now) (st .args .least) (st .args .most) (st .args .seed)) (st .args .mark) (st .pre .1 .1 .1 .0 .1) (st .args .row .now) (st .args .assigned .now) (st .args .queue .now)
+          (st .args .from) (lp .assigned) (lp .queue) (lp .tail) (lp .i) (lp .inv .3) (c .before .before .before .before .before .loop-test .taken) (sym (c .before .takes .ensures) ∙ c .if2 .left),
+    )
 
 same-length : tie.Need-same-length Inv-loop μ-loop
 same-length c = c .before .loop .inv .1
@@ -89,8 +108,14 @@ same-length-2 c = c .before .loop .inv .2
 returns : tie.Need-returns Inv-loop μ-loop
 returns c =
     let st = c .before .before .before .before .before .before .before .before .before .before in let lp = c .before .loop in
-    let m = lp .inv .3 in
-    (m .rise, (m .queue-is, let-done (st .args .np) (takesIn (st .args .triangles .now) (st .args .handles .now) (st .args .n) (st .args .rows .now) (st .args .tsorted .now) (st .args .tstarts .now) (st .args .least) (st .args .most) (st .args .seed)) (st .args .mark) (st .pre .1 .1 .1 .0 .1) (st .args .row .now) (st .args .assigned .now) (st .args .queue .now) (st .args .from) (lp .assigned) (lp .queue) (lp .tail) (lp .i) m (c .loop-test .left) (st .pre .1 .1 .1 .1 .1 .column)))
+    let m = lp .inv .3 in (
+      m .rise,
+      (
+        m .queue-is,
+        let-done (st .args .np) (takesIn (st .args .triangles .now) (st .args .handles .now) (st .args .n) (st .args .rows .now) (st .args .tsorted .now) (st .args .tstarts .now) (st .args .least) (st .args .most) (st .args .seed)) (st .args .mark) (st .pre .1 .1 .1 .0 .1) (st .args .row .now) (st .args .assigned .now) (st .args .queue .now)
+            (st .args .from) (lp .assigned) (lp .queue) (lp .tail) (lp .i) m (c .loop-test .left) (st .pre .1 .1 .1 .1 .1 .column),
+      ),
+    )
 
 pub let-in-spec : {M : Type 1} → statement M
 let-in-spec =

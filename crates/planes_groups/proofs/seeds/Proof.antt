@@ -32,7 +32,8 @@ sort-by-key-requires c κs =
 same-length-4 : tie.Need-same-length-4
 same-length-4 c =
     let sk = c .before .before .before .before .before .before .before .before .before .before .before .before .before .before .before .seed-keys in
-    length-front (sk .last .1 .1 .1 .1 .1 .0) (c .before .before .before .before .before .before .sort-by-key .last .1 .0) (c .before .before .before .before .before .before .before .before .before .before .before .before .before .before .before .before .before .before .before .before .before .before .before .before .before .args .np) (c .before .before .before .before .before .before .sort-by-key .kept .1 .0) ∙ sk .kept .1 .1 .1 .1 .1 .0
+    length-front (sk .last .1 .1 .1 .1 .1 .0) (c .before .before .before .before .before .before .sort-by-key .last .1 .0) (c .before .before .before .before .before .before .before .before .before .before .before .before .before .before .before .before .before .before .before .before .before .before .before .before .before .args .np)
+    (c .before .before .before .before .before .before .sort-by-key .kept .1 .0) ∙ sk .kept .1 .1 .1 .1 .1 .0
 
 returns : tie.Need-returns
 returns c =

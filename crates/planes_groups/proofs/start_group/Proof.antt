@@ -56,7 +56,8 @@ returns c =
       (
         c .before .before .before .before .grow .ensures .1 .0,
         λ adj rows.
-            seed-grown (st .args .np) adj (takesIn (st .args .triangles .now) (st .args .handles .now) (st .args .n) (st .args .rows .now) (st .args .tsorted .now) (st .args .tstarts .now) (st .args .least) (st .args .most) (st .args .seed)) (st .args .mark) (st .pre .1 .1 .1 .0 .1) (st .args .assigned .now) (st .args .queue .now) (st .args .from) (st .args .seed) (st .pre .1 .1 .1 .1 .1 .0) (st .pre .1 .1 .1 .0 .0) (st .pre .1 .1 .1 .1 .1 .1)
+            seed-grown (st .args .np) adj (takesIn (st .args .triangles .now) (st .args .handles .now) (st .args .n) (st .args .rows .now) (st .args .tsorted .now) (st .args .tstarts .now) (st .args .least) (st .args .most) (st .args .seed)) (st .args .mark) (st .pre .1 .1 .1 .0 .1) (st .args .assigned .now) (st .args .queue .now) (st .args .from) (st .args .seed)
+            (st .pre .1 .1 .1 .1 .1 .0) (st .pre .1 .1 .1 .0 .0) (st .pre .1 .1 .1 .1 .1 .1)
             (c .before .before .before .before .grow .last .1 .1 .1 .1 .1 .1 .1 .1 .1 .1 .1 .1 .1 .0) (c .before .before .before .before .grow .last .1 .1 .1 .1 .1 .1 .1 .1 .1 .1 .1 .1 .1 .1 .0) (c .before .before .before .before .grow .result) (c .before .before .before .before .grow .ensures .1 .1 adj rows),
       ),
     )

@@ -38,7 +38,8 @@ returns c =
     let s = c .before .before .before .before .before .before .before .before .before .before .before .before .before .before .before .before .before .before .before .before .before .before .before .before .before .before .before .before .before .before in
     let k = c .before .before .before .before .before .before .before .before .before .before .before .before .before .before .before .put-keys .ensures in
     let box = c .before .before .before .before .before .before .before .before .before .before .before .before .before .before .before .before .before .before .before .before .scene-box .ensures in
-    let keys = k .1 _ (c .before .before .before .before .before .before .before .before .before .before .before .before .before .before .before .before .before .before .before .centre .ensures ∙ ap centreOf box) (c .before .before .before .before .before .before .before .before .before .before .before .before .before .before .before .before .before .before .half-diag .ensures ∙ ap halfDiagOf box) in
+    let keys = k .1 _ (c .before .before .before .before .before .before .before .before .before .before .before .before .before .before .before .before .before .before .before .centre .ensures ∙ ap centreOf box)
+    (c .before .before .before .before .before .before .before .before .before .before .before .before .before .before .before .before .before .before .half-diag .ensures ∙ ap halfDiagOf box) in
     (c .before .before .before .before .before .before .sort-by-key .ensures .0 ∙ ranking-is _ _ _ _ _ _ _ _ (s .pre .1 .1 .1 .0) _ _ keys (k .0), (same-length c, same-length-3 c, same-length-4 c))
 
 pub rank-planes-spec : {M : Type 1} → statement M

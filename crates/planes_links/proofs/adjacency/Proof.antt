@@ -36,8 +36,17 @@ make-rows-requires-2 c κs =
     let q = p .1 .1 .1 .1 .1 .1 .1 in
     let k = lr .ensures .0 in
     let r = c .before .before .before .before .before .before .before .before .before .before .before .before .before .before .before .before .before .before .make-rows .kept in
-    let v = r .1 .1 .1 .1 .0 in
-    (omega (arith, k, v, q .0, q .1 .1 .0, r .0, c .before .before .before .before .before .before .before .before .before .before .before .before .before .before .before .before .before .before .before .before .before .before .before .before .before .vertex-words .kept .1 .1 .1 .1 .1 .0, lr .kept .1 .1 .1 .0), (omega (arith, k, v, q .0, q .1 .1 .1 .0, r .1 .1 .0), (omega (arith, k, v, q .0, q .1 .1 .1 .1 .0), (omega (arith, k, v, q .0, p .1 .0), (omega (arith, p .0), q .1 .1 .1 .1 .1)))))
+    let v = r .1 .1 .1 .1 .0 in (
+      omega (arith, k, v, q .0, q .1 .1 .0, r .0, c .before .before .before .before .before .before .before .before .before .before .before .before .before .before .before .before .before .before .before .before .before .before .before .before .before .vertex-words .kept .1 .1 .1 .1 .1 .0, lr .kept .1 .1 .1 .0),
+      (
+        omega (arith, k, v, q .0, q .1 .1 .1 .0, r .1 .1 .0),
+        (
+          omega
+              (arith, k, v, q .0, q .1 .1 .1 .1 .0),
+          (omega (arith, k, v, q .0, p .1 .0), (omega (arith, p .0), q .1 .1 .1 .1 .1)),
+        ),
+      ),
+    )
 
 same-length : tie.Need-same-length
 same-length c = search needs
@@ -53,12 +62,15 @@ same-length-4 c = search needs
 
 returns : tie.Need-returns
 returns c =
-    let st = c .before .before .before .before .before .before .before .before .before .before .before .before .before .before .before .before .before .before .before .before .before .before .before .before .before .before .before .before .before .before .before .before .before .before .before .before .before .before .before .before .before .before .before .before in let mr = c .before .before .before .before .before .before .before .before .before .before .before .before .before .before .before .before .before .before .before .before .before .before .before .before .before .before .before .make-rows in let vw = c .before .before .before .before .before .before .before .before .before .before .before .before .before .before .before .before .before .before .before .before .before .before .before .before .before .before .before .before .before .before .before .before .before .before .vertex-words in let lr = c .before .before .before .before .before .before .before .before .before .before .before .before .before .before .before .link-rows in
+    let b8 = c .before .before .before .before .before .before .before .before in
+    let st = c .before .before .before .before .before .before .before .before .before .before .before .before .before .before .before .before .before .before .before .before .before .before .before .before .before .before .before .before .before .before .before .before .before .before .before .before .before .before .before .before .before .before .before
+    .before in let mr = c .before .before .before .before .before .before .before .before .before .before .before .before .before .before .before .before .before .before .before .before .before .before .before .before .before .before .before .make-rows in let vw = c .before .before .before .before .before .before .before .before .before .before .before .before
+    .before .before .before .before .before .before .before .before .before .before .before .before .before .before .before .before .before .before .before .before .before .before .vertex-words in let lr = c .before .before .before .before .before .before .before .before .before .before .before .before .before .before .before .link-rows in
     let a = st .args in (
-      c .before .before .before .before .before .before .before .before .make-rows2 .ensures .bounds,
+      b8 .make-rows2 .ensures .bounds,
       (
         λ p h.
-            c .before .before .before .before .before .before .before .before .make-rows2 .ensures .are p h
+            b8 .make-rows2 .ensures .are p h
             ∙ joined-is (a .numbers .now) (a .n) (a .of .now) (a .m) (a .np) (a .vertices) (rowIn (mr .last .1 .1 .1 .1 .0) (mr .last .1 .1 .1 .1 .1 .0)) (lr .last .1 .1 .1 .0) (lr .result) p (lr .ensures .1)
             (λ v l. mr .ensures .are v l ∙ run-is (a .numbers .now) (a .n) (a .of .now) (a .m) (a .np) (vw .last .1 .1 .1 .1 .1 .0) (vw .result) v (vw .ensures .1))
             ∙ joined-cut (a .numbers .now) (a .n) (a .of .now) (a .m) (a .np) (a .vertices) p (st .pre .0),

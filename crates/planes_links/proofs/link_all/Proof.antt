@@ -24,8 +24,13 @@ link-from-requires c κs = (omega arith, omega (arith, c .before .before .before
 
 loop-again : tie.Need-loop-again Inv-loop μ-loop
 loop-again c =
-    let st = c .before .before .before .before .before .before .before .before .before in let lp = c .before .before .before .before .before .before .loop in
-    (omega arith, omega (arith, c .before .before .link-from .ensures .0), c .before .before .link-from .kept .1 .1 .0 ∙ lp .inv .2, all-more (st .args .row .now) (st .args .words .now) (st .args .from) (lp .words) (c .before .before .link-from .last .1 .1 .0) (lp .k) (c .before .before .link-from .result) (lp .i) (c .before .before .before .before .before .loop-test .taken) (lp .inv .3) (c .before .before .link-from .ensures .1))
+    let st = c .before .before .before .before .before .before .before .before .before in let lp = c .before .before .before .before .before .before .loop in (
+      omega arith,
+      omega (arith, c .before .before .link-from .ensures .0),
+      c .before .before .link-from .kept .1 .1 .0 ∙ lp .inv .2,
+      all-more (st .args .row .now) (st .args .words .now) (st .args .from) (lp .words) (c .before .before .link-from .last .1 .1 .0) (lp .k) (c .before .before .link-from .result) (lp .i) (c .before .before .before .before .before .loop-test .taken)
+          (lp .inv .3) (c .before .before .link-from .ensures .1),
+    )
 
 same-length : tie.Need-same-length Inv-loop μ-loop
 same-length c = c .before .loop .inv .2

@@ -30,8 +30,13 @@ push-requires c κs = (omega (arith, c .before .before .before .before .loop .in
 
 loop-again-2 : tie.Need-loop-again-2 Inv-loop μ-loop
 loop-again-2 c =
-    let st = c .before .before .before .before .before .before .before .before .before .before in let lp = c .before .before .before .before .before .before .before .loop in
-    (omega arith, omega (arith, c .before .before .push .ensures .0), c .before .before .push .kept .0 ∙ lp .inv .2, from-more (st .args .p) (st .args .row .now) (st .args .words .now) (st .args .from) (lp .words) (lp .k) (lp .j) (lp .inv .3) (c .before .before .before .before .before .before .loop-test .taken) (c .before .before .before .before .if1 .left) (c .before .before .push .last .0) (c .before .before .push .result) (c .before .before .push .ensures .1))
+    let st = c .before .before .before .before .before .before .before .before .before .before in let lp = c .before .before .before .before .before .before .before .loop in (
+      omega arith,
+      omega (arith, c .before .before .push .ensures .0),
+      c .before .before .push .kept .0 ∙ lp .inv .2,
+      from-more (st .args .p) (st .args .row .now) (st .args .words .now) (st .args .from) (lp .words) (lp .k) (lp .j) (lp .inv .3) (c .before .before .before .before .before .before .loop-test .taken) (c .before .before .before .before .if1 .left)
+          (c .before .before .push .last .0) (c .before .before .push .result) (c .before .before .push .ensures .1),
+    )
 
 same-length : tie.Need-same-length Inv-loop μ-loop
 same-length c = c .before .loop .inv .2

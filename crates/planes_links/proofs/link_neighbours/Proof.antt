@@ -28,7 +28,8 @@ loop-again c =
       omega arith,
       omega (arith, c .before .before .before .before .before .before .push .ensures .0, c .before .before .push2 .ensures .0),
       c .before .before .push2 .kept .0 ∙ c .before .before .before .before .before .before .push .kept .0 ∙ lp .inv .2,
-      next-more (st .args .row .now) (st .args .words .now) (st .args .from) (lp .words) (c .before .before .before .before .before .before .push .last .0) (c .before .before .push2 .last .0) (lp .k) (c .before .before .before .before .before .before .push .result) (c .before .before .push2 .result) (lp .i) (c .before .before .before .before .before .before .before .before .before .before .loop-test .taken) (c .before .before .before .before .before .before .push .ensures .1) (c .before .before .push2 .ensures .1) (lp .inv .3),
+      next-more (st .args .row .now) (st .args .words .now) (st .args .from) (lp .words) (c .before .before .before .before .before .before .push .last .0) (c .before .before .push2 .last .0) (lp .k) (c .before .before .before .before .before .before .push .result) (c .before .before .push2 .result) (lp .i)
+          (c .before .before .before .before .before .before .before .before .before .before .loop-test .taken) (c .before .before .before .before .before .before .push .ensures .1) (c .before .before .push2 .ensures .1) (lp .inv .3),
     )
 
 same-length : tie.Need-same-length Inv-loop μ-loop

@@ -27,8 +27,9 @@ same-length-2 c = search needs
 
 returns : tie.Need-returns
 returns c =
+    let b15 = c .before .before .before .before .before .before .before .before .before .before .before .before .before .before .before in
     let st = c .before .before .before .before .before .before .before .before .before .before .before .before .before .before .before .before .before .before .before .before .before .before in let mr = c .before .before .before .before .before .before .before .before .make-rows in
-    (mr .ensures .bounds, (λ p h. mr .ensures .are p h ∙ patch-row (st .args .of .now) (c .before .before .before .before .before .before .before .before .before .before .before .before .before .before .before .patch-words .last .1 .1 .1 .0) (c .before .before .before .before .before .before .before .before .before .before .before .before .before .before .before .patch-words .result) (st .args .m) (st .args .np) p (c .before .before .before .before .before .before .before .before .before .before .before .before .before .before .before .patch-words .ensures .1) (st .pre .0) (st .pre .1 .1 .0) h, (same-length c, same-length-2 c)))
+    (mr .ensures .bounds, (λ p h. mr .ensures .are p h ∙ patch-row (st .args .of .now) (b15 .patch-words .last .1 .1 .1 .0) (b15 .patch-words .result) (st .args .m) (st .args .np) p (b15 .patch-words .ensures .1) (st .pre .0) (st .pre .1 .1 .0) h, (same-length c, same-length-2 c)))
 
 pub patch-rows-spec : {M : Type 1} → statement M
 patch-rows-spec =

@@ -40,7 +40,8 @@ row-starts-requires c κs =
 
 returns : tie.Need-returns
 returns c =
-    let st = c .before .before .before .before .before .before .before .before .before .before .before .before .before .before .before .before .before .before .before .before .before in let sw = c .before .before .before .before .before .before .before .before .before .before .before .before .before .before .sort-words in let cp = c .before .before .before .before .before .before .before .compact in
+    let st = c .before .before .before .before .before .before .before .before .before .before .before .before .before .before .before .before .before .before .before .before .before in let sw = c .before .before .before .before .before .before .before .before .before .before .before .before .before .before .sort-words in let cp = c .before .before .before .before
+    .before .before .before .compact in
     rows-are (st .args .words .now) (sw .last .0) (cp .last .1 .0) (cp .result) (sw .ensures .0) (cp .ensures .1)
     (c .before .before .row-starts .last .1 .1 .0) (st .args .rows) (omega (arith, cp .ensures .0, cp .kept .1 .0, sw .kept .0, st .pre .1 .0)) (c .before .before .row-starts .ensures)
 

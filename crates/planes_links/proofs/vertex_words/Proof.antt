@@ -31,21 +31,37 @@ push-requires c κs =
 
 push-requires-2 : tie.Need-push-requires-2 Inv-loop μ-loop
 push-requires-2 c κs =
-    let lp = c .before .before .before .before .before .before .before .before .before .before .before .loop in
-    (omega (arith, lp .inv .2, c .before .before .before .push .kept .0, c .before .before .before .push .ensures .0), (c .before .before .before .before .before .before .before .before .before .before .before .before .before .before .before .pre .1 .1 .1 .1 .0 .second (lp .i) (c .before .before .before .before .before .before .before .before .before .before .loop-test .taken), omega (arith, c .before .before .before .before .before .if1 .left)))
+    let lp = c .before .before .before .before .before .before .before .before .before .before .before .loop in (
+      omega (arith, lp .inv .2, c .before .before .before .push .kept .0, c .before .before .before .push .ensures .0),
+      (
+        c .before .before .before .before .before .before .before .before .before .before .before .before .before .before .before .pre .1 .1 .1 .1 .0 .second (lp .i)
+            (c .before .before .before .before .before .before .before .before .before .before .loop-test .taken),
+        omega (arith, c .before .before .before .before .before .if1 .left),
+      ),
+    )
 
 push-requires-3 : tie.Need-push-requires-3 Inv-loop μ-loop
 push-requires-3 c κs =
-    let st = c .before .before .before .before .before .before .before .before .before .before .before .before .before .before .before .before .before .before .before in let lp = c .before .before .before .before .before .before .before .before .before .before .before .before .before .before .before .loop in
-    (omega (arith, lp .inv .2, c .before .before .before .before .before .before .before .push .kept .0, c .before .before .before .before .before .before .before .push .ensures .0, c .before .before .before .push2 .kept .0, c .before .before .before .push2 .ensures .0), (omega (arith, st .pre .1 .1 .1 .1 .0 .third (lp .i) (c .before .before .before .before .before .before .before .before .before .before .before .before .before .before .loop-test .taken), st .pre .1 .1 .1 .1 .0 .second (lp .i) (c .before .before .before .before .before .before .before .before .before .before .before .before .before .before .loop-test .taken)), omega (arith, c .before .before .before .before .before .before .before .before .before .if1 .left)))
+    let b7 = c .before .before .before .before .before .before .before in
+    let b14 = b7 .before .before .before .before .before .before .before in
+    let st = c .before .before .before .before .before .before .before .before .before .before .before .before .before .before .before .before .before .before .before in let lp = c .before .before .before .before .before .before .before .before .before .before .before .before .before .before .before .loop in (
+      omega (arith, lp .inv .2, b7 .push .kept .0, b7 .push .ensures .0, c .before .before .before .push2 .kept .0, c .before .before .before .push2 .ensures .0),
+      (
+        omega (arith, st .pre .1 .1 .1 .1 .0 .third (lp .i) (b14 .loop-test .taken), st .pre .1 .1 .1 .1 .0 .second (lp .i) (b14 .loop-test .taken)),
+        omega
+            (arith, c .before .before .before .before .before .before .before .before .before .if1 .left),
+      ),
+    )
 
 loop-again-2 : tie.Need-loop-again-2 Inv-loop μ-loop
 loop-again-2 c =
+    let b10 = c .before .before .before .before .before .before .before .before .before .before in
     let st = c .before .before .before .before .before .before .before .before .before .before .before .before .before .before .before .before .before .before .before .before .before .before in let lp = c .before .before .before .before .before .before .before .before .before .before .before .before .before .before .before .before .before .before .loop in (
       omega arith,
-      omega (arith, c .before .before .before .before .before .before .before .before .before .before .push .ensures .0, c .before .before .before .before .before .before .push2 .ensures .0, c .before .before .push3 .ensures .0),
-      c .before .before .push3 .kept .0 ∙ c .before .before .before .before .before .before .push2 .kept .0 ∙ c .before .before .before .before .before .before .before .before .before .before .push .kept .0 ∙ lp .inv .2,
-      corner-more (st .args .numbers .now) (st .args .n) (st .args .of .now) (st .args .np) (lp .words) (lp .k) (lp .i) (lp .inv .3) (c .before .before .before .before .before .before .before .before .before .before .push .last .0) (c .before .before .before .before .before .before .push2 .last .0) (c .before .before .push3 .last .0) (c .before .before .before .before .before .before .before .before .before .before .push .result) (c .before .before .before .before .before .before .push2 .result) (c .before .before .push3 .result) (c .before .before .before .before .before .before .before .before .before .before .before .before .if1 .left) (st .pre .0) (c .before .before .before .before .before .before .before .before .before .before .push .ensures .1) (c .before .before .before .before .before .before .push2 .ensures .1) (c .before .before .push3 .ensures .1),
+      omega (arith, b10 .push .ensures .0, c .before .before .before .before .before .before .push2 .ensures .0, c .before .before .push3 .ensures .0),
+      c .before .before .push3 .kept .0 ∙ c .before .before .before .before .before .before .push2 .kept .0 ∙ b10 .push .kept .0 ∙ lp .inv .2,
+      corner-more (st .args .numbers .now) (st .args .n) (st .args .of .now) (st .args .np) (lp .words) (lp .k) (lp .i) (lp .inv .3) (b10 .push .last .0) (c .before .before .before .before .before .before .push2 .last .0) (c .before .before .push3 .last .0) (b10 .push .result) (c .before .before .before .before .before .before .push2 .result)
+          (c .before .before .push3 .result) (c .before .before .before .before .before .before .before .before .before .before .before .before .if1 .left) (st .pre .0) (b10 .push .ensures .1) (c .before .before .before .before .before .before .push2 .ensures .1) (c .before .before .push3 .ensures .1),
     )
 
 same-length : tie.Need-same-length Inv-loop μ-loop

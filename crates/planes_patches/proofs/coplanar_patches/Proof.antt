@@ -17,25 +17,34 @@ abbrev μ-loop : tie.MeasureT-loop
 μ-loop area handles n m first cells₀ heads₀ next₀ rows₀ of₀ np₀ t₀ cells heads next rows of np t = m - t
 
 loop-holds : tie.Need-loop-holds Inv-loop μ-loop
-loop-holds c = let a = c .before .before .before .before .before .before .before .before .before .before .before .before .args in filling-none (trianglesIn (a .triangles .now) (a .handles .now) (a .n) (a .m)) (a .first .now) (a .m) (a .rows .now) (a .of .now) (a .cells .now) (c .before .before .clear-u32 .last .0) (a .next .now) (length (a .heads .now)) (c .before .before .before .before .before .before .before .before .before .before .before .before .pre .1 .0 .0) (c .before .before .clear-u32 .ensures)
+loop-holds c =
+    let b12 = c .before .before .before .before .before .before .before .before .before .before .before .before in
+    let a = b12 .args in filling-none (trianglesIn (a .triangles .now) (a .handles .now) (a .n) (a .m)) (a .first .now) (a .m) (a .rows .now) (a .of .now) (a .cells .now) (c .before .before .clear-u32 .last .0) (a .next .now) (length (a .heads .now)) (b12 .pre .1 .0 .0) (c .before .before .clear-u32 .ensures)
 
 turn-requires : tie.Need-turn-requires Inv-loop μ-loop
-turn-requires c κs = let f = c .before .before .before .before .before .before .loop .inv in let p = c .before .before .before .before .before .before .before .before .before .before .before .before .before .before .before .before .before .before .before .pre .0 in let q = c .before .before .before .before .before .before .before .before .before .before .before .before .before .before .before .before .before .before .before .pre .1 .0 in let h = c .before .before .before .before .before .loop-test .taken in
+turn-requires c κs =
+    let b19 = c .before .before .before .before .before .before .before .before .before .before .before .before .before .before .before .before .before .before .before in
+    let f = c .before .before .before .before .before .before .loop .inv in let p = b19 .pre .0 in let q = b19 .pre .1 .0 in let h = c .before .before .before .before .before .loop-test .taken in
     let lr = f .len-rows in let lo = f .len-of in let lc = f .len-cells in let ln = f .len-next in
     ((p .0, p .1, omega arith, omega arith, omega arith), ((omega arith, omega arith, omega arith, omega arith), f .standing))
 
 add-t : tie.Need-add-t Inv-loop μ-loop
-add-t c = let h = c .before .before .before .before .before .before .before .before .before .before .before .before .before .before .before .before .loop-test .taken in let p = c .before .before .before .before .before .before .before .before .before .before .before .before .before .before .before .before .before .before .before .before .before .before .before .before .before .before .before .before .before .before .pre .0 in omega arith
+add-t c = let h = c .before .before .before .before .before .before .before .before .before .before .before .before .before .before .before .before .loop-test .taken in let p = c .before .before .before .before .before .before .before .before .before .before .before .before .before .before .before .before .before .before .before .before .before .before .before .before
+    .before .before .before .before .before .before .pre .0 in omega arith
 
 loop-less : tie.Need-loop-less Inv-loop μ-loop
 loop-less c = let h = c .before .before .before .before .before .before .before .before .before .before .before .before .before .before .before .before .loop-test .taken in omega arith
 
 loop-again : tie.Need-loop-again Inv-loop μ-loop
-loop-again c = let a = c .before .before .before .before .before .before .before .before .before .before .before .before .before .before .before .before .before .before .before .before .before .before .before .before .before .before .before .before .before .before .args in let l = c .before .before .before .before .before .before .before .before .before .before .before .before .before .before .before .before .before .loop in let ts = trianglesIn (a .triangles .now) (a .handles .now) (a .n) (a .m) in
+loop-again c =
+    let b10 = c .before .before .before .before .before .before .before .before .before .before in
+    let b16 = b10 .before .before .before .before .before .before in
+    let a = c .before .before .before .before .before .before .before .before .before .before .before .before .before .before .before .before .before .before .before .before .before .before .before .before .before .before .before .before .before .before .args in let l = c .before .before .before .before .before .before .before .before .before .before .before .before
+    .before .before .before .before .before .loop in let ts = trianglesIn (a .triangles .now) (a .handles .now) (a .n) (a .m) in
     rw (add-one (l .t)) (filling-more ts (a .first .now) (a .m) (a .rows .now) (a .of .now) (a .cells .now) (a .next .now) (l .rows) (l .of) (l .cells) (l .heads) (l .next) (l .t) (l .np)
-    (c .before .before .before .before .before .before .before .before .before .before .turn .last .1 .1 .1 .1 .1 .1 .0) (c .before .before .before .before .before .before .before .before .before .before .turn .last .1 .1 .1 .1 .1 .1 .1 .1 .1 .1 .0) (c .before .before .before .before .before .before .before .before .before .before .turn .last .1 .1 .1 .1 .1 .1 .1 .0) (c .before .before .before .before .before .before .before .before .before .before .turn .last .1 .1 .1 .1 .1 .1 .1 .1 .0) (c .before .before .before .before .before .before .before .before .before .before .turn .last .1 .1 .1 .1 .1 .1 .1 .1 .1 .0) (c .before .before .before .before .before .before .before .before .before .before .turn .result)
-    (l .inv) (c .before .before .before .before .before .before .before .before .before .before .before .before .before .before .before .before .loop-test .taken) (c .before .before .before .before .before .before .before .before .before .before .turn .kept .1 .1 .1 .1 .1 .1 .0) (c .before .before .before .before .before .before .before .before .before .before .turn .kept .1 .1 .1 .1 .1 .1 .1 .1 .1 .1 .0) (c .before .before .before .before .before .before .before .before .before .before .turn .kept .1 .1 .1 .1 .1 .1 .1 .0) (c .before .before .before .before .before .before .before .before .before .before .turn .kept .1 .1 .1 .1 .1 .1 .1 .1 .1 .0)
-    (c .before .before .before .before .before .before .before .before .before .before .turn .ensures .0) (c .before .before .before .before .before .before .before .before .before .before .turn .ensures .1 .0 ts (triangle-in (a .triangles .now) (a .handles .now) (a .n) (a .m) (l .t) (c .before .before .before .before .before .before .before .before .before .before .before .before .before .before .before .before .loop-test .taken))) (c .before .before .before .before .before .before .before .before .before .before .turn .ensures .1 .1 .0) (c .before .before .before .before .before .before .before .before .before .before .turn .ensures .1 .1 .1))
+    (b10 .turn .last .1 .1 .1 .1 .1 .1 .0) (b10 .turn .last .1 .1 .1 .1 .1 .1 .1 .1 .1 .1 .0) (b10 .turn .last .1 .1 .1 .1 .1 .1 .1 .0) (b10 .turn .last .1 .1 .1 .1 .1 .1 .1 .1 .0) (b10 .turn .last .1 .1 .1 .1 .1 .1 .1 .1 .1 .0) (b10 .turn .result)
+    (l .inv) (b16 .loop-test .taken) (b10 .turn .kept .1 .1 .1 .1 .1 .1 .0) (b10 .turn .kept .1 .1 .1 .1 .1 .1 .1 .1 .1 .1 .0) (b10 .turn .kept .1 .1 .1 .1 .1 .1 .1 .0) (b10 .turn .kept .1 .1 .1 .1 .1 .1 .1 .1 .1 .0)
+    (b10 .turn .ensures .0) (b10 .turn .ensures .1 .0 ts (triangle-in (a .triangles .now) (a .handles .now) (a .n) (a .m) (l .t) (b16 .loop-test .taken))) (b10 .turn .ensures .1 .1 .0) (b10 .turn .ensures .1 .1 .1))
 
 same-length : tie.Need-same-length Inv-loop μ-loop
 same-length c = c .before .loop .inv .len-cells
@@ -53,8 +62,10 @@ same-length-5 : tie.Need-same-length-5 Inv-loop μ-loop
 same-length-5 c = c .before .loop .inv .len-of
 
 returns : tie.Need-returns Inv-loop μ-loop
-returns c = let a = c .before .before .before .before .before .before .before .before .before .before .before .before .before .before .args in let l = c .before .loop in
-    let all = filling-all (a .triangles .now) (a .handles .now) (a .n) (a .first .now) (a .m) (a .rows .now) (a .of .now) (a .cells .now) (a .next .now) (l .rows) (l .of) (l .cells) (l .heads) (l .next) (l .t) (l .np) (l .inv) (c .loop-test .left) (c .before .before .before .before .before .before .before .before .before .before .before .before .before .before .pre .0 .2) (c .before .before .before .before .before .before .before .before .before .before .before .before .before .before .pre .1 .1) in
+returns c =
+    let b14 = c .before .before .before .before .before .before .before .before .before .before .before .before .before .before in
+    let a = b14 .args in let l = c .before .loop in
+    let all = filling-all (a .triangles .now) (a .handles .now) (a .n) (a .first .now) (a .m) (a .rows .now) (a .of .now) (a .cells .now) (a .next .now) (l .rows) (l .of) (l .cells) (l .heads) (l .next) (l .t) (l .np) (l .inv) (c .loop-test .left) (b14 .pre .0 .2) (b14 .pre .1 .1) in
     (all .0, (all .1 .0, (all .1 .1, (same-length c, same-length-2 c, same-length-3 c))))
 
 pub coplanar-patches-spec : {M : Type 1} → statement M

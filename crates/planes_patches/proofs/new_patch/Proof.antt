@@ -11,7 +11,9 @@ put-row-requires c κs = c .before .before .before .before .before .pre .0
 
 returns : tie.Need-returns
 unfolding boxOf
-returns c = (c .before .before .put-row .ensures .0 ∙ start-row (c .before .before .before .before .before .before .before .before .args .t) (c .before .before .before .before .before .before .before .before .args .k) _ (c .before .before .before .before .before .before .before .before .pre .1) refl refl (c .before .before .before .before .before .triangle-area .ensures) (c .before .before .before .before .from-corners .ensures), c .before .before .put-row .ensures .1)
+returns c =
+    let b8 = c .before .before .before .before .before .before .before .before in
+    (c .before .before .put-row .ensures .0 ∙ start-row (b8 .args .t) (b8 .args .k) _ (b8 .pre .1) refl refl (c .before .before .before .before .before .triangle-area .ensures) (c .before .before .before .before .from-corners .ensures), c .before .before .put-row .ensures .1)
 
 pub new-patch-spec : {M : Type 1} → statement M
 new-patch-spec =

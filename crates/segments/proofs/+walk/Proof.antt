@@ -62,8 +62,14 @@ pub +walk-spec : {M : Type 1} → statement M
     (λ c. search needs)
     (λ c κs. tt)
     (λ c. omega (arith, c .before .before .before .before .before .before .before .before .before .before .before .before .before .before .before .before .pre .1 .1))
-    (λ c κs.
-    (omega (arith, c .before .before .before .before .before .before .before .before .before .before .before .before .before .before .before .before .pre .0, c .before .before .before .if2 .left), (c .before .before .before .before .before .before .before .before .before .before .before .before .before .before .before .before .pre .1 .0, omega (arith, c .before .before .before .before .before .before .before .before .before .before .before .before .before .before .before .before .pre .1 .1, c .before .before .before .if2 .left))))
+    (λ c κs. (
+      omega (arith, c .before .before .before .before .before .before .before .before .before .before .before .before .before .before .before .before .pre .0, c .before .before .before .if2 .left),
+      (
+        c .before .before .before .before .before .before .before .before .before .before .before .before .before .before .before .before .pre .1 .0,
+        omega
+            (arith, c .before .before .before .before .before .before .before .before .before .before .before .before .before .before .before .before .pre .1 .1, c .before .before .before .if2 .left),
+      ),
+    ))
     (λ c. λ tri tr h.
     rw (c .walk .ensures tri tr h, c .before .mul .ensures, c .before .before .before .transmission-of .ensures)
     (walk-on (traceIn tri tr) (transmissionOf _) _ _ _ _ _ _ _ (c .before .before .before .before .if2 .left) (c .before .before .before .before .before .before .before .before .before .before .if1 .taken)

@@ -25,7 +25,9 @@ abbrev μ-loop : tie.MeasureT-loop
 μ-loop padded nodes perm rows handles count materials limit radius from to b sum₀ k₀ sum k = probeCount - k
 
 probe-requires : tie.Need-probe-requires Inv-loop μ-loop
-probe-requires c κs = let z : c .before .counted .result .rays ≡ 0 = ap (λ (x : Transmission). x .rays) (c .before .counted .ensures) in (c .before .before .before .before .before .before .before .before .before .before .before .before .pre .0, omega (arith, z, c .before .before .before .before .before .before .before .before .before .before .before .before .pre .1))
+probe-requires c κs =
+    let b12 = c .before .before .before .before .before .before .before .before .before .before .before .before in
+    let z : c .before .counted .result .rays ≡ 0 = ap (λ (x : Transmission). x .rays) (c .before .counted .ensures) in (b12 .pre .0, omega (arith, z, b12 .pre .1))
 
 loop-holds : tie.Need-loop-holds Inv-loop μ-loop
 unfolding probesOf
@@ -35,8 +37,9 @@ loop-holds c =
 
 probe-requires-2 : tie.Need-probe-requires-2 Inv-loop μ-loop
 probe-requires-2 c κs =
-    let before = c .before .before .before .before .before .before .before .before .before .before .before .before .before .before .before .before .before .before .pre in
-    (before .0, probes-fit (c .before .before .before .before .before .before .before .before .before .before .before .before .before .before .before .before .before .before .args .crossing-limit) (c .before .before .before .before .loop .k) (c .before .before .before .before .loop .sum .rays) (c .before .before .before .before .loop .inv .2) (c .before .before .before .loop-test .taken) (before .1))
+    let b18 = c .before .before .before .before .before .before .before .before .before .before .before .before .before .before .before .before .before .before in
+    let before = b18 .pre in
+    (before .0, probes-fit (b18 .args .crossing-limit) (c .before .before .before .before .loop .k) (c .before .before .before .before .loop .sum .rays) (c .before .before .before .before .loop .inv .2) (c .before .before .before .loop-test .taken) (before .1))
 
 loop-again : tie.Need-loop-again Inv-loop μ-loop
 unfolding probesOf

@@ -19,8 +19,9 @@ point-from-requires-2 c κs = c .before .before .before .before .before .before 
 
 search-images-requires : tie.Need-search-images-requires
 search-images-requires c κs =
-    let p = c .before .before .before .before .before .before .before .before .before .before .before .before .before .before .before .before .before .before .before .before .before .before .before .pre in
-    let a = c .before .before .before .before .before .before .before .before .before .before .before .before .before .before .before .before .before .before .before .before .before .before .before .args in
+    let b23 = c .before .before .before .before .before .before .before .before .before .before .before .before .before .before .before .before .before .before .before .before .before .before .before in
+    let p = b23 .pre in
+    let a = b23 .args in
     let q = p .1 .1 .1 .0 in
     (p .0, ((q .0, q .1, crossings-within (a .counts .now) (a .setting-floats .now) (c .before .before .before .before .settings-from .result) (c .before .before .before .before .settings-from .ensures) (q .2)), p .1 .1 .1 .1))
 
@@ -43,10 +44,13 @@ same-length-3 : tie.Need-same-length-3
 same-length-3 c = simp length-set
 
 returns : tie.Need-returns
-returns c = λ tri t reads.
+returns c =
+    let b30 = c .before .before .before .before .before .before .before .before .before .before .before .before .before .before .before .before .before .before .before .before .before .before .before .before .before .before .before .before .before .before in
+    λ tri t reads.
     let f = c .before .before .before .before .before .before .search-images .result in
-    let k = three (c .before .before .before .before .before .before .before .before .before .before .before .before .before .before .before .before .before .before .before .before .before .before .before .before .before .before .before .before .before .before .args .found .now) (f .images) (f .rays) (f .found) (c .before .before .before .before .before .before .before .before .before .before .before .before .before .before .before .before .before .before .before .before .before .before .before .before .before .before .before .before .before .before .pre .1 .1 .0 .2) in
-    rw (k .zeroth, k .first, k .second, ← c .before .before .before .before .before .before .before .before .before .before .before .settings-from .ensures, ← c .before .before .before .before .before .before .before .before .before .before .point-from .ensures, ← c .before .before .before .before .before .before .before .before .before .point-from2 .ensures) (c .before .before .before .before .before .before .search-images .ensures .0 tri t reads)
+    let k = three (b30 .args .found .now) (f .images) (f .rays) (f .found) (b30 .pre .1 .1 .0 .2) in
+    rw (k .zeroth, k .first, k .second, ← c .before .before .before .before .before .before .before .before .before .before .before .settings-from .ensures, ← c .before .before .before .before .before .before .before .before .before .before .point-from .ensures, ← c .before .before .before .before .before .before .before .before .before .point-from2 .ensures)
+    (c .before .before .before .before .before .before .search-images .ensures .0 tri t reads)
 
 pub biv-search-images-spec : {M : Type 1} → statement M
 biv-search-images-spec =

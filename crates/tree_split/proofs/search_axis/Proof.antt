@@ -7,29 +7,32 @@ use Rattle.tree_split.proofs.search_axis.Tie as tie
 
 returns : tie.Need-returns
 returns c =
-    let a = c .before .before .before .before .before .before .before .args in
+    let b7 = c .before .before .before .before .before .before .before in
+    let a = b7 .args in
     let b = aabbAtOf (a .extents .now) in
     let mid = centroidAtOf (a .extents .now) in
-    (law.axis-skip b mid (a .axis) (a .span) (a .part .now) (a .c) (c .if1 .taken), c .before .before .before .before .before .before .before .pre .1 .0)
+    (law.axis-skip b mid (a .axis) (a .span) (a .part .now) (a .c) (c .if1 .taken), b7 .pre .1 .0)
 
 sort-by-centroid-requires : tie.Need-sort-by-centroid-requires
 sort-by-centroid-requires c κs = let pre = c .before .before .before .before .before .before .before .before .before .before .pre in let r = pre .1 .1 .1 .0 in (pre .1 .0, ((r .0, r .1), pre .1 .1 .1 .1))
 
 suffix-areas-requires : tie.Need-suffix-areas-requires
 suffix-areas-requires c κs =
+    let b8 = c .before .before .before .before .before .before .before .before in
     let pre = c .before .before .before .before .before .before .before .before .before .before .before .before .before .before .before .before .before .before .before .pre in
-    let k = c .before .before .before .before .before .before .before .before .sort-by-centroid .kept .1 .1 .1 .1 .0 in
+    let k = b8 .sort-by-centroid .kept .1 .1 .1 .1 .0 in
     let p = pre .1 .1 .1 .0 in
-    (pre .0, (c .before .before .before .before .before .before .before .before .sort-by-centroid .ensures .1, omega arith))
+    (pre .0, (b8 .sort-by-centroid .ensures .1, omega arith))
 
 sweep-requires : tie.Need-sweep-requires
 sweep-requires c κs =
+    let b13 = c .before .before .before .before .before .before .before .before .before .before .before .before .before in
     let pre = c .before .before .before .before .before .before .before .before .before .before .before .before .before .before .before .before .before .before .before .before .before .before .before .before .pre in
-    let k = c .before .before .before .before .before .before .before .before .before .before .before .before .before .sort-by-centroid .kept .1 .1 .1 .1 .0 in
+    let k = b13 .sort-by-centroid .kept .1 .1 .1 .1 .0 in
     let s = c .before .before .before .before .suffix-areas .kept .1 .1 .1 .0 in
     let p = pre .1 .1 .1 .0 in
     let q = pre .1 .1 .0 in
-    (pre .0, (c .before .before .before .before .before .before .before .before .before .before .before .before .before .sort-by-centroid .ensures .1, ((omega arith, omega arith), (omega arith, c .before .before .before .before .suffix-areas .ensures))))
+    (pre .0, (b13 .sort-by-centroid .ensures .1, ((omega arith, omega arith), (omega arith, c .before .before .before .before .suffix-areas .ensures))))
 
 same-length : tie.Need-same-length
 same-length c = c .before .before .before .before .before .before .before .before .before .before .before .before .before .before .sort-by-centroid .kept .1 .1 .1 .1 .0
@@ -45,11 +48,12 @@ same-length-4 c = c .before .before .before .before .before .suffix-areas .kept 
 
 returns-2 : tie.Need-returns-2
 returns-2 c =
+    let b14 = c .before .before .before .before .before .before .before .before .before .before .before .before .before .before in
     let a = c .before .before .before .before .before .before .before .before .before .before .before .before .before .before .before .before .before .before .before .before .before .before .before .before .before .args in
     let b = aabbAtOf (a .extents .now) in
     let mid = centroidAtOf (a .extents .now) in (
-      law.axis-swept b mid (a .axis) (a .span) (a .part .now) (a .c) (c .before .before .before .before .before .before .before .before .before .before .before .before .before .before .sort-by-centroid .last .1 .1 .1 .1 .0) (c .sweep .result) (c .before .before .before .before .before .before .before .before .before .before .before .before .before .before .before .before .before .before .if1 .left) (c .before .before .before .before .before .before .before .before .before .before .before .before .before .before .sort-by-centroid .ensures .0) (c .sweep .ensures),
-      c .before .before .before .before .before .before .before .before .before .before .before .before .before .before .sort-by-centroid .ensures .1,
+      law.axis-swept b mid (a .axis) (a .span) (a .part .now) (a .c) (b14 .sort-by-centroid .last .1 .1 .1 .1 .0) (c .sweep .result) (c .before .before .before .before .before .before .before .before .before .before .before .before .before .before .before .before .before .before .if1 .left) (b14 .sort-by-centroid .ensures .0) (c .sweep .ensures),
+      b14 .sort-by-centroid .ensures .1,
     )
 
 pub search-axis-spec : {M : Type 1} → statement M

@@ -35,7 +35,9 @@ returns-2 : tie.Need-returns-2
 returns-2 c = c .before .before .before .before .before .before .sort-by-centroid2 .ensures
 
 sort-by-centroid-requires-3 : tie.Need-sort-by-centroid-requires-3
-sort-by-centroid-requires-3 c κs = let a = c .before .before .before .before .before .before .before .before .before .before .before .before .args in let pre = c .before .before .before .before .before .before .before .before .before .before .before .before .pre in let k = pre .1 .1 in (pre .0, (pre .1 .0, (k .zs, law.order-other (a .n) (a .kz .now) (centroidAtOf (a .extents .now)) (a .axis) (c .before .before .before .before .if1 .left) (c .before .before .before .if2 .left) (k .zo))))
+sort-by-centroid-requires-3 c κs =
+    let b12 = c .before .before .before .before .before .before .before .before .before .before .before .before in
+    let a = b12 .args in let pre = b12 .pre in let k = pre .1 .1 in (pre .0, (pre .1 .0, (k .zs, law.order-other (a .n) (a .kz .now) (centroidAtOf (a .extents .now)) (a .axis) (c .before .before .before .before .if1 .left) (c .before .before .before .if2 .left) (k .zo))))
 
 same-length-7 : tie.Need-same-length-7
 same-length-7 c = c .before .before .before .before .before .before .sort-by-centroid3 .kept .1 .1 .1 .1 .0
