@@ -192,7 +192,7 @@ fn try_read(bytes: &[u8], taps: &mut [u32], e: Expected) -> bool {
 }
 
 // A line with a packet to read.
-pub fn read_case(line: &[u8]) -> bool {
+pub(crate) fn read_case(line: &[u8]) -> bool {
     let after = print_name(b"read ", line);
     let mut f = [0u64; 7];
     let at = text::numbers(line, after, &mut f);
@@ -240,7 +240,7 @@ fn try_write(
 }
 
 // A line with taps to write.
-pub fn write_case(line: &[u8]) -> bool {
+pub(crate) fn write_case(line: &[u8]) -> bool {
     let after = print_name(b"write ", line);
     let mut f = [0u64; 7];
     let at = text::numbers(line, after, &mut f);
