@@ -6,7 +6,7 @@ mod text;
 use libc::STDOUT_FILENO;
 
 // How a line came out.
-pub enum Outcome {
+enum Outcome {
     NoCase,
     Read(bool),
     Written(bool),

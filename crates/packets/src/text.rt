@@ -3,18 +3,18 @@ ghost use Prim.Native.Nat.{_<_, _≤_};
 ghost use lib.ListN.{length};
 
 // A number, and the place after it.
-pub struct Found {
+struct Found {
     value: u64,
     next: usize,
 }
 
 // The byte at a place; past the end, a line feed.
-pub fn byte_at(s: &[u8], at: usize) -> u8 {
+pub(crate) fn byte_at(s: &[u8], at: usize) -> u8 {
     if at < s.len() { s[at] } else { b'\n' }
 }
 
 // The place after the line that `at` is in.
-pub fn line_end(s: &[u8], at: usize) -> usize
+pub(crate) fn line_end(s: &[u8], at: usize) -> usize
     requires { ⌜ at < length (now s) ⌝ }
     ensures { λ r. ⌜ (at < r) × (r ≤ length (now (s .entry))) ⌝ }
 {
@@ -29,7 +29,7 @@ pub fn line_end(s: &[u8], at: usize) -> usize
 }
 
 // The place of the first byte from `at` on that is a space, or that is none.
-pub fn find(s: &[u8], at: usize, space: bool) -> usize {
+pub(crate) fn find(s: &[u8], at: usize, space: bool) -> usize {
     let mut i = at;
     while i < s.len() {
         if (s[i] == b' ') == space {
@@ -51,7 +51,7 @@ fn push_digit(n: u64, digit: u8) -> u64 {
 }
 
 // The decimal number at a place.
-pub fn number(s: &[u8], at: usize) -> Found {
+fn number(s: &[u8], at: usize) -> Found {
     let mut n: u64 = 0;
     let mut i = at;
     while i < s.len() {
@@ -65,7 +65,7 @@ pub fn number(s: &[u8], at: usize) -> Found {
 }
 
 // The numbers of the next seven words. Answers the place after them.
-pub fn numbers(s: &[u8], at: usize, to: &mut [u64; 7]) -> usize {
+pub(crate) fn numbers(s: &[u8], at: usize, to: &mut [u64; 7]) -> usize {
     let mut i = at;
     let mut k = 0;
     while k < 7 {
@@ -107,7 +107,7 @@ fn push_word(to: &mut [u32], k: usize, digit: u8) {
 }
 
 // The bytes in hexadecimal from `at` up to the line's end, to `to`, which is zeros.
-pub fn hex_bytes(s: &[u8], at: usize, to: &mut [u8]) {
+pub(crate) fn hex_bytes(s: &[u8], at: usize, to: &mut [u8]) {
     let mut i = at;
     let mut k = 0;
     while i < s.len() {
@@ -121,7 +121,7 @@ pub fn hex_bytes(s: &[u8], at: usize, to: &mut [u8]) {
 }
 
 // The words in hexadecimal from `at` up to `=` or the line's end, to `to`. Answers the place after them.
-pub fn hex_words(s: &[u8], at: usize, to: &mut [u32]) -> usize {
+pub(crate) fn hex_words(s: &[u8], at: usize, to: &mut [u32]) -> usize {
     let mut i = at;
     let mut k = 0;
     while i < s.len() {
