@@ -14,7 +14,7 @@ use Rattle.order.proofs.Laws.{below-cons, below-head, below-tail}
 use Rattle.vector.specs.declared.Vec3.{Vec3}
 use Rattle.vector.specs.Vector.{axisOf}
 use Rattle.geometry.specs.declared.Aabb.{Aabb}
-use Rattle.tree_split.specs.Split.{Searched, searched, Divided, divided, insertOn, sortOn, sweepOf, searchAxisOf, searchAxesOf, leastSpan, splitOf}
+use Rattle.tree_split.specs.Split.{Swept, swept, Divided, divided, insertOn, sortOn, sweepOf, searchAxisOf, searchAxesOf, leastSpan, splitOf}
 use Rattle.tree_build.specs.Tree.{Tree, leavesOf, leafOf, innerOf, leafThreshold, buildSahOf, countTo, buildOf}
 
 -- ---- permutations
@@ -67,14 +67,14 @@ module _ (f : ℕ → Float) where
 
 -- ---- the split
 module _ (b : ℕ → Aabb) (mid : ℕ → Vec3) where
-  pub axis-perm : (a : ℕ) (span : Float) (s : Searched) → Perm (searchAxisOf b mid a span s .list) (s .list)
+  pub axis-perm : (a : ℕ) (span : Float) (s : Swept) → Perm (searchAxisOf b mid a span s .list) (s .list)
   unfolding searchAxisOf
   axis-perm a span s = go (lt span leastSpan)
     where
       xs : List ℕ
       xs = sortOn (λ i. axisOf (mid i) a) (s .list)
 
-      go : (t : Bool) → Perm ((cond t s (searched xs (sweepOf b a xs (length xs - 1) (s .best)))) .list) (s .list)
+      go : (t : Bool) → Perm ((cond t s (swept xs (sweepOf b a xs (length xs - 1) (s .best)))) .list) (s .list)
       go true = perm-same (s .list)
       go false = sort-on-perm (λ i. axisOf (mid i) a) (s .list)
 
@@ -86,7 +86,7 @@ module _ (b : ℕ → Aabb) (mid : ℕ → Vec3) where
   unfolding splitOf
   split-perm xs = go (eqb (s .best .at) 0)
     where
-      s : Searched
+      s : Swept
       s = searchAxesOf b mid xs
 
       go : (t : Bool) → Perm ((cond t (divided (s .list) 0) (divided (sortOn (λ i. axisOf (mid i) (s .best .axis)) (s .list)) (s .best .at))) .list) xs

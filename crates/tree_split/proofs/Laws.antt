@@ -21,7 +21,7 @@ use Rattle.order.proofs.Laws.{below-head, below-tail, below-sort}
 use Rattle.tree_split.specs.declared.BestSplit.{BestSplit}
 use Rattle.vector.specs.declared.Vec3.{Vec3}
 use Rattle.vector.specs.Vector.{axisOf}
-use Rattle.tree_split.specs.Split.{Searched, searched, searchAxisOf, searchAxesOf, divided, splitOf, leastSpan, boundsOf, suffixOf, insertOn, sortOn, KeysInOrder, tryOf, sweepOf, betterOf, costOf, bestSplit}
+use Rattle.tree_split.specs.Split.{Swept, swept, searchAxisOf, searchAxesOf, divided, splitOf, leastSpan, boundsOf, suffixOf, insertOn, sortOn, KeysInOrder, tryOf, sweepOf, betterOf, costOf, bestSplit}
 
 -- ---- folds, one step at a time
 module _ (b : ℕ → Aabb) (xs : List ℕ) where
@@ -99,14 +99,14 @@ sweep-more b xs a k c {s = s} {s′ = s′} so now spent l r = now ∙ (rw (spen
 
 -- ---- one axis
 module _ (b : ℕ → Aabb) (mid : ℕ → Vec3) (a : ℕ) (span : Float) (xs : List ℕ) (c : BestSplit) where
-  pub axis-skip : lt span (leastSpan) ≡ true → searched xs c ≡ searchAxisOf b mid a span (searched xs c)
+  pub axis-skip : lt span (leastSpan) ≡ true → swept xs c ≡ searchAxisOf b mid a span (swept xs c)
   unfolding searchAxisOf
   axis-skip e = rw e
 
   pub axis-swept :
       (ys : List ℕ) (r : BestSplit) → lt span (leastSpan) ≡ false →
       ys ≡ sortOn (λ i. axisOf (mid i) a) xs → r ≡ sweepOf b a ys (length ys - 1) c →
-      searched ys r ≡ searchAxisOf b mid a span (searched xs c)
+      swept ys r ≡ searchAxisOf b mid a span (swept xs c)
   unfolding searchAxisOf
   axis-swept ys r e same most = rw (e, ← same, most)
 
@@ -140,10 +140,10 @@ try-below b a xs n zero c hk hc = hc
 try-below b a xs n (suc k) c hk hc = better-below n _ a (suc k) (sweepOf b a xs k c) hk (try-below b a xs n k c (omega arith) hc)
 
 -- a search result of the list's length, within it
-abbrev Within : ℕ → Searched → Type 0
+abbrev Within : ℕ → Swept → Type 0
 Within n s = (length (s .list) ≡ n) × (s .best .at < n)
 
-axis-within : (b : ℕ → Aabb) (mid : ℕ → Vec3) (a : ℕ) (span : Float) (s : Searched) (n : ℕ) → Within n s → Within n (searchAxisOf b mid a span s)
+axis-within : (b : ℕ → Aabb) (mid : ℕ → Vec3) (a : ℕ) (span : Float) (s : Swept) (n : ℕ) → Within n s → Within n (searchAxisOf b mid a span s)
 unfolding searchAxisOf
 axis-within b mid a span s n w = go (lt span (leastSpan))
   where
@@ -153,7 +153,7 @@ axis-within b mid a span s n w = go (lt span (leastSpan))
     long : length (sortOn f (s .list)) ≡ n
     long = length-sort-on f (s .list) ∙ w .0
 
-    go : (t : Bool) → Within n (cond t s (searched (sortOn f (s .list)) (sweepOf b a (sortOn f (s .list)) (length (sortOn f (s .list)) - 1) (s .best))))
+    go : (t : Bool) → Within n (cond t s (swept (sortOn f (s .list)) (sweepOf b a (sortOn f (s .list)) (length (sortOn f (s .list)) - 1) (s .best))))
     go true = w
     go false = (long, try-below b a (sortOn f (s .list)) n (length (sortOn f (s .list)) - 1) (s .best) (let p = w .1 in let l = long in omega arith) (w .1))
 
@@ -173,7 +173,7 @@ unfolding KeysInOrder
 order-other n keys mid a p q o i j hi hj = rw (axis-other a (mid i) p q, axis-other a (mid j) p q) (o i j hi hj)
 
 -- ---- the division
-module _ (b : ℕ → Aabb) (mid : ℕ → Vec3) (xs ys : List ℕ) (c : BestSplit) (done : searched ys c ≡ searchAxesOf b mid xs) where
+module _ (b : ℕ → Aabb) (mid : ℕ → Vec3) (xs ys : List ℕ) (c : BestSplit) (done : swept ys c ≡ searchAxesOf b mid xs) where
   pub split-none : c .at ≡ 0 → divided ys 0 ≡ splitOf b mid xs
   unfolding splitOf
   split-none e = rw (← done, eq-eqb (c .at) 0 e)
@@ -183,15 +183,15 @@ module _ (b : ℕ → Aabb) (mid : ℕ → Vec3) (xs ys : List ℕ) (c : BestSpl
   split-some zs ne e = rw (← done, ne-eqb (c .at) 0 ne, e)
 
   pub found-below : 0 < length xs → c .at < length xs
-  found-below pos = rw (ap (λ (s : Searched). s .best .at) done) (axes-within b mid xs pos .1)
+  found-below pos = rw (ap (λ (s : Swept). s .best .at) done) (axes-within b mid xs pos .1)
 
 -- ---- the three axes
 pub axes-is :
     (b : ℕ → Aabb) (mid : ℕ → Vec3) (xs p1 p2 p3 : List ℕ) (c1 c2 c3 : BestSplit) (m : Aabb) →
     m ≡ boundsOf (λ i. fromPointOf (mid i)) xs →
-    searched p1 c1 ≡ searchAxisOf b mid 0 (sub binary32 (m .max .x) (m .min .x)) (searched xs (bestSplit most 0 0)) →
-    searched p2 c2 ≡ searchAxisOf b mid 1 (sub binary32 (m .max .y) (m .min .y)) (searched p1 c1) →
-    searched p3 c3 ≡ searchAxisOf b mid 2 (sub binary32 (m .max .z) (m .min .z)) (searched p2 c2) →
-    searched p3 c3 ≡ searchAxesOf b mid xs
+    swept p1 c1 ≡ searchAxisOf b mid 0 (sub binary32 (m .max .x) (m .min .x)) (swept xs (bestSplit most 0 0)) →
+    swept p2 c2 ≡ searchAxisOf b mid 1 (sub binary32 (m .max .y) (m .min .y)) (swept p1 c1) →
+    swept p3 c3 ≡ searchAxisOf b mid 2 (sub binary32 (m .max .z) (m .min .z)) (swept p2 c2) →
+    swept p3 c3 ≡ searchAxesOf b mid xs
 unfolding searchAxesOf axisOf
 axes-is b mid xs p1 p2 p3 c1 c2 c3 m e e1 e2 e3 = e3 ∙ rw (e2, e1, e)

@@ -79,22 +79,22 @@ unfoldable pub sweepOf : (ℕ → Aabb) → ℕ → List ℕ → ℕ → BestSpl
 sweepOf b a xs zero c = c
 sweepOf b a xs (suc k) c = tryOf b a xs (suc k) (sweepOf b a xs k c)
 
-pub record Searched : Type 0 where
+pub record Swept : Type 0 where
   pub list : List ℕ
   pub best : BestSplit
 
-abbrev pub searched : List ℕ → BestSplit → Searched
-searched xs c = record { list = xs; best = c }
+abbrev pub swept : List ℕ → BestSplit → Swept
+swept xs c = record { list = xs; best = c }
 
 -- 1e-8
 abbrev pub leastSpan : Float
 leastSpan = ofBits binary32 0x322b_cc77
 
 -- an axis along which the centroids lie within 1e-8 is left out; else the list is sorted by it and each split is tried
-unfoldable pub searchAxisOf : (ℕ → Aabb) → (ℕ → Vec3) → ℕ → Float → Searched → Searched
+unfoldable pub searchAxisOf : (ℕ → Aabb) → (ℕ → Vec3) → ℕ → Float → Swept → Swept
 searchAxisOf b mid a span s =
     let xs = sortOn (λ i. axisOf (mid i) a) (s .list) in
-    cond (lt span leastSpan) s (searched xs (sweepOf b a xs (length xs - 1) (s .best)))
+    cond (lt span leastSpan) s (swept xs (sweepOf b a xs (length xs - 1) (s .best)))
 
 -- ---- the three axes, one after the other on the same list: `for axis in 0..3u8`
 
@@ -103,10 +103,10 @@ spanOf mid a xs =
     let m = boundsOf (λ i. fromPointOf (mid i)) xs in
     sub binary32 (axisOf (m .max) a) (axisOf (m .min) a)
 
-unfoldable pub searchAxesOf : (ℕ → Aabb) → (ℕ → Vec3) → List ℕ → Searched
+unfoldable pub searchAxesOf : (ℕ → Aabb) → (ℕ → Vec3) → List ℕ → Swept
 searchAxesOf b mid xs =
     searchAxisOf b mid 2 (spanOf mid 2 xs)
-    (searchAxisOf b mid 1 (spanOf mid 1 xs) (searchAxisOf b mid 0 (spanOf mid 0 xs) (searched xs (bestSplit most 0 0))))
+    (searchAxisOf b mid 1 (spanOf mid 1 xs) (searchAxisOf b mid 0 (spanOf mid 0 xs) (swept xs (bestSplit most 0 0))))
 
 -- the list as the sorts left it, and where it is split: 0 is nowhere
 pub record Divided : Type 0 where
@@ -117,7 +117,7 @@ abbrev pub divided : List ℕ → ℕ → Divided
 divided xs i = record { list = xs; at = i }
 
 -- the last sort, along the axis of the best split
-abbrev pub lastSort : (ℕ → Vec3) → Searched → Divided
+abbrev pub lastSort : (ℕ → Vec3) → Swept → Divided
 lastSort mid s =
     cond (eqb (s .best .at) 0) (divided (s .list) 0)
     (divided (sortOn (λ i. axisOf (mid i) (s .best .axis)) (s .list)) (s .best .at))

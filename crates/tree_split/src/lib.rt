@@ -11,7 +11,7 @@ ghost use Rattle.order.specs.Sort.{Below};
 ghost use Rattle.vector.specs.Vector.{axisOf};
 ghost use Rattle.geometry.specs.Aabb.{fromPointOf, surfaceAreaOf};
 ghost use Rattle.tree_split.specs.Split.{aabbAtOf, centroidAtOf, countOf, KeysInOrder, Keyed, sortOn, boundsOf, suffixOf};
-ghost use Rattle.tree_split.specs.Split.{costOf, betterOf, sweepOf, searched, searchAxisOf, searchAxesOf, divided, splitOf, Splits};
+ghost use Rattle.tree_split.specs.Split.{costOf, betterOf, sweepOf, swept, searchAxisOf, searchAxesOf, divided, splitOf, Splits};
 
 // The best split so far: its cost, its axis, and how many triangles go left.
 pub struct BestSplit {
@@ -198,8 +198,8 @@ fn search_axis(
     requires { ⌜ (length (now part) ≤ length (now words)) × (length (now part) ≤ length (now scratch)) × (length (now part) ≤ length (now areas)) ⌝ }
     requires { ⌜ (n ≤ length (now keys)) × KeysInOrder n (now keys) (λ i. axisOf (centroidAtOf (now extents) i) axis) ⌝ }
     ensures { λ r.
-        ⌜ (searched (now (part .exit)) r ≡
-        searchAxisOf (aabbAtOf (now (extents .entry))) (centroidAtOf (now (extents .entry))) axis span (searched (now (part .entry)) c)) ×
+        ⌜ (swept (now (part .exit)) r ≡
+        searchAxisOf (aabbAtOf (now (extents .entry))) (centroidAtOf (now (extents .entry))) axis span (swept (now (part .entry)) c)) ×
         Below n (now (part .exit)) ⌝ }
 {
     if span < 1e-8 {
@@ -224,7 +224,7 @@ fn search_axes(
 ) -> BestSplit
     requires { ⌜ Splits (now kx) (now ky) (now kz) (now extents) n (now part) (now words) (now scratch) (now areas) ⌝ }
     ensures { λ r.
-        ⌜ (searched (now (part .exit)) r ≡ searchAxesOf (aabbAtOf (now (extents .entry))) (centroidAtOf (now (extents .entry))) (now (part .entry))) ×
+        ⌜ (swept (now (part .exit)) r ≡ searchAxesOf (aabbAtOf (now (extents .entry))) (centroidAtOf (now (extents .entry))) (now (part .entry))) ×
         Below n (now (part .exit)) ⌝ }
 {
     let m = centroid_aabb(extents, n, part);
