@@ -10,16 +10,16 @@ use lib.Dec.{eqb}
 use lib.Ieee.{Float}
 use lib.ListN.{length, getD}
 use borrow.Author.Tests.{eqb-true}
+use Rattle.order.proofs.Positions.{under-upTo, under-below}
 use Rattle.columns.specs.Columns.{triangleAtOf}
 use Rattle.order.specs.Sort.{Below}
 use Rattle.order.specs.Runs.{upTo}
-use Rattle.order.proofs.Laws.{below-none, below-cons}
 use Rattle.planes_faces.specs.Key.{keyBy}
 use Rattle.planes_faces.specs.Numbers.{Numbered, cornerIn}
 use Rattle.planes_patches.specs.Lists.{keepIf, filterBy, countBy}
 use Rattle.planes_patches.specs.Rows.{noneOf, trisIn}
 use Rattle.planes_patches.specs.Triangles.{triangleAt, trianglesIn}
-use Rattle.planes_patches.proofs.Lists.{Under, filter-more, under-filter, under-upTo}
+use Rattle.planes_patches.proofs.Lists.{filter-more, under-filter}
 use Rattle.planes_patches.proofs.Filling.{triangle-in}
 use Rattle.mirror.specs.Plane.{Edge}
 use Rattle.mirror.specs.Rows.{edgesIn}
@@ -125,14 +125,9 @@ border-stored area handles n m of first uses g old new k r once a =
     let e : r - k ≡ length es = omega arith in
     ap (edgesIn new k) e ∙ a .stored ∙ border-is area handles n m of first uses g once
 
-below-under : (n : ℕ) (xs : List ℕ) → Under n xs → Below n xs
-unfolding Under
-below-under n [] u = below-none n
-below-under n (x ∷ xs) u = below-cons n x xs (u .0) (below-under n xs (u .1))
-
 -- what `put_border` asks of a plane's triangles
 pub tris-below : (of first : List ℕ) (m g : ℕ) → length first ≡ 3 * m → Below (length first / 3) (trisIn of m g)
 unfolding trisIn
 tris-below of first m g len =
     let e : length first / 3 ≡ m = omega arith in
-    rw e (below-under m (filterBy (λ i. eqb (getD of i noneOf) g) (upTo m)) (under-filter m (λ i. eqb (getD of i noneOf) g) (upTo m) (under-upTo m)))
+    rw e (under-below m (filterBy (λ i. eqb (getD of i noneOf) g) (upTo m)) (under-filter m (λ i. eqb (getD of i noneOf) g) (upTo m) (under-upTo m)))

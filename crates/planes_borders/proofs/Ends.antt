@@ -1,31 +1,15 @@
 -- Two edges have one number where they are in one plane and have the same ends, in either direction (`edge-same`).
-use mathlib.Core.Path.{_≡_, refl, sym}
+use mathlib.Core.Path.{_≡_, refl}
 use mathlib.Core.Logic.{⊎-elim, _⊎_, inl, inr}
-use mathlib.Core.Bool.{Bool, true, false, _||_, _&&_}
+use mathlib.Core.Bool.{true, _||_, _&&_}
 use Prim.Native.Nat.{ℕ, _+_, _*_, _<_}
 use native.Mathlib.Omega.{arith}
 use lib.Dec.{eqb}
 use borrow.Author.Tests.{eq-eqb, eqb-true, le-leb, lt-leb}
+use Rattle.laws.proofs.Bools.{or-cases, and-cases, or-right, bool-iff}
 use Rattle.float.proofs.Numbers.{by-order}
 use Rattle.planes_faces.specs.Triples.{lesser, greater}
 use Rattle.planes_borders.specs.Uses.{edgeNumber}
-
-or-cases : {C : Type 0} (p q : Bool) → (p ≡ true → C) → (q ≡ true → C) → p || q ≡ true → C
-or-cases true q f g e = f refl
-or-cases false q f g e = g e
-
-and-cases : {C : Type 0} (p q : Bool) → (p ≡ true → q ≡ true → C) → p && q ≡ true → C
-and-cases true q f e = f refl e
-and-cases false q f e = absurd (let n : _≡_ {A = ℕ} 0 1 = cc in omega arith)
-
-or-right : (p q : Bool) → q ≡ true → p || q ≡ true
-or-right true q e = refl
-or-right false q e = e
-
-bool-iff : (p q : Bool) → (p ≡ true → q ≡ true) → (q ≡ true → p ≡ true) → p ≡ q
-bool-iff true q f g = sym (f refl)
-bool-iff false true f g = g refl
-bool-iff false false f g = refl
 
 -- p and q are r and s, in either order
 abbrev Same : ℕ → ℕ → ℕ → ℕ → Type 0

@@ -4,11 +4,12 @@ use mathlib.Core.Path.{_≡_, refl, sym, ap, _∙_}
 use mathlib.Core.Bool.{Bool, true, false, _&&_}
 use mathlib.Core.List.{List, [], _∷_, _++_, flatMap, append-assoc}
 use Prim.Native.Nat.{ℕ, zero, suc, _+_, _*_, _<_, _≤_}
-use native.Mathlib.Nat.{add-zero, not-suc-le-zero}
+use native.Mathlib.Nat.{add-zero}
 use native.Mathlib.Omega.{arith}
 use lib.Dec.{eqb}
 use lib.Ieee.{Float}
 use lib.ListN.{length, getD}
+use Rattle.laws.proofs.Lists.{getD-inside}
 use Rattle.order.specs.Sort.{Below}
 use Rattle.order.specs.Runs.{upTo, firstAt}
 use Rattle.order.proofs.Runs.{first-same, first-le}
@@ -63,12 +64,6 @@ module _ {A : Type 0} (test : ℕ → Bool) (p : A → Bool) (side : ℕ → ℕ
       left ∙ rw (x0, x1, x2, less) (omega (arith, here)) ∙ sym right
 
 -- ---- the sides by number
-
--- a place inside the list reads the same whatever stands for one outside
-getD-inside : (xs : List ℕ) (i d e : ℕ) → i < length xs → getD xs i d ≡ getD xs i e
-getD-inside [] i d e h = absurd (not-suc-le-zero h)
-getD-inside (x ∷ xs) zero d e h = refl
-getD-inside (x ∷ xs) (suc i) d e h = getD-inside xs i d e (omega arith)
 
 module _ (area : List Float) (n k m : ℕ) (id of : List ℕ) (num : Numbered edgeKey area n k id) (small : 3 * n ≤ 4294967296) (mk : m ≤ k) (mn : m ≤ n) (long : m ≤ length of) where
   number-low : (j t : ℕ) → j < 3 → t < m → numberIn id n j t < 4294967296

@@ -15,6 +15,7 @@ use lib.Seq.{getD-set-same, getD-set-other}
 use borrow.Author.Tests.{eq-eqb, ne-eqb}
 use Rattle.float.specs.Literals.{one32}
 use Rattle.float.proofs.Numbers.{by-order}
+use Rattle.order.proofs.Positions.{Under, under-upTo}
 use Rattle.geometry.specs.declared.Triangle.{Triangle}
 use Rattle.geometry.specs.Triangle.{triangleAreaOf}
 use Rattle.order.specs.Runs.{headOr, upTo}
@@ -22,7 +23,7 @@ use Rattle.order.proofs.Stable.{by-eq}
 use Rattle.planes_patches.specs.Lists.{keepIf, filterBy}
 use Rattle.planes_patches.specs.Triangles.{triangleAt}
 use Rattle.planes_patches.specs.Rows.{noneOf, trisIn, Numbered}
-use Rattle.planes_patches.proofs.Lists.{Under, under-upTo, under-filter, filter-more}
+use Rattle.planes_patches.proofs.Lists.{under-filter, filter-more}
 use Rattle.planes_buried.specs.Buried.{largerOf}
 use Rattle.planes_buried.specs.Passes.{bestAt, bestOf, orZero}
 

@@ -16,7 +16,7 @@ use borrow.Author.Tests.{eq-eqb, ne-eqb, eqb-true}
 use Rattle.float.proofs.Numbers.{by-order}
 use Rattle.order.specs.Runs.{upTo}
 use Rattle.order.proofs.Stable.{by-eq}
-use Rattle.planes_faces.proofs.Corners.{getD-map-upTo}
+use Rattle.order.proofs.Positions.{getD-map-upTo}
 use Rattle.planes_patches.specs.declared.PatchRow.{PatchRow}
 use Rattle.planes_patches.specs.Lists.{keepIf, filterBy}
 use Rattle.planes_patches.specs.Patch.{Patch, noPatch}

@@ -11,6 +11,7 @@ use lib.ListN.{length, getD, set}
 use lib.Seq.{getD-set-same, getD-set-other}
 use Rattle.float.specs.Literals.{zero32, one32}
 use Rattle.float.proofs.Numbers.{by-order}
+use Rattle.order.proofs.Positions.{Under, under-upTo}
 use Rattle.vector.specs.declared.Ray.{Ray}
 use Rattle.geometry.specs.declared.Triangle.{Triangle}
 use Rattle.columns.specs.Columns.{triangleAtOf}
@@ -21,7 +22,7 @@ use Rattle.planes_patches.specs.Lists.{filterBy}
 use Rattle.planes_patches.specs.Triangles.{triangleAt, trianglesIn}
 use Rattle.planes_patches.specs.Patch.{Patch}
 use Rattle.planes_patches.specs.Rows.{noneOf, rowIn, trisIn, patchIn, patchesIn, Numbered}
-use Rattle.planes_patches.proofs.Lists.{Under, under-upTo, under-filter}
+use Rattle.planes_patches.proofs.Lists.{under-filter}
 use Rattle.planes_patches.proofs.Filling.{triangle-in}
 use Rattle.planes_buried.specs.Buried.{largerOf, largestOf, probeRayOf, isBuried, openOf}
 use Rattle.planes_buried.specs.Probe.{probeOf, isBetween, TreeHeld}

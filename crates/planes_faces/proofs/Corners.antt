@@ -1,9 +1,9 @@
 -- The keys of corners in columns: what the loop of `point_keys` holds (`Made`), three calls of it after one another (`corners-all`), and
 -- step 1 by these keys as the definition of it (`first-in`).
 use mathlib.Core.Path.{_≡_, refl, sym, ap, _∙_}
-use mathlib.Core.List.{List, [], _∷_, _++_, map}
-use Prim.Native.Nat.{ℕ, zero, suc, _+_, _-_, _*_, _<_, _≤_}
-use native.Mathlib.Nat.{le-refl, not-suc-le-zero, le-of-suc-le-suc, zero-add, add-zero}
+use mathlib.Core.List.{List}
+use Prim.Native.Nat.{ℕ, suc, _+_, _-_, _*_, _<_, _≤_}
+use native.Mathlib.Nat.{le-refl, not-suc-le-zero, zero-add, add-zero}
 use native.Mathlib.Omega.{arith}
 use lib.Dec.{eqb}
 use lib.ListN.{length, getD, set, length-set, List·getD-append}
@@ -12,13 +12,12 @@ use lib.Ieee.{Float, nan, binary32, mul, ofBits}
 use Rattle.order.specs.Sort.{Below}
 use Rattle.float.proofs.Numbers.{by-order}
 use Rattle.order.proofs.Stable.{by-eq}
-use Rattle.order.specs.Runs.{upTo}
+use Rattle.order.proofs.Positions.{getD-map-upTo}
 use Rattle.planes_faces.specs.Numbers.{keyAt, isNewAt}
 use Rattle.planes_faces.specs.Key.{Key, vertexStepsPerMetre, keyBy, stepOf, vertexKey}
 use Rattle.planes_faces.specs.Numbers.{numberOf}
 use Rattle.columns.specs.Columns.{vecAtOf}
 use Rattle.planes_faces.specs.Faces.{Face, noFace, keysOf, faceAt, isFirst, faceIn, facesIn}
-use Rattle.planes_faces.proofs.Firsts.{upTo-length}
 use Rattle.planes_faces.proofs.Numbers.{RangedFace, face-ranged, new-first}
 
 -- the key of point j
@@ -83,29 +82,8 @@ part-z area n at k i r e = e
 
 -- ---- all triangles
 
-at-last : {A : Type 0} (f : ℕ → A) (d : A) (xs : List ℕ) (n : ℕ) → getD (map f (xs ++ (n ∷ []))) (length xs) d ≡ f n
-at-last f d [] n = refl
-at-last f d (x ∷ xs) n = at-last f d xs n
-
-at-before : {A : Type 0} (f : ℕ → A) (d : A) (xs ys : List ℕ) (i : ℕ) → i < length xs → getD (map f (xs ++ ys)) i d ≡ getD (map f xs) i d
-at-before f d [] ys i h = absurd (not-suc-le-zero h)
-at-before f d (x ∷ xs) ys zero h = refl
-at-before f d (x ∷ xs) ys (suc i) h = at-before f d xs ys i (le-of-suc-le-suc h)
-
-pub getD-map-upTo : {A : Type 0} (f : ℕ → A) (n i : ℕ) (d : A) → i < n → getD (map f (upTo n)) i d ≡ f i
-unfolding upTo
-getD-map-upTo f zero i d h = absurd (not-suc-le-zero h)
-getD-map-upTo f (suc n) i d h =
-    let len = upTo-length n in
-    let r : i < n → getD (map f (upTo n)) i d ≡ f i = λ g. getD-map-upTo f n i d g in
-    by-eq i n (λ e. ap (λ (j : ℕ). getD (map f (upTo n ++ (n ∷ []))) j d) (e ∙ sym len) ∙ at-last f d (upTo n) n ∙ ap f (sym e))
-    (λ ne. at-before f d (upTo n) (n ∷ []) i (below len ne) ∙ r (below refl ne))
-  where
-    below : {m : ℕ} → m ≡ n → (i ≡ n → ⊥) → i < m
-    below e ne = by-order n i (λ g. absurd (ne (omega arith))) (λ g. omega arith)
-
 -- face i of the triangles in an area
-face-in : (area : List Float) (n i : ℕ) → i < n → faceAt (facesIn area n) i ≡ faceIn area n i
+pub face-in : (area : List Float) (n i : ℕ) → i < n → faceAt (facesIn area n) i ≡ faceIn area n i
 unfolding faceAt facesIn
 face-in area n i h = getD-map-upTo (faceIn area n) n i noFace h
 

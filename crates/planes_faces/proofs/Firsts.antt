@@ -1,15 +1,15 @@
 -- What `first_indexes` rests on: a sort by the lower and then by the upper of two columns is the sort by both (`sort-both`), and each turn
 -- of the walk over its runs is a turn of `runStarts`. By the laws of `order`.
 use mathlib.Core.Path.{_≡_, refl, sym, ap, _∙_}
-use mathlib.Core.Logic.{_⊎_, inl, inr}
+use mathlib.Core.Logic.{_⊎_}
 use mathlib.Core.Bool.{Bool, true, false, cond}
-use mathlib.Core.List.{List, [], _∷_, _++_}
-use Prim.Native.Nat.{ℕ, zero, suc, _+_, _*_, _<_, _≤_, zero-le, suc-le-suc}
-use native.Mathlib.Nat.{le-refl, le-trans, not-suc-le-zero, le-of-suc-le-suc}
+use mathlib.Core.List.{List, _++_}
+use Prim.Native.Nat.{ℕ, suc, _+_, _*_, _<_, _≤_, zero-le, suc-le-suc}
+use native.Mathlib.Nat.{le-refl, le-trans, le-of-suc-le-suc}
 use native.Mathlib.Numerals.{add-one}
 use native.Mathlib.Omega.{arith}
 use lib.Dec.{eqb}
-use lib.ListN.{length, getD, drop, set, drop-of-length-le, length-append, List·getD-eq-default}
+use lib.ListN.{length, getD, drop, set, drop-of-length-le, List·getD-eq-default}
 use lib.Seq.{drop-cons}
 use borrow.Author.Tests.{eq-eqb, ne-eqb}
 use Rattle.order.specs.Sort.{sortBy, keyOf, Below}
@@ -18,8 +18,9 @@ use Rattle.order.proofs.Laws.{below-sort}
 use Rattle.order.proofs.Stable.{by-eq}
 use Rattle.order.proofs.Lexi.{lexi-sort}
 use Rattle.order.specs.Runs.{upTo, headOr, runStart, runStarts, firstAt}
+use Rattle.order.proofs.Positions.{upTo-length, upTo-positions}
 use Rattle.planes_faces.specs.Numbers.{keyAt}
-use Rattle.order.proofs.Runs.{runs-first, In, upTo-below, in-upTo}
+use Rattle.order.proofs.Runs.{runs-first, in-upTo}
 
 module _ (hi lo : List ℕ) (start x : ℕ) where
   pub start-same : getD hi x 0 ≡ getD hi start 0 → getD lo x 0 ≡ getD lo start 0 → start ≡ runStart (keyAt hi lo) start x
@@ -53,27 +54,6 @@ runs-step k start p s out h = rw (add-one, drop-cons s p 0)
 pub runs-done : (k : ℕ → ℕ) (start p : ℕ) (s out : List ℕ) → length s ≤ p → runStarts k start (drop p s) out ≡ out
 unfolding runStarts
 runs-done k start p s out h = rw (drop-of-length-le s h)
-
-pub head-at : (s : List ℕ) → 0 < length s → headOr 0 s ≡ getD s 0 0
-unfolding headOr
-head-at [] h = absurd (not-suc-le-zero h)
-head-at (x ∷ s) h = refl
-
--- 0 .. n - 1 are positions below n
-pub upTo-length : (n : ℕ) → length (upTo n) ≡ n
-unfolding upTo
-upTo-length zero = refl
-upTo-length (suc n) = length-append (upTo n) (n ∷ []) ∙ rw (upTo-length n) (omega arith)
-
-in-at : (xs : List ℕ) (i : ℕ) → i < length xs → In (getD xs i 0) xs
-unfolding In
-in-at [] i h = absurd (not-suc-le-zero h)
-in-at (x ∷ xs) zero h = inl refl
-in-at (x ∷ xs) (suc i) h = inr (in-at xs i (le-of-suc-le-suc h))
-
-pub upTo-positions : (n : ℕ) → Below n (upTo n)
-unfolding Below
-upTo-positions n i h = upTo-below n (getD (upTo n) i 0) (in-at (upTo n) i h)
 
 -- a sort by lo and then by hi is the sort by both
 pub sort-both : (hi lo : List ℕ) (xs : List ℕ) → Below 4294967296 lo → sortBy (keyOf hi) (sortBy (keyOf lo) xs) ≡ sortBy (keyAt hi lo) xs

@@ -1,14 +1,15 @@
 -- Three numbers in any order: the six tests of the definition, and the sorted three as one key.
 --     any-order-packed    the six tests pass where the packed sorted numbers are equal
 -- By the six orders as a relation that composes and turns back; two sorted triples in another order are equal.
-use mathlib.Core.Path.{_≡_, refl, sym, ap, _∙_}
+use mathlib.Core.Path.{_≡_, refl, ap, _∙_}
 use mathlib.Core.Logic.{⊎-elim, _⊎_, inl, inr}
-use mathlib.Core.Bool.{Bool, true, false, cond, _||_, _&&_}
+use mathlib.Core.Bool.{Bool, true, cond, _||_, _&&_}
 use Prim.Native.Nat.{ℕ, _+_, _*_, _<_, _≤_}
 use native.Mathlib.Nat.{le-refl}
 use native.Mathlib.Omega.{arith}
 use lib.Dec.{eqb, leb}
 use borrow.Author.Tests.{eq-eqb, eqb-true, le-leb, lt-leb}
+use Rattle.laws.proofs.Bools.{or-cases, and-cases, or-right, bool-iff}
 use Rattle.float.proofs.Numbers.{by-order}
 use Rattle.planes_faces.specs.Triples.{anyOrder, lesser, greater, lowest, middle, highest, packed3}
 
@@ -69,20 +70,8 @@ reordered-sym bac = bac
 
 -- ---- the tests
 
-or-cases : {C : Type 0} (p q : Bool) → (p ≡ true → C) → (q ≡ true → C) → p || q ≡ true → C
-or-cases true q f g e = f refl
-or-cases false q f g e = g e
-
-and-cases : {C : Type 0} (p q : Bool) → (p ≡ true → q ≡ true → C) → p && q ≡ true → C
-and-cases true q f e = f refl e
-and-cases false q f e = absurd (let n : _≡_ {A = ℕ} 0 1 = cc in omega arith)
-
 or-left : (p q : Bool) → p ≡ true → p || q ≡ true
 or-left p q e = rw e
-
-or-right : (p q : Bool) → q ≡ true → p || q ≡ true
-or-right true q e = refl
-or-right false q e = e
 
 three-eq : (a b c d e f : ℕ) → eqb a d && eqb b e && eqb c f ≡ true → (a ≡ d) × (b ≡ e) × (c ≡ f)
 three-eq a b c d e f t =
@@ -177,11 +166,6 @@ reordered-sorted cab p q r s = (omega arith, omega arith, omega arith)
 reordered-sorted acb p q r s = (omega arith, omega arith, omega arith)
 reordered-sorted cba p q r s = (omega arith, omega arith, omega arith)
 reordered-sorted bac p q r s = (omega arith, omega arith, omega arith)
-
-bool-iff : (p q : Bool) → (p ≡ true → q ≡ true) → (q ≡ true → p ≡ true) → p ≡ q
-bool-iff true q f g = sym (f refl)
-bool-iff false true f g = g refl
-bool-iff false false f g = refl
 
 -- what bounds three bounds them in another order
 pub reordered-bound : {a b c l m h : ℕ} (n : ℕ) → Reordered a b c l m h → a < n → b < n → c < n → (l < n) × (m < n) × (h < n)

@@ -3,19 +3,21 @@
 --     mag-small, mag-mid, mag-big         the size of a pattern without sign: under a half, in range, held to 2 ^ 31
 --     whole-pos, whole-cut, whole-neg     the whole number of a size and a sign
 use mathlib.Core.Path.{_≡_, refl, sym, ap, _∙_, subst}
-use mathlib.Core.Bool.{Bool, true, false, cond, not, true≢false, false≢true}
+use mathlib.Core.Bool.{Bool, true, false, not, true≢false, false≢true}
 use Prim.Native.Nat.{ℕ, zero, suc, _+_, _-_, _*_, _/_, _%_, _^_, _<_, _≤_, min}
-use native.Mathlib.Nat.{le-refl, le-trans, le-of-lt, lt-of-lt-of-le, zero-mul, mul-assoc, mul-comm, mul-right-comm, add-mul, mul-pos, mul-le-mul-right, mul-le-mul-left, mul-div-mul-right, div-eq-of-lt, min-eq-left, min-eq-right, mod-eq-of-lt, not-le-of-lt, pow-suc, mul-one}
+use native.Mathlib.Nat.{le-refl, le-trans, le-of-lt, lt-of-lt-of-le, zero-mul, mul-assoc, mul-comm, mul-right-comm, add-mul, mul-pos, mul-le-mul-right, mul-le-mul-left, mul-div-mul-right, div-eq-of-lt, min-eq-left, min-eq-right, pow-suc, mul-one}
 use native.Mathlib.Omega.{arith}
-use lib.Dec.{T, leb, eqb, ltb, leb→le, le→leb, lt→ltb, eqb→eq, not-T, T-not, lit<}
+use lib.Dec.{T, leb, ltb, le→leb, lt→ltb, T-not, lit<}
 use lib.Pow.{pow-add, pow-pos, pow-mono, shl-lt, shl-exact}
 use lib.IntN.{ℤ, pos, negsuc, negℤ}
-use lib.Ieee.{Float, nan, inf, fin, up, down, binary32, odd, ofFields, ofBits, isNan, ne}
+use lib.Ieee.{Float, nan, inf, fin, up, down, binary32, ofFields, ofBits, isNan, ne}
 use lib.Ieee.Fits.{down-pos}
-use lib.Ieee.Bits.{is-true, is-false, cond-no, nanBits-is, nanBits-above}
-use lib.Ieee.Compare.{differs-from-itself, nan-differs}
+use lib.Ieee.Bits.{is-true, nanBits-is, nanBits-above}
+use lib.Ieee.Compare.{differs-from-itself}
 use lib.Ieee.Exact.{HasValue, odd-sign}
 use Rattle.float.proofs.Numbers.{by-order}
+use Rattle.float.proofs.Keys.{ofBits-is}
+use Rattle.float.proofs.Patterns.{clear, at-zero, under-ones}
 use Rattle.planes_faces.specs.Whole.{halfUp, wholeOf, placeOf, sizeOf}
 
 -- ---- by the value
@@ -50,18 +52,6 @@ normal-size m x k h =
 -- under a half
 small-size : (a c : ℕ) → a * 2 < c → (a * 2 + c) / (c * 2) ≡ 0
 small-size a c h = div-eq-of-lt (omega arith)
-
--- what the fields stand for
-at-zero : (s : Bool) (t : ℕ) → ofFields binary32 s 0 t ≡ odd 24 s t 0 149
-unfolding ofFields
-at-zero s t = refl
-
-under-ones : (s : Bool) (t x : ℕ) → suc x < 255 → ofFields binary32 s (suc x) t ≡ odd 24 s (8388608 + t) x 149
-unfolding ofFields
-under-ones s t x h = cond-no (eqb (suc x) 255) (cond (eqb t 0) (inf s) nan) (odd 24 s (8388608 + t) x 149) (not-T (eqb (suc x) 255) (λ (u : T (eqb (suc x) 255)). differ (eqb→eq (suc x) 255 u)))
-  where
-    differ : suc x ≡ 255 → ⊥
-    differ e = omega arith
 
 at-ones : (s : Bool) → ofFields binary32 s 255 0 ≡ inf s
 unfolding ofFields
@@ -191,16 +181,6 @@ whole-cut (fin false m e′) g e = go (halfUp m e′) e
 
 -- ---- the pattern of x
 
-ofBits-is : (b : ℕ) → ofBits binary32 b ≡ ofFields binary32 (leb 2147483648 b) (b % 2147483648 / 8388608) (b % 8388608)
-unfolding ofBits
-ofBits-is b = refl
-
-pub plain : (i : ℕ) → i < 2147483648 → ofBits binary32 i ≡ ofFields binary32 false (i / 8388608) (i % 8388608)
-plain i u =
-    ofBits-is i
-    ∙ ap (λ (s : Bool). ofFields binary32 s (i % 2147483648 / 8388608) (i % 8388608)) (is-false (leb 2147483648 i) (not-T (leb 2147483648 i) (λ (t : T (leb 2147483648 i)). not-le-of-lt u (leb→le 2147483648 i t))))
-    ∙ ap (λ (x : ℕ). ofFields binary32 false (x / 8388608) (i % 8388608)) (mod-eq-of-lt u)
-
 pub minus : (i : ℕ) → 2147483648 ≤ i → i < 4294967296 → ofBits binary32 i ≡ ofFields binary32 true ((i - 2147483648) / 8388608) ((i - 2147483648) % 8388608)
 minus i l u =
     let a : i % 2147483648 ≡ i - 2147483648 = omega arith in
@@ -208,12 +188,6 @@ minus i l u =
     ofBits-is i
     ∙ ap (λ (s : Bool). ofFields binary32 s (i % 2147483648 / 8388608) (i % 8388608)) (is-true (leb 2147483648 i) (le→leb 2147483648 i l))
     ∙ ap (λ (x : ℕ). ofFields binary32 true (x / 8388608) (i % 8388608)) a ∙ ap (ofFields binary32 true ((i - 2147483648) / 8388608)) b
-
-pub no-nan : (x : Float) → ne x x ≡ false → T (not (isNan x))
-unfolding isNan
-no-nan nan h = absurd (true≢false (sym nan-differs ∙ h))
-no-nan (inf s) h = tt
-no-nan (fin s m e) h = tt
 
 pub nan-whole : (x : Float) → ne x x ≡ true → 2147483648 ≡ placeOf (wholeOf x)
 unfolding wholeOf
@@ -237,7 +211,7 @@ moved-le m k h g = rw (moved-is m k h g) (size-le m k h g)
 -- x by a pattern without sign, and with it
 pub at-plus : (x : Float) (i m : ℕ) → ofBits binary32 i ≡ x → i ≤ 2139095040 → ((s : Bool) → sizeOf (ofFields binary32 s (i / 8388608) (i % 8388608)) ≡ m) → Signed false x × (sizeOf x ≡ m)
 at-plus x i m e v f =
-    (subst (Signed false) (sym (plain i (omega arith)) ∙ e) (signed-fields false (i / 8388608) (i % 8388608) (omega arith)), ap sizeOf (sym e ∙ plain i (omega arith)) ∙ f false)
+    (subst (Signed false) (sym (clear i (omega arith)) ∙ e) (signed-fields false (i / 8388608) (i % 8388608) (omega arith)), ap sizeOf (sym e ∙ clear i (omega arith)) ∙ f false)
 
 pub at-minus : (x : Float) (i m : ℕ) → ofBits binary32 i ≡ x → 2147483648 ≤ i → i < 4294967296 → i - 2147483648 ≤ 2139095040
     → ((s : Bool) → sizeOf (ofFields binary32 s ((i - 2147483648) / 8388608) ((i - 2147483648) % 8388608)) ≡ m) → Signed true x × (sizeOf x ≡ m)

@@ -11,6 +11,7 @@ use lib.ListN.{length, getD}
 use borrow.Author.Tests.{ne-eqb}
 use Rattle.float.specs.Literals.{zero32}
 use Rattle.float.specs.Compare.{minOf, maxOf}
+use Rattle.order.proofs.Positions.{getD-map-upTo}
 use Rattle.vector.specs.declared.Vec3.{Vec3}
 use Rattle.vector.specs.Vector.{normalize3Of}
 use Rattle.geometry.specs.declared.Aabb.{Aabb}
@@ -18,8 +19,7 @@ use Rattle.geometry.specs.declared.Triangle.{Triangle}
 use Rattle.geometry.specs.Aabb.{lowOf, highOf, unionOf}
 use Rattle.order.specs.Sort.{sortBy, Below}
 use Rattle.order.specs.Runs.{anyBy, headOr, upTo}
-use Rattle.order.proofs.Laws.{below-head, below-tail}
-use Rattle.planes_faces.proofs.Corners.{getD-map-upTo}
+use Rattle.order.proofs.Laws.{below-head, below-tail, fold-same}
 use Rattle.columns.specs.Columns.{triangleAtOf}
 use Rattle.planes_patches.specs.Lists.{filterBy}
 use Rattle.planes_patches.specs.Triangles.{triangleAt, trianglesIn}
@@ -37,10 +37,6 @@ use Rattle.planes_fit.specs.declared.Sums.{Sums}
 use Rattle.planes_fit.proofs.Members.{sorted-tris}
 
 -- ---- folds
-
-fold-same : {A : Type 0} (f g : A → ℕ → A) (n : ℕ) (s : A) (is : List ℕ) → Below n is → ((r : A) (i : ℕ) → i < n → f r i ≡ g r i) → foldl f s is ≡ foldl g s is
-fold-same f g n s [] h e = refl
-fold-same f g n s (i ∷ is) h e = ap (λ r. foldl f r is) (e s i (below-head n i is h)) ∙ fold-same f g n (g s i) is (below-tail n i is h) e
 
 map-same : {A : Type 0} (f g : ℕ → A) (n : ℕ) (is : List ℕ) → Below n is → ((i : ℕ) → i < n → f i ≡ g i) → map f is ≡ map g is
 map-same f g n [] h e = refl

@@ -1,5 +1,4 @@
 -- The laws that the proofs of `planes_fit` cite.
-pub mod Folds
 pub mod Members
 pub mod Naming
 pub mod Copying

@@ -7,15 +7,17 @@ use native.Mathlib.Omega.{arith}
 use lib.Dec.{eqb, ltb}
 use lib.ListN.{getD}
 use borrow.Author.Tests.{eq-eqb, lt-ltb, eqb-true}
+use Rattle.laws.proofs.Bools.{or-first, or-second, or-right}
 use Rattle.order.specs.Sort.{sortBy, Below, Perm, none, skip, swap, then}
 use Rattle.order.specs.Runs.{anyBy, upTo}
 use Rattle.order.proofs.Stable.{sort-perm}
+use Rattle.order.proofs.Positions.{under-upTo, under-below}
 use Rattle.planes_patches.specs.Lists.{filterBy}
 use Rattle.planes_patches.specs.Rows.{noneOf, trisIn}
 use Rattle.planes_links.specs.Words.{has, itself, dedupAfter, dedup}
-use Rattle.planes_links.proofs.Rising.{Rising, not-from, clash, filter-rising, upTo-rising, has-filter, has-upTo, after-new, sorted-set}
-use Rattle.order.proofs.Laws.{below-none, below-cons, below-append}
-use Rattle.planes_patches.proofs.Lists.{Under, under-upTo, under-filter}
+use Rattle.planes_links.proofs.Rising.{Rising, not-from, clash, filter-rising, upTo-rising, has-filter, has-upTo, after-new, sorted-set, perm-has}
+use Rattle.order.proofs.Laws.{below-none, below-append}
+use Rattle.planes_patches.proofs.Lists.{under-filter}
 use Rattle.planes_links.proofs.Filters.{filter-below, eqb-turn}
 use Rattle.planes_fit.specs.Rows.{PatchesOnce}
 
@@ -25,27 +27,6 @@ pub rising-once : (xs : List ℕ) → Rising xs → PatchesOnce xs
 unfolding Rising PatchesOnce
 rising-once [] r = tt
 rising-once (x ∷ xs) r = (not-from x (suc x) xs (omega arith) (r .0), rising-once xs (r .1))
-
-pub perm-has : (q : ℕ) {xs ys : List ℕ} → Perm xs ys → has q xs ≡ has q ys
-unfolding anyBy
-perm-has q none = refl
-perm-has q (skip {x = x} p) = ap (λ (b : Bool). eqb q x || b) (perm-has q p)
-perm-has q (swap {x = x} {y = y} {xs = xs}) = or-swap (eqb q x) (eqb q y) (has q xs)
-  where
-    or-swap : (a b c : Bool) → a || (b || c) ≡ b || (a || c)
-    or-swap true true c = refl
-    or-swap true false c = refl
-    or-swap false true c = refl
-    or-swap false false c = refl
-perm-has q (then p r) = perm-has q p ∙ perm-has q r
-
-or-first : (a b : Bool) → a || b ≡ false → a ≡ false
-or-first true b e = e
-or-first false b e = refl
-
-or-second : (a b : Bool) → a || b ≡ false → b ≡ false
-or-second true b e = absurd (clash refl e)
-or-second false b e = e
 
 or-both : (a b : Bool) → a ≡ false → b ≡ false → a || b ≡ false
 or-both a b e d = rw (e, d)
@@ -89,10 +70,6 @@ has-append q (x ∷ xs) ys = rw (has-append q xs ys) (or-assoc (eqb q x) (has q 
     or-assoc true b c = refl
     or-assoc false b c = refl
 
-pub or-right : (a b : Bool) → b ≡ true → a || b ≡ true
-or-right true b e = refl
-or-right false b e = e
-
 append-once : (xs ys : List ℕ) → PatchesOnce xs → PatchesOnce ys → ((q : ℕ) → has q xs ≡ true → has q ys ≡ false) → PatchesOnce (xs ++ ys)
 unfolding PatchesOnce anyBy
 append-once [] ys o p d = p
@@ -102,11 +79,6 @@ append-once (x ∷ xs) ys o p d = (
 )
 
 -- ---- the triangles of patches
-
-under-below : (n : ℕ) (xs : List ℕ) → Under n xs → Below n xs
-unfolding Under
-under-below n [] u = below-none n
-under-below n (x ∷ xs) u = below-cons n x xs (u .0) (under-below n xs (u .1))
 
 module _ (of : List ℕ) (m : ℕ) where
   has-tris : (p t : ℕ) → has t (trisIn of m p) ≡ eqb (getD of t noneOf) p && ltb t m

@@ -10,26 +10,20 @@ use lib.Dec.{eqb}
 use lib.ListN.{length, getD, set, take, replicate, length-set}
 use lib.Seq.{getD-set-same, getD-set-other, take-all, ext-getD}
 use borrow.Author.Tests.{eq-eqb, ne-eqb}
+use Rattle.laws.proofs.Bools.{or-none}
+use Rattle.laws.proofs.Lists.{getD-inside}
 use Rattle.float.proofs.Numbers.{by-order}
 use Rattle.order.specs.Sort.{Below}
 use Rattle.order.specs.Runs.{anyBy}
 use Rattle.order.proofs.Stable.{by-eq}
 use Rattle.planes_patches.specs.Rows.{noneOf, Numbered}
 use Rattle.planes_links.specs.Words.{has, lows, mostTriangles}
-use Rattle.planes_links.proofs.Filters.{has-more, getD-inside}
+use Rattle.planes_links.proofs.Filters.{has-more}
 use Rattle.planes_fit.specs.Rows.{groupIn, Grouped, beforeOf}
 
 or-true : (b : Bool) → b || true ≡ true
 or-true true = refl
 or-true false = refl
-
-or-none : (b : Bool) → b || false ≡ b
-or-none true = refl
-or-none false = refl
-
-pub below-more : (n b : ℕ) (xs : List ℕ) → n ≤ b → Below n xs → Below b xs
-unfolding Below
-below-more n b xs h m i l = let x = m i l in omega arith
 
 -- ---- one group
 

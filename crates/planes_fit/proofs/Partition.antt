@@ -9,28 +9,25 @@ use lib.Dec.{eqb, ltb}
 use lib.Ieee.{lt}
 use lib.ListN.{length, getD}
 use borrow.Author.Tests.{eq-eqb, eqb-true, ltb-true}
+use Rattle.laws.proofs.Bools.{or-right, and-second}
 use Rattle.float.specs.Literals.{zero32}
 use Rattle.order.specs.Sort.{Below, Perm, none, skip, swap, then}
 use Rattle.order.specs.Runs.{anyBy, upTo}
-use Rattle.order.proofs.Stable.{sort-perm}
+use Rattle.order.proofs.Stable.{sort-perm, perm-same}
+use Rattle.order.proofs.Positions.{getD-map-upTo}
 use Rattle.geometry.specs.declared.Triangle.{Triangle}
-use Rattle.planes_faces.proofs.Corners.{getD-map-upTo}
 use Rattle.planes_patches.specs.Lists.{keepIf, filterBy}
 use Rattle.planes_patches.specs.Patch.{Patch, patchAt}
 use Rattle.planes_patches.proofs.Lists.{length-upTo}
 use Rattle.planes_links.specs.Words.{has, partOf}
-use Rattle.planes_links.proofs.Rising.{has-head, clash, has-filter, has-upTo, upTo-rising}
+use Rattle.planes_links.proofs.Rising.{has-head, clash, has-filter, has-upTo, upTo-rising, perm-has}
 use Rattle.planes_groups.specs.Settings.{Settings}
 use Rattle.planes_groups.specs.Groups.{seedsOf, isAdjacent, runsOf, takes, grownOf, groupsFrom, groupsOf}
 use Rattle.planes_groups.specs.Rows.{groupsIn}
 use Rattle.planes_fit.specs.Rows.{groupIn, PatchesOnce, Grouped}
-use Rattle.planes_fit.proofs.Members.{rising-once, perm-has, perm-once, perm-turn, has-append, or-right}
+use Rattle.planes_fit.proofs.Members.{rising-once, perm-once, perm-turn, has-append}
 
 -- ---- lists in another order
-
-perm-same : (xs : List ℕ) → Perm xs xs
-perm-same [] = none
-perm-same (x ∷ xs) = skip (perm-same xs)
 
 perm-before : (xs : List ℕ) {ys zs : List ℕ} → Perm ys zs → Perm (xs ++ ys) (xs ++ zs)
 perm-before [] p = p
@@ -71,10 +68,6 @@ once-both (x ∷ xs) ys o =
     go : (p : ℕ) (b : Bool) → eqb p x ≡ b → (has p xs ≡ true → has p ys ≡ false) → eqb p x || has p xs ≡ true → has p ys ≡ false
     go p true e f h = ap (λ (q : ℕ). has q ys) (eqb-true p x e) ∙ right (has x xs) (has x ys) (sym (has-append x xs ys) ∙ o .0)
     go p false e f h = f (sym (ap (λ (b : Bool). b || has p xs) e) ∙ h)
-
-and-second : (a b : Bool) → a && b ≡ true → b ≡ true
-and-second true b e = e
-and-second false b e = absurd (clash e refl)
 
 -- the others than s, after it
 seed-once : (s : ℕ) (free : List ℕ) → PatchesOnce free → PatchesOnce (s ∷ filterBy (λ q. not (eqb s q)) free)

@@ -9,7 +9,9 @@ use lib.Dec.{eqb}
 use lib.Ieee.{Float}
 use lib.ListN.{length, getD, take, drop, length-drop}
 use lib.Seq.{length-take-le}
+use Rattle.laws.proofs.Lists.{map-map}
 use Rattle.float.proofs.Numbers.{by-order}
+use Rattle.order.proofs.Laws.{below-more}
 use Rattle.geometry.specs.declared.Triangle.{Triangle}
 use Rattle.order.specs.Sort.{sortBy}
 use Rattle.order.specs.Runs.{upTo}
@@ -26,7 +28,7 @@ use Rattle.mirror.specs.Rows.{rowOf, trisOf, borderOf, edgesIn, planeIn, planes
 use Rattle.planes_fit.specs.Fit.{planeOf}
 use Rattle.planes_fit.specs.Rows.{groupIn, Grouped, beforeOf, aloneRowOf, fittedRowOf, planeRowOf, planeRowIn, Runs, Small}
 use Rattle.planes_fit.proofs.Members.{tris-below, group-tris}
-use Rattle.planes_fit.proofs.Naming.{below-more, before-is, lows-length}
+use Rattle.planes_fit.proofs.Naming.{before-is, lows-length}
 use Rattle.planes_fit.proofs.Fitting.{plane-of-row}
 
 -- ---- parts of lists
@@ -53,10 +55,6 @@ lows-drop (suc k) (x ∷ xs) = lows-drop k xs
 
 part-lows : (xs : List ℕ) (a b : ℕ) → partOf (lows xs) a b ≡ lows (partOf xs a b)
 part-lows xs a b = ap (take (b - a)) (lows-drop a xs) ∙ lows-take (b - a) (drop a xs)
-
-map-map : {A B C : Type 0} (f : B → C) (g : A → B) (xs : List A) → map f (map g xs) ≡ map (λ x. f (g x)) xs
-map-map f g [] = refl
-map-map f g (x ∷ xs) = ap (λ r. f (g x) ∷ r) (map-map f g xs)
 
 -- ---- the runs of triangles
 

@@ -14,9 +14,10 @@ use Rattle.float.proofs.Numbers.{by-order}
 use Rattle.order.specs.Sort.{Below}
 use Rattle.order.specs.Runs.{anyBy, upTo}
 use Rattle.order.proofs.Stable.{by-eq}
+use Rattle.order.proofs.Positions.{Under, under-upTo}
 use Rattle.planes_patches.specs.Lists.{filterBy}
 use Rattle.planes_links.specs.Words.{partOf}
-use Rattle.planes_links.proofs.Rising.{Under, under-upTo, has-filter, has-upTo}
+use Rattle.planes_links.proofs.Rising.{has-filter, has-upTo}
 use Rattle.planes_groups.specs.Groups.{grownOf, groupsFrom}
 use Rattle.planes_groups.specs.Rows.{groupsIn, Grouped, isFree, freeOf, Queue, Grown, RowsOf}
 use Rattle.planes_groups.proofs.Queueing.{part-kept, part-new}

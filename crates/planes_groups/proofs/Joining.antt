@@ -9,25 +9,28 @@ use lib.Dec.{eqb, ltb}
 use lib.Ieee.{Float}
 use lib.ListN.{length, getD, length-map}
 use borrow.Author.Tests.{eq-eqb, eqb-true, ltb-true}
+use Rattle.laws.proofs.Lists.{getD-inside}
+use Rattle.laws.proofs.Bools.{and-second}
 use Rattle.float.proofs.Numbers.{by-order}
 use Rattle.order.specs.Runs.{anyBy, upTo}
 use Rattle.order.proofs.Stable.{by-eq}
 use Rattle.order.proofs.Runs.{any-under}
+use Rattle.order.proofs.Positions.{upTo-length, upTo-at}
 use Rattle.geometry.specs.declared.Triangle.{Triangle}
 use Rattle.columns.specs.Columns.{triangleAtOf}
-use Rattle.planes_faces.proofs.Firsts.{upTo-length}
 use Rattle.planes_faces.specs.Key.{Key, sameKey, vertexKey}
 use Rattle.planes_patches.specs.Lists.{keepIf, filterBy}
 use Rattle.planes_patches.specs.Triangles.{triangleAt, cornersOf, trianglesIn}
 use Rattle.planes_patches.specs.Rows.{noneOf, trisIn, patchIn, patchesIn}
+use Rattle.planes_patches.proofs.Filling.{triangle-in}
 use Rattle.planes_links.specs.Words.{has}
 use Rattle.planes_links.specs.Links.{isOf, hasCorner, isLinked, runOf, isJoined, Numbers}
 use Rattle.planes_links.proofs.Rising.{clash, has-filter}
-use Rattle.planes_links.proofs.Filters.{any-more, eqb-turn, filter-below, getD-inside}
+use Rattle.planes_links.proofs.Filters.{any-more, eqb-turn, filter-below}
 use Rattle.planes_links.proofs.Pushing.{is-of, linked-none, run-cut}
 use Rattle.planes_groups.specs.Groups.{verticesOf, runAt, runsOf, isAdjacent}
 use Rattle.planes_faces.specs.Numbers.{cornerIn, placeIn, numberIn, Numbered}
-use Rattle.planes_groups.proofs.Reading.{upTo-at, map-twice, patches-length, triangle-at}
+use Rattle.planes_groups.proofs.Reading.{map-twice, patches-length}
 
 -- ---- some element passes
 
@@ -104,10 +107,6 @@ and-left : (a b : Bool) → a && b ≡ true → a ≡ true
 and-left true b h = refl
 and-left false b h = h
 
-and-right : (a b : Bool) → a && b ≡ true → b ≡ true
-and-right true b h = h
-and-right false b h = absurd (clash h refl)
-
 same-bool : (a b : Bool) → (a ≡ true → b ≡ true) → (b ≡ true → a ≡ true) → a ≡ b
 same-bool true b f g = sym (f refl)
 same-bool false true f g = g refl
@@ -141,7 +140,7 @@ module _ (area : List Float) (handles : List ℕ) (n m : ℕ) (rows : List Float
 
   corners : (t : Key → Bool) (i : ℕ) → i < m → anyBy t (map vertexKey (cornersOf (triangleAt (trianglesIn area handles n m) i))) ≡ some t i
   unfolding anyBy cornersOf triangleAtOf cornerIn key
-  corners t i h = ap (λ (x : Triangle). anyBy t (map vertexKey (cornersOf x))) (triangle-at area handles n m i h) ∙ three (t (key 0 i)) (t (key 1 i)) (t (key 2 i))
+  corners t i h = ap (λ (x : Triangle). anyBy t (map vertexKey (cornersOf x))) (triangle-in area handles n m i h) ∙ three (t (key 0 i)) (t (key 1 i)) (t (key 2 i))
     where
       three : (a b c : Bool) → a || (b || (c || false)) ≡ a || (b || c)
       three true b c = refl
@@ -235,7 +234,7 @@ module _ (area : List Float) (handles : List ℕ) (n m : ℕ) (rows : List Float
     unfolding hasCorner isOf placeIn
     forward v i e hi h =
         let here = and-left (isOf of np q i) (eqb (getD id i 0) v || (eqb (getD id (n + i) 0) v || eqb (getD id (2 * n + i) 0) v)) h in
-        let corner = and-right (isOf of np q i) (eqb (getD id i 0) v || (eqb (getD id (n + i) 0) v || eqb (getD id (2 * n + i) 0) v)) h in
+        let corner = and-second (isOf of np q i) (eqb (getD id i 0) v || (eqb (getD id (n + i) 0) v || eqb (getD id (2 * n + i) 0) v)) h in
         let hp = ltb-true (getD of i 0) np (and-left (ltb (getD of i 0) np) (eqb (getD of i 0) q) here) in
         let linked : (c : ℕ) → c < 3 → numberIn id n c i ≡ v → by-key (key c i) ≡ true = λ c hc s. link-same c i hc hi ∙ ap by-number s ∙ e in
         from-corner i hi hp
@@ -259,4 +258,4 @@ module _ (area : List Float) (handles : List ℕ) (n m : ℕ) (rows : List Float
         (λ e. any-case by-number vertices e (λ v hv ev. any-case (hasCorner id n of np v q) m (in-run v ev) (λ i hi h. forward v i ev hi h)))
         (λ e.
         any-case (λ x. anyBy by-key (verts x)) np (sym adjacent-any ∙ e)
-        (λ x hx ex. any-case (λ i. eqb (getD of i 0) x && some by-key i) m (sym (verts-any by-key x) ∙ ex) (λ i hi h. backward i hi (and-right (eqb (getD of i 0) x) (some by-key i) h))))
+        (λ x hx ex. any-case (λ i. eqb (getD of i 0) x && some by-key i) m (sym (verts-any by-key x) ∙ ex) (λ i hi h. backward i hi (and-second (eqb (getD of i 0) x) (some by-key i) h))))

@@ -7,10 +7,10 @@ use native.Mathlib.Nat.{le-refl}
 use native.Mathlib.Omega.{arith}
 use lib.ListN.{length, getD, take, drop, set}
 use borrow.Author.Tests.{ne-eqb, eq-eqb}
+use Rattle.laws.proofs.Lists.{emit}
 use Rattle.order.specs.Runs.{upTo}
 use Rattle.planes_patches.specs.Lists.{filterBy}
 use Rattle.planes_links.specs.Words.{lows}
-use Rattle.planes_links.proofs.Compacting.{emit}
 use Rattle.planes_links.proofs.Linking.{low-at, lows-length}
 use Rattle.planes_groups.specs.Rows.{isFree, freeOf, Queue, LetIn}
 use Rattle.planes_groups.proofs.Growing.{colAfter, newAfter, col-skip, new-skip, col-take, new-take, col-end, new-end, new-free, still-free}

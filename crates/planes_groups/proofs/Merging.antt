@@ -9,12 +9,12 @@ use Rattle.float.specs.Literals.{zero32}
 use Rattle.order.specs.Sort.{sortBy, Below}
 use Rattle.order.specs.Runs.{anyBy, upTo}
 use Rattle.order.proofs.Laws.{below-head, below-tail}
+use Rattle.order.proofs.Positions.{Under, under-upTo}
 use Rattle.planes_patches.specs.Lists.{filterBy}
 use Rattle.planes_patches.specs.Triangles.{trianglesIn}
 use Rattle.planes_patches.specs.Patch.{patchAt}
 use Rattle.planes_patches.specs.Rows.{trisIn, patchesIn}
 use Rattle.planes_links.specs.Words.{rowIn}
-use Rattle.planes_links.proofs.Rising.{Under, under-upTo}
 use Rattle.planes_links.proofs.Filters.{filter-under}
 use Rattle.planes_groups.specs.Settings.{Settings}
 use Rattle.planes_groups.specs.Groups.{seedsOf, runsOf, isAdjacent, takes, grownOf, groupsFrom, groupsOf}

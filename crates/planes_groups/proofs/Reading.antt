@@ -7,25 +7,22 @@ use native.Mathlib.Nat.{le-of-suc-le-suc, not-suc-le-zero}
 use native.Mathlib.Omega.{arith}
 use lib.Dec.{eqb}
 use lib.Ieee.{Float, nan}
-use lib.ListN.{length, getD, take, drop, replicate, length-map, length-replicate, getD-replicate, List·getD-append}
-use lib.Seq.{take-at, getD-at}
+use lib.ListN.{length, getD, take, drop, replicate, length-map, length-replicate, getD-replicate}
+use lib.Seq.{take-at}
 use borrow.Author.Tests.{eq-eqb}
-use Rattle.float.proofs.Numbers.{by-order}
 use Rattle.order.specs.Sort.{sortBy, keyOf, Below}
 use Rattle.order.specs.Runs.{headOr, upTo}
-use Rattle.order.proofs.Laws.{below-none, below-cons, below-sort, length-sort}
-use Rattle.order.proofs.Stable.{by-eq}
+use Rattle.order.proofs.Laws.{below-none, below-sort, length-sort, below-more}
 use Rattle.order.proofs.Lexi.{sort-cong}
-use Rattle.planes_faces.proofs.Corners.{getD-map-upTo}
-use Rattle.planes_faces.proofs.Firsts.{upTo-length}
+use Rattle.order.proofs.Positions.{upTo-length, upTo-at, under-below, Under, under-upTo, getD-map-upTo}
 use Rattle.geometry.specs.declared.Triangle.{Triangle}
 use Rattle.columns.specs.Columns.{triangleAtOf}
 use Rattle.planes_patches.specs.Lists.{keepIf, filterBy, allBy}
-use Rattle.planes_patches.specs.Triangles.{noTriangle, triangleAt, cornersOf, trianglesIn}
+use Rattle.planes_patches.specs.Triangles.{triangleAt, cornersOf, trianglesIn}
 use Rattle.planes_patches.specs.Patch.{Patch, noPatch, patchAt}
 use Rattle.planes_patches.specs.Rows.{patchFloats, noneOf, vecIn, trisIn, patchIn, patchesIn}
+use Rattle.planes_patches.proofs.Filling.{triangle-in}
 use Rattle.planes_links.specs.Words.{rowIn, RowBounds}
-use Rattle.planes_links.proofs.Rising.{Under, under-upTo}
 use Rattle.planes_links.proofs.Filters.{filter-below}
 use Rattle.planes_groups.specs.Settings.{Settings}
 use Rattle.planes_groups.specs.Groups.{descendingKey, seedsOf, isTilted, isNear, inCone, isWithin, takes}
@@ -33,25 +30,10 @@ use Rattle.planes_groups.specs.Rows.{Table, seedKeyIn, takesIn, isFree, 
 
 -- ---- 0 .. n - 1
 
-pub upTo-at : (n i : ℕ) → i < n → getD (upTo n) i 0 ≡ i
-unfolding upTo
-upTo-at zero i h = absurd (not-suc-le-zero h)
-upTo-at (suc n) i h =
-    let l = upTo-length n in
-    let r : i < n → getD (upTo n) i 0 ≡ i = λ g. upTo-at n i g in
-    by-eq i n
-    (λ e. ap (λ (k : ℕ). getD (upTo n ++ (n ∷ [])) k 0) e ∙ getD-at (upTo n) n [] 0 n l ∙ sym e)
-    (λ d. let g : i < n = by-order (suc i) n (λ y. y) (λ y. absurd (d (omega arith))) in List·getD-append (upTo n) (n ∷ []) 0 i (rw l g) ∙ r g)
-
 pub map-twice : {A B : Type 0} (f : A → B) (g : ℕ → A) (xs : List ℕ) (i : ℕ) (d : B) → i < length xs → getD (map f (map g xs)) i d ≡ f (g (getD xs i 0))
 map-twice f g [] i d h = absurd (not-suc-le-zero h)
 map-twice f g (x ∷ xs) zero d h = refl
 map-twice f g (x ∷ xs) (suc i) d h = map-twice f g xs i d (le-of-suc-le-suc h)
-
-under-below : (n : ℕ) (xs : List ℕ) → Under n xs → Below n xs
-unfolding Under
-under-below n [] u = below-none n
-under-below n (x ∷ xs) u = below-cons n x xs (u .0) (under-below n xs (u .1))
 
 pub under-filter : (t : ℕ → Bool) (n : ℕ) (xs : List ℕ) → Under n xs → Under n (filterBy t xs)
 unfolding Under filterBy
@@ -64,10 +46,6 @@ under-filter t n (x ∷ xs) u = go (t x) (under-filter t n xs (u .1))
 
 pub below-filter : (t : ℕ → Bool) (n : ℕ) → Below n (filterBy t (upTo n))
 below-filter t n = under-below n (filterBy t (upTo n)) (under-filter t n (upTo n) (under-upTo n))
-
-below-more : (n b : ℕ) (xs : List ℕ) → n ≤ b → Below n xs → Below b xs
-unfolding Below
-below-more n b xs h m i l = let x = m i l in omega arith
 
 pub positions : (n b : ℕ) (xs : List ℕ) → xs ≡ upTo n → n ≤ b → Below b xs
 positions n b xs e h = rw e (below-more n b (upTo n) h (under-below n (upTo n) (under-upTo n)))
@@ -111,10 +89,6 @@ pub patch-at : (rows : List Float) (of : List ℕ) (m np a : ℕ) → a < np →
 unfolding patchAt patchesIn
 patch-at rows of m np a h = getD-map-upTo (patchIn rows of m) np a noPatch h
 
-pub triangle-at : (area : List Float) (handles : List ℕ) (n m i : ℕ) → i < m → triangleAt (trianglesIn area handles n m) i ≡ triangleAtOf area handles n i
-unfolding triangleAt trianglesIn
-triangle-at area handles n m i h = getD-map-upTo (triangleAtOf area handles n) m i noTriangle h
-
 pub patches-length : (rows : List Float) (of : List ℕ) (m np : ℕ) → length (patchesIn rows of m np) ≡ np
 unfolding patchesIn
 patches-length rows of m np = length-map (upTo np) (patchIn rows of m) ∙ upTo-length np
@@ -140,7 +114,7 @@ takes-is s area handles n m rows of np sorted starts least most ec em is a b ha 
     rw (patch-at rows of m np a ha, patch-at rows of m np b hb, ec, em, is b hb)
     (ap (λ (t : Bool). isTilted least normal (vecIn rows (patchFloats * b)) && t)
     (all-under (λ i. allBy (isNear normal offset most) (cornersOf (triangleAtOf area handles n i))) (λ i. allBy (isNear normal offset most) (cornersOf (triangleAt (trianglesIn area handles n m) i))) m (trisIn of m b) (under-tris of m b)
-    (λ i h. ap (λ (t : Triangle). allBy (isNear normal offset most) (cornersOf t)) (sym (triangle-at area handles n m i h)))))
+    (λ i h. ap (λ (t : Triangle). allBy (isNear normal offset most) (cornersOf t)) (sym (triangle-in area handles n m i h)))))
 
 -- ---- seeds
 

@@ -1,5 +1,5 @@
 -- The keys of the patches as seeds, and their sort.
-use mathlib.Core.Path.{_≡_, refl, sym, ap, _∙_}
+use mathlib.Core.Path.{_≡_, sym, ap, _∙_}
 use mathlib.Core.List.{List, [], _∷_, _++_}
 use Prim.Native.Nat.{ℕ, _+_, _-_, _%_, _<_, _≤_}
 use native.Mathlib.Nat.{add-zero}
@@ -10,6 +10,7 @@ use lib.Seq.{getD-take, getD-drop, getD-set-same, getD-set-other, take-suc-set}
 use Rattle.order.specs.Sort.{Below}
 use Rattle.order.specs.Runs.{headOr, upTo}
 use Rattle.order.proofs.Stable.{by-eq}
+use Rattle.order.proofs.Runs.{head-at}
 use Rattle.planes_links.specs.Words.{lows, partOf, rowIn}
 use Rattle.planes_links.proofs.Linking.{low-at}
 use Rattle.planes_groups.specs.Rows.{Table}
@@ -21,11 +22,6 @@ pub table-part : (rows bound : ℕ) (sorted starts : List ℕ) (r : ℕ) → Tab
 unfolding rowIn
 table-part rows bound sorted starts r t h = t .below r h
 
-head-get : (xs : List ℕ) → headOr 0 xs ≡ getD xs 0 0
-unfolding headOr
-head-get [] = refl
-head-get (x ∷ xs) = refl
-
 pub head-some : (sorted starts : List ℕ) (r : ℕ) → getD starts r 0 < getD starts (r + 1) 0 → getD sorted (getD starts r 0) 0 % 4096 ≡ headOr 0 (rowIn sorted starts r)
 unfolding rowIn
 head-some sorted starts r h =
@@ -33,7 +29,7 @@ head-some sorted starts r h =
     let b = getD starts (r + 1) 0 in
     let pos : 0 < b - a = omega arith in
     let at : getD (partOf sorted a b) 0 0 ≡ getD sorted a 0 = getD-take (b - a) (drop a sorted) 0 0 pos ∙ getD-drop a sorted 0 0 ∙ ap (λ (k : ℕ). getD sorted k 0) (add-zero a) in
-    sym (head-get (lows (partOf sorted a b)) ∙ low-at (partOf sorted a b) 0 ∙ ap (λ (x : ℕ). x % 4096) at)
+    sym (head-at (lows (partOf sorted a b)) ∙ low-at (partOf sorted a b) 0 ∙ ap (λ (x : ℕ). x % 4096) at)
 
 pub head-none : (sorted starts : List ℕ) (r : ℕ) → getD starts (r + 1) 0 ≤ getD starts r 0 → 0 ≡ headOr 0 (rowIn sorted starts r)
 unfolding rowIn lows headOr

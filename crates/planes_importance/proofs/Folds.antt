@@ -1,11 +1,11 @@
 -- One turn, and the end, of the folds over a scene's triangles and over a plane's.
 use mathlib.Core.Path.{_≡_, refl, sym, ap, _∙_}
-use mathlib.Core.List.{List, [], _∷_, _++_, map, foldl, foldl-append}
+use mathlib.Core.List.{List, [], _∷_, _++_, map, foldl-append}
 use Prim.Native.Nat.{ℕ, zero, suc, _+_, _<_, _≤_}
 use native.Mathlib.Omega.{arith}
 use native.Mathlib.Numerals.{add-one}
-use lib.ListN.{length, getD, set, take, drop, length-set, drop-of-length-le}
-use lib.Seq.{drop-cons, take-suc-set}
+use lib.ListN.{length, set, take, length-set}
+use lib.Seq.{take-suc-set}
 use lib.Ieee.{Float}
 use Rattle.order.specs.Runs.{headOr, upTo}
 use Rattle.geometry.specs.declared.Triangle.{Triangle}
@@ -15,12 +15,6 @@ use Rattle.order.specs.Sort.{Below}
 use Rattle.mirror.specs.declared.PlaneRow.{PlaneRow}
 use Rattle.mirror.specs.Rows.{rowOf, trisOf, PlanesHeld}
 use Rattle.planes_importance.specs.Importance.{grownByOf, sceneBoxOf}
-
-pub fold-step : {A : Type 0} (f : A → ℕ → A) (s : A) (xs : List ℕ) (k : ℕ) → k < length xs → foldl f s (drop k xs) ≡ foldl f (f s (getD xs k 0)) (drop (k + 1) xs)
-fold-step f s xs k h = rw (add-one, drop-cons xs k 0 h)
-
-pub fold-done : {A : Type 0} (f : A → ℕ → A) (s : A) (xs : List ℕ) (k : ℕ) → length xs ≤ k → foldl f s (drop k xs) ≡ s
-fold-done f s xs k h = rw (drop-of-length-le xs h)
 
 map-snoc : {A B : Type 0} (f : A → B) (xs : List A) (x : A) → map f (xs ++ (x ∷ [])) ≡ map f xs ++ (f x ∷ [])
 map-snoc f [] x = refl
@@ -37,11 +31,6 @@ pub head-none : (xs : List ℕ) → length xs ≡ 0 → headOr 0 xs ≡ 0
 unfolding headOr
 head-none [] h = refl
 head-none (x ∷ xs) h = absurd (omega arith)
-
-pub head-at : (xs : List ℕ) → headOr 0 xs ≡ getD xs 0 0
-unfolding headOr
-head-at [] = refl
-head-at (x ∷ xs) = refl
 
 -- ---- the loop over planes
 

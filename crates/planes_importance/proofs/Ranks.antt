@@ -1,13 +1,14 @@
 -- The keys in the code's columns are those of the planes that the areas read as.
-use mathlib.Core.Path.{_≡_, refl, sym, ap, _∙_}
-use mathlib.Core.List.{List, [], _∷_, map, foldl}
-use Prim.Native.Nat.{ℕ, zero, suc, _+_, _<_, _≤_}
+use mathlib.Core.Path.{_≡_, sym, ap, _∙_}
+use mathlib.Core.List.{List, [], map, foldl}
+use Prim.Native.Nat.{ℕ, zero, _+_, _<_, _≤_}
 use native.Mathlib.Nat.{lt-of-lt-of-le}
-use native.Mathlib.Omega.{arith}
 use lib.ListN.{length, getD}
 use lib.Ieee.{Float}
+use Rattle.laws.proofs.Lists.{map-map}
 use Rattle.order.specs.Sort.{Below, sortBy, keyOf}
 use Rattle.order.specs.Runs.{headOr, upTo}
+use Rattle.order.proofs.Laws.{fold-same}
 use Rattle.geometry.specs.declared.Aabb.{Aabb}
 use Rattle.geometry.specs.declared.Triangle.{Triangle}
 use Rattle.columns.specs.Columns.{triangleAtOf}
@@ -17,20 +18,6 @@ use Rattle.planes_patches.proofs.Filling.{triangle-in}
 use Rattle.mirror.specs.Plane.{Plane}
 use Rattle.mirror.specs.Rows.{rowOf, trisOf, planeIn, planesIn, PlanesHeld}
 use Rattle.planes_importance.specs.Importance.{sceneBoxOf, noMoments, momentOf, areaCentreOf, importanceOf, keyOfPlane, rankingOf, keyIn, rowKeyIn}
-
-below-tail : (n x : ℕ) (xs : List ℕ) → Below n (x ∷ xs) → Below n xs
-unfolding Below
-below-tail n x xs h = λ i l. h (suc i) (omega arith)
-
-fold-same : {A : Type 0} (f g : A → ℕ → A) (n : ℕ) (s : A) (is : List ℕ) → Below n is → ((r : A) (i : ℕ) → i < n → f r i ≡ g r i) → foldl f s is ≡ foldl g s is
-unfolding Below
-fold-same f g n s [] h e = refl
-fold-same f g n s (i ∷ is) h e =
-    ap (λ r. foldl f r is) (e s i (h 0 (omega arith))) ∙ fold-same f g n (g s i) is (below-tail n i is h) e
-
-map-map : {A B C : Type 0} (f : B → C) (g : A → B) (xs : List A) → map f (map g xs) ≡ map (λ x. f (g x)) xs
-map-map f g [] = refl
-map-map f g (x ∷ xs) = ap (λ r. f (g x) ∷ r) (map-map f g xs)
 
 -- triangles below m are below n
 pub held-more : (floats : List Float) (words members : List ℕ) (m n count : ℕ) → m ≤ n → PlanesHeld floats words members [] m count → PlanesHeld floats words members [] n count

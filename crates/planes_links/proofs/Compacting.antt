@@ -5,15 +5,11 @@ use Prim.Native.Nat.{ℕ, suc, _+_, _*_, _<_, _≤_}
 use native.Mathlib.Numerals.{add-one}
 use native.Mathlib.Omega.{arith}
 use lib.ListN.{length, getD, take, drop, set, length-set, length-map, drop-of-length-le, List·getD-map}
-use lib.Seq.{drop-cons, take-suc-set, append-snoc}
+use lib.Seq.{drop-cons, take-suc-set}
+use Rattle.laws.proofs.Lists.{emit}
 use Rattle.order.specs.Radix.{upper}
 use Rattle.planes_links.specs.Words.{uppers, dedupAfter, dedup}
 use Rattle.planes_links.proofs.Rising.{after-same, after-new}
-
-pub emit : (d : List ℕ) (p x : ℕ) (r rest whole : List ℕ) → p < length d → take p d ++ r ≡ whole → r ≡ x ∷ rest → take (p + 1) (set d p x) ++ rest ≡ whole
-emit d p x r rest whole h e s =
-    ap (λ (l : List ℕ). l ++ rest) (ap (λ (n : ℕ). take n (set d p x)) (add-one p) ∙ take-suc-set d p x h)
-    ∙ append-snoc (take p d) x rest ∙ ap (λ (l : List ℕ). take p d ++ l) (sym s) ∙ e
 
 -- ---- words
 

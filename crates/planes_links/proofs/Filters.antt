@@ -5,20 +5,21 @@
 use mathlib.Core.Path.{_≡_, refl, sym, ap, _∙_}
 use mathlib.Core.Bool.{Bool, true, false, _||_, _&&_}
 use mathlib.Core.List.{List, [], _∷_, _++_}
-use Prim.Native.Nat.{ℕ, zero, suc, _+_, _<_, _≤_}
-use native.Mathlib.Nat.{le-of-suc-le-suc, not-suc-le-zero}
+use Prim.Native.Nat.{ℕ, suc, _+_, _<_, _≤_}
 use native.Mathlib.Numerals.{add-one}
 use native.Mathlib.Omega.{arith}
 use lib.Dec.{eqb, ltb}
 use lib.ListN.{length, getD, take}
 use lib.Seq.{take-suc}
 use borrow.Author.Tests.{eq-eqb, ne-eqb, lt-ltb, le-ltb}
+use Rattle.laws.proofs.Bools.{or-none}
 use Rattle.float.proofs.Numbers.{by-order}
 use Rattle.order.specs.Runs.{anyBy, upTo}
 use Rattle.order.proofs.Stable.{by-eq}
+use Rattle.order.proofs.Positions.{Under, under-upTo}
 use Rattle.planes_patches.specs.Lists.{filterBy}
 use Rattle.planes_links.specs.Words.{has}
-use Rattle.planes_links.proofs.Rising.{Under, under-upTo, rising-unique, filter-rising, upTo-rising, has-filter, has-upTo, has-snoc}
+use Rattle.planes_links.proofs.Rising.{rising-unique, filter-rising, upTo-rising, has-filter, has-upTo, has-snoc}
 
 pub eqb-turn : (a b : ℕ) → eqb a b ≡ eqb b a
 eqb-turn a b = by-eq a b (λ e. eq-eqb a b e ∙ sym (eq-eqb b a (sym e))) (λ d. ne-eqb a b d ∙ sym (ne-eqb b a (λ e. d (sym e))))
@@ -47,10 +48,6 @@ filter-cut g n b h =
 
 -- ---- some number passes
 
-or-none : (b : Bool) → b || false ≡ b
-or-none true = refl
-or-none false = refl
-
 or-assoc : (a b c : Bool) → a || (b || c) ≡ (a || b) || c
 or-assoc true b c = refl
 or-assoc false b c = refl
@@ -78,9 +75,3 @@ any-at p g (x ∷ xs) =
     absorb true c = refl
     absorb false true = refl
     absorb false false = refl
-
--- a place inside the list reads the same whatever stands for one outside
-pub getD-inside : (xs : List ℕ) (i d e : ℕ) → i < length xs → getD xs i d ≡ getD xs i e
-getD-inside [] i d e h = absurd (not-suc-le-zero h)
-getD-inside (x ∷ xs) zero d e h = refl
-getD-inside (x ∷ xs) (suc i) d e h = getD-inside xs i d e (le-of-suc-le-suc h)

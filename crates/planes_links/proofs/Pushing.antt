@@ -7,6 +7,8 @@ use native.Mathlib.Omega.{arith}
 use lib.Dec.{eqb, ltb, leb}
 use lib.ListN.{length, getD}
 use borrow.Author.Tests.{eq-eqb, ne-eqb, lt-ltb, le-ltb}
+use Rattle.laws.proofs.Bools.{or-first, or-second, and-false}
+use Rattle.laws.proofs.Lists.{getD-inside}
 use Rattle.float.proofs.Numbers.{by-order}
 use Rattle.order.specs.Runs.{anyBy, upTo}
 use Rattle.order.proofs.Stable.{by-eq}
@@ -15,8 +17,8 @@ use Rattle.planes_patches.specs.Lists.{filterBy}
 use Rattle.planes_patches.specs.Rows.{noneOf, trisIn}
 use Rattle.planes_links.specs.Words.{has, wordOf, uppers}
 use Rattle.planes_links.specs.Links.{isOf, hasCorner, follow, isLinked, runOf, isJoined, Numbers}
-use Rattle.planes_links.proofs.Rising.{clash, has-snoc, has-upTo, has-filter}
-use Rattle.planes_links.proofs.Filters.{eqb-turn, any-more, any-at, filter-cut, filter-below, getD-inside}
+use Rattle.planes_links.proofs.Rising.{has-snoc, has-upTo, has-filter}
+use Rattle.planes_links.proofs.Filters.{eqb-turn, any-more, any-at, filter-cut, filter-below}
 
 pub word-eq : (a b x y : ℕ) → b < 4096 → y < 4096 → eqb (wordOf a b) (wordOf x y) ≡ eqb a x && eqb b y
 word-eq a b x y h g =
@@ -65,10 +67,6 @@ is-none of np p i h = rw (le-ltb (getD of i 0) np h)
 is-some : (of : List ℕ) (np p i : ℕ) → getD of i 0 < np → isOf of np p i ≡ eqb p (getD of i 0)
 unfolding isOf
 is-some of np p i h = rw (lt-ltb (getD of i 0) np h) (eqb-turn (getD of i 0) p)
-
-and-false : (a : Bool) → a && false ≡ false
-and-false true = refl
-and-false false = refl
 
 and-turn : (a b : Bool) → a && b ≡ b && a
 and-turn true true = refl
@@ -160,21 +158,13 @@ any-false f (x ∷ xs) e = rw (e x) (any-false f xs e)
 is-past : (of : List ℕ) (np q i : ℕ) → np ≤ q → isOf of np q i ≡ false
 is-past of np q i h = by-order (suc (getD of i 0)) np (λ g. is-some of np q i g ∙ ne-eqb q (getD of i 0) (λ e. omega arith)) (λ g. is-none of np q i (omega arith))
 
-or-left : (a b : Bool) → a || b ≡ false → a ≡ false
-or-left true b e = e
-or-left false b e = refl
-
-or-right : (a b : Bool) → a || b ≡ false → b ≡ false
-or-right true b e = absurd (clash refl e)
-or-right false b e = e
-
 follow-right : (run : List ℕ) (p q : ℕ) → has q run ≡ false → follow run p q ≡ false
 unfolding follow anyBy
 follow-right [] p q e = refl
 follow-right (x ∷ []) p q e = refl
 follow-right (x ∷ y ∷ r) p q e =
-    let t = or-right (eqb q x) (eqb q y || has q r) e in
-    rw (follow-right (y ∷ r) p q t, eqb-turn y q, or-left (eqb q y) (has q r) t) (none (eqb x p))
+    let t = or-second (eqb q x) (eqb q y || has q r) e in
+    rw (follow-right (y ∷ r) p q t, eqb-turn y q, or-first (eqb q y) (has q r) t) (none (eqb x p))
   where
     none : (a : Bool) → (a && false) || false ≡ false
     none true = refl
@@ -185,8 +175,8 @@ unfolding follow anyBy
 follow-left [] p q e = refl
 follow-left (x ∷ []) p q e = refl
 follow-left (x ∷ y ∷ r) p q e =
-    let t = or-right (eqb q x) (eqb q y || has q r) e in
-    rw (follow-left (y ∷ r) p q t, eqb-turn x q, or-left (eqb q x) (eqb q y || has q r) e)
+    let t = or-second (eqb q x) (eqb q y || has q r) e in
+    rw (follow-left (y ∷ r) p q t, eqb-turn x q, or-first (eqb q x) (eqb q y || has q r) e)
 
 pub linked-none : (run : List ℕ) (p q : ℕ) → has q run ≡ false → isLinked run p q ≡ false
 unfolding isLinked

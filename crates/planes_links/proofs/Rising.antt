@@ -6,7 +6,7 @@ use mathlib.Core.Path.{_≡_, refl, sym, ap, _∙_}
 use mathlib.Core.Bool.{Bool, true, false, _||_, _&&_}
 use mathlib.Core.List.{List, [], _∷_, _++_}
 use Prim.Native.Nat.{ℕ, zero, suc, _+_, _*_, _/_, _%_, _<_, _≤_}
-use native.Mathlib.Nat.{le-refl, add-zero, mod-lt, div-add-mod', mul-add-div-right, div-eq-of-lt}
+use native.Mathlib.Nat.{add-zero, mod-lt, div-add-mod', mul-add-div-right, div-eq-of-lt}
 use native.Mathlib.Omega.{arith}
 use lib.Dec.{eqb, ltb}
 use borrow.Author.Tests.{eq-eqb, ne-eqb, lt-ltb, le-ltb}
@@ -15,6 +15,7 @@ use Rattle.float.proofs.Numbers.{by-order}
 use Rattle.order.proofs.Laws.{below-head, below-tail}
 use Rattle.order.proofs.Stable.{by-eq, Least, Chain, least-less, chain-sort, chain-sorted, sort-perm}
 use Rattle.order.specs.Runs.{anyBy, upTo}
+use Rattle.order.proofs.Positions.{Under, under-upTo}
 use Rattle.planes_patches.specs.Lists.{keepIf, filterBy}
 use Rattle.planes_links.specs.Words.{has, itself, dedupAfter, dedup}
 
@@ -121,26 +122,6 @@ unfolding Least
 snoc-from v n [] f h = (h, tt)
 snoc-from v n (x ∷ xs) f h = (f .0, snoc-from v n xs (f .1) h)
 
--- all below n
-unfoldable pub Under : ℕ → List ℕ → Type 0
-Under n [] = Unit {0}
-Under n (x ∷ xs) = (x < n) × Under n xs
-
-under-more : (n : ℕ) (xs : List ℕ) → Under n xs → Under (suc n) xs
-unfolding Under
-under-more n [] u = tt
-under-more n (x ∷ xs) u = let h = u .0 in (omega arith, under-more n xs (u .1))
-
-under-snoc : (n : ℕ) (xs : List ℕ) → Under n xs → Under (suc n) (xs ++ (n ∷ []))
-unfolding Under
-under-snoc n [] u = (le-refl (suc n), tt)
-under-snoc n (x ∷ xs) u = let h = u .0 in (omega arith, under-snoc n xs (u .1))
-
-pub under-upTo : (n : ℕ) → Under n (upTo n)
-unfolding Under upTo
-under-upTo zero = tt
-under-upTo (suc n) = under-snoc n (upTo n) (under-upTo n)
-
 snoc-rising : (n : ℕ) (xs : List ℕ) → Rising xs → Under n xs → Rising (xs ++ (n ∷ []))
 unfolding Rising Under Least
 snoc-rising n [] r u = (tt, tt)
@@ -236,7 +217,7 @@ dedup-has q (x ∷ xs) = after-has q x xs
 
 -- ---- the sort has the same members
 
-perm-has : (q : ℕ) {xs ys : List ℕ} → Perm xs ys → has q xs ≡ has q ys
+pub perm-has : (q : ℕ) {xs ys : List ℕ} → Perm xs ys → has q xs ≡ has q ys
 unfolding anyBy
 perm-has q none = refl
 perm-has q (skip {x = x} p) = ap (λ (b : Bool). eqb q x || b) (perm-has q p)

@@ -7,12 +7,13 @@ use Prim.Native.Nat.{ℕ, _<_, _≤_}
 use lib.Dec.{ltb}
 use lib.Ieee.{Float}
 use borrow.Author.Tests.{lt-ltb, le-ltb}
+use Rattle.order.proofs.Positions.{Under, under-upTo}
 use Rattle.vector.specs.declared.Vec3.{Vec3}
 use Rattle.order.specs.Runs.{firstBy, upTo}
 use Rattle.planes_faces.specs.Key.{Key, sameKey}
 use Rattle.planes_patches.specs.Lists.{filterBy}
 use Rattle.planes_patches.specs.Grid.{coplanarAt, cellIn, firstAmong}
-use Rattle.planes_patches.proofs.Lists.{Under, under-upTo, under-filter, under-flat, first-both, flat-append}
+use Rattle.planes_patches.proofs.Lists.{under-filter, under-flat, first-both, flat-append}
 
 module _ (rows : List Float) (np : ℕ) (n : Vec3) (d : Float) where
   abbrev among : List Key → ℕ

@@ -9,6 +9,7 @@ use native.Mathlib.Omega.{arith}
 use lib.Dec.{eqb}
 use lib.Ieee.{Float}
 use lib.ListN.{length, getD, replicate, length-replicate, getD-replicate}
+use Rattle.order.proofs.Positions.{getD-map-upTo}
 use Rattle.geometry.specs.declared.Triangle.{Triangle}
 use Rattle.columns.specs.Columns.{triangleAtOf}
 use Rattle.order.specs.Runs.{anyBy, upTo}
@@ -16,7 +17,7 @@ use Rattle.float.proofs.Numbers.{by-order}
 use Rattle.order.proofs.Stable.{by-eq}
 use Rattle.order.proofs.Runs.{any-under}
 use Rattle.planes_faces.specs.Faces.{Face, noFace, faceOf, faceAt, sameFace, isFirst, faceIn, facesIn, keysOf}
-use Rattle.planes_faces.proofs.Corners.{getD-map-upTo}
+use Rattle.planes_faces.proofs.Corners.{face-in}
 use Rattle.planes_patches.specs.Lists.{keepIf, filterBy}
 use Rattle.planes_patches.specs.Triangles.{noTriangle, triangleAt, trianglesIn}
 use Rattle.planes_patches.specs.Patch.{Patch}
@@ -39,10 +40,6 @@ triangle-in area handles n m i h = getD-map-upTo (triangleAtOf area handles n) m
 face-of : (area : List Float) (handles : List ℕ) (n m i : ℕ) → i < m → faceAt (map faceOf (trianglesIn area handles n m)) i ≡ faceIn area n i
 unfolding faceAt trianglesIn
 face-of area handles n m i h = ap (λ (l : List Face). getD l i noFace) (faces-of area handles n (upTo m)) ∙ getD-map-upTo (faceIn area n) m i noFace h
-
-face-in : (area : List Float) (n i : ℕ) → i < n → faceAt (facesIn area n) i ≡ faceIn area n i
-unfolding faceAt facesIn
-face-in area n i h = getD-map-upTo (faceIn area n) n i noFace h
 
 -- whether a triangle is kept depends on those before it alone
 first-of : (area : List Float) (handles : List ℕ) (n m i : ℕ) → i < m → m ≤ n → isFirst (facesIn area n) i ≡ isFirst (map faceOf (trianglesIn area handles n m)) i

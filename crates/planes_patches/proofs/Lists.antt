@@ -12,38 +12,15 @@ use lib.Seq.{getD-set-same, getD-set-other, ext-getD}
 use borrow.Author.Tests.{lt-ltb, le-ltb}
 use Rattle.order.specs.Runs.{firstBy, upTo}
 use Rattle.order.proofs.Stable.{by-eq}
-use Rattle.planes_faces.proofs.Firsts.{upTo-length}
-use Rattle.planes_faces.proofs.Corners.{getD-map-upTo}
+use Rattle.order.proofs.Runs.{first-append}
+use Rattle.order.proofs.Positions.{upTo-length, getD-map-upTo, Under, under-append, under-upTo}
 use Rattle.planes_patches.specs.Lists.{keepIf, filterBy}
 
 pub and-true : (a : Bool) → a && true ≡ a
 and-true true = refl
 and-true false = refl
 
-pub and-false : (a : Bool) → a && false ≡ false
-and-false true = refl
-and-false false = refl
-
 -- ---- all elements are below n
-
-unfoldable pub Under : ℕ → List ℕ → Type 0
-Under n [] = Unit {0}
-Under n (x ∷ xs) = (x < n) × Under n xs
-
-under-more : (n : ℕ) (xs : List ℕ) → Under n xs → Under (suc n) xs
-unfolding Under
-under-more n [] u = tt
-under-more n (x ∷ xs) u = (omega (arith, u .0), under-more n xs (u .1))
-
-pub under-append : (n : ℕ) (xs ys : List ℕ) → Under n xs → Under n ys → Under n (xs ++ ys)
-unfolding Under
-under-append n [] ys u v = v
-under-append n (x ∷ xs) ys u v = (u .0, under-append n xs ys (u .1) v)
-
-pub under-upTo : (n : ℕ) → Under n (upTo n)
-unfolding Under upTo
-under-upTo zero = tt
-under-upTo (suc n) = under-append (suc n) (upTo n) (n ∷ []) (under-more n (upTo n) (under-upTo n)) (le-refl (suc n), tt)
 
 pub under-filter : (n : ℕ) (p : ℕ → Bool) (xs : List ℕ) → Under n xs → Under n (filterBy p xs)
 unfolding Under filterBy
@@ -94,11 +71,6 @@ filter-none p n e = go (upTo n) (under-upTo n)
     go (x ∷ xs) u = rw (e x (u .0)) (go xs (u .1))
 
 -- ---- first matches
-
-first-append : (p : ℕ → Bool) (d : ℕ) (xs ys : List ℕ) → firstBy p d (xs ++ ys) ≡ firstBy p (firstBy p d ys) xs
-unfolding firstBy
-first-append p d [] ys = refl
-first-append p d (x ∷ xs) ys = ap (λ (r : ℕ). cond (p x) x r) (first-append p d xs ys)
 
 -- the first match of those that pass, in one test
 pub first-filter : (k m : ℕ → Bool) (d : ℕ) (xs : List ℕ) → firstBy m d (filterBy k xs) ≡ firstBy (λ j. k j && m j) d xs

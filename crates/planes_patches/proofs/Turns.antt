@@ -11,6 +11,7 @@ use lib.Ieee.{Float}
 use lib.ListN.{length, getD, set, length-set}
 use lib.Seq.{getD-set-same, getD-set-other}
 use borrow.Author.Tests.{eq-eqb, ne-eqb, lt-ltb, le-ltb}
+use Rattle.order.proofs.Positions.{Under, under-upTo, getD-map-upTo}
 use Rattle.vector.specs.declared.Vec3.{Vec3}
 use Rattle.geometry.specs.declared.Triangle.{Triangle}
 use Rattle.geometry.specs.Triangle.{triangleAreaOf}
@@ -18,7 +19,6 @@ use Rattle.float.proofs.Numbers.{by-order}
 use Rattle.order.specs.Runs.{firstBy, upTo}
 use Rattle.order.proofs.Stable.{by-eq}
 use Rattle.planes_faces.specs.Key.{Key, sameKey}
-use Rattle.planes_faces.proofs.Corners.{getD-map-upTo}
 use Rattle.planes_patches.specs.declared.PatchRow.{PatchRow}
 use Rattle.planes_patches.specs.declared.PlaneKey.{PlaneKey}
 use Rattle.planes_patches.specs.Lists.{keepIf, filterBy}
@@ -28,7 +28,7 @@ use Rattle.planes_patches.specs.Patch.{Patch, noPatch, patchAt}
 use Rattle.planes_patches.specs.Patches.{cellOf, aroundOf, inCell, isCoplanar, foundOf, newPatch, joinedOf, placedOf}
 use Rattle.planes_patches.specs.Rows.{patchFloats, noneOf, vecIn, rowIn, newRowOf, joinedRowOf, trisIn, patchIn, patchesIn, Numbered}
 use Rattle.planes_patches.specs.Grid.{key, planeKeyOf, bucketOf, cellAt, linkedOf, coplanarAt, cellIn, firstAmong, Grid, Standing}
-use Rattle.planes_patches.proofs.Lists.{Under, under-upTo, under-filter, under-flat, filter-more, filter-under, filter-none, length-upTo, map-under, map-set, map-push}
+use Rattle.planes_patches.proofs.Lists.{under-filter, under-flat, filter-more, filter-under, filter-none, length-upTo, map-under, map-set, map-push}
 use Rattle.planes_patches.proofs.Buckets.{grid-joined, grid-more}
 
 -- ---- one patch

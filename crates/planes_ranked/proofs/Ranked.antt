@@ -16,11 +16,11 @@ use Rattle.order.specs.Sort.Perm.{none, skip, swap, then}
 use Rattle.order.specs.Runs.{upTo}
 use Rattle.order.proofs.Laws.{length-sort, below-head, below-tail, below-sort, below-take}
 use Rattle.order.proofs.Stable.{sort-perm}
+use Rattle.order.proofs.Positions.{upTo-length, upTo-positions}
 use Rattle.planes_patches.specs.Lists.{keepIf, filterBy}
 use Rattle.planes_patches.specs.Rows.{noneOf, trisIn}
 use Rattle.planes_patches.specs.Triangles.{trianglesIn}
 use Rattle.planes_patches.proofs.Lists.{filter-more, length-upTo, map-under}
-use Rattle.planes_faces.proofs.Firsts.{upTo-length, upTo-positions}
 use Rattle.mirror.specs.Plane.{Plane, planeAt}
 use Rattle.geometry.specs.declared.Triangle.{Triangle}
 use Rattle.mirror.specs.Rows.{rowOf, trisOf, planeOf, planeIn, planesIn, PlanesHeld}

@@ -12,6 +12,7 @@ use Rattle.order.specs.Sort.{Below}
 use Rattle.order.specs.Runs.{upTo}
 use Rattle.float.proofs.Numbers.{by-order}
 use Rattle.order.proofs.Laws.{below-none, below-cons}
+use Rattle.order.proofs.Positions.{getD-map-upTo, upTo-length}
 use Rattle.geometry.specs.declared.Triangle.{Triangle}
 use Rattle.geometry.specs.Triangle as triangle
 use Rattle.columns.specs.Columns.{vecAtOf, triangleAtOf}
@@ -32,8 +33,6 @@ use Rattle.bvh.specs.Bvh.{aabbOf, centroidIn, finiteOf, Edged, BvhOf}
 use Rattle.bvh.specs.Bvh as flat
 use Rattle.bvh.proofs.Agree.{build-agree}
 use Rattle.bvh.proofs.Finite.{NearTriangle, finite-centroids}
-use Rattle.planes_faces.proofs.Corners.{getD-map-upTo}
-use Rattle.planes_faces.proofs.Firsts.{upTo-length}
 use Rattle.planes_patches.specs.Triangles.{noTriangle, triangleAt, boxOf, trianglesIn}
 use Rattle.mirror.specs.Rows.{ReadsAs}
 use Rattle.segments.specs.Materials.{materialFloats}

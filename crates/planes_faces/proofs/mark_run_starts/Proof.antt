@@ -6,8 +6,9 @@ use native.Mathlib.Omega.{arith}
 use lib.ListN.{length, getD, drop, set, length-set}
 use Rattle.order.specs.Sort.{Below}
 use Rattle.order.specs.Runs.{headOr, runStart, runStarts}
+use Rattle.order.proofs.Runs.{head-at}
 use Rattle.planes_faces.specs.Numbers.{keyAt}
-use Rattle.planes_faces.proofs.Firsts.{runs-step, runs-done, head-at, start-in}
+use Rattle.planes_faces.proofs.Firsts.{runs-step, runs-done, start-in}
 use borrow.Author.Needs.{needs}
 use Rattle.planes_faces.proofs.mark_run_starts.Statement.{statement}
 use Rattle.planes_faces.proofs.mark_run_starts.Tie as tie
@@ -30,7 +31,7 @@ mark-run-starts-spec =
     (λ c. search needs)
     (λ c. let g = c .before .before .before .before .before .before in
     let full : 0 < length (g .args .index .now) = omega arith in
-    (omega arith, g .pre .1 .1 .1 0 full, refl, ap (λ (l : ℕ). runStarts (keyAt (g .args .keys .now) (g .args .low-keys .now)) l (g .args .index .now) (g .args .first .now)) (sym (head-at (g .args .index .now) full))))
+    (omega arith, g .pre .1 .1 .1 0 full, refl, ap (λ (l : ℕ). runStarts (keyAt (g .args .keys .now) (g .args .low-keys .now)) l (g .args .index .now) (g .args .first .now)) (sym (head-at (g .args .index .now)))))
     (λ c. search needs)
     (λ c. search needs)
     (λ c κs. let l = c .before .before in

@@ -5,7 +5,8 @@ use native.Mathlib.Omega.{arith}
 use lib.Dec.{T}
 use lib.Ieee.{binary32, fits, toBits, ofBits}
 use lib.Ieee.Bits.{ofBits-toBits, toBits-lt}
-use Rattle.planes_faces.proofs.Wholes.{nan-whole, no-nan, number-low, whole-pos, whole-cut, whole-neg, at-plus, at-minus}
+use Rattle.float.proofs.Patterns.{no-nan}
+use Rattle.planes_faces.proofs.Wholes.{nan-whole, number-low, whole-pos, whole-cut, whole-neg, at-plus, at-minus}
 use borrow.Author.Needs.{needs}
 use Rattle.planes_faces.proofs.whole.Statement.{statement}
 use Rattle.planes_faces.proofs.whole.Tie as tie

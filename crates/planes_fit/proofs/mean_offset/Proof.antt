@@ -5,10 +5,10 @@ use Prim.Native.Nat.{_-_}
 use native.Mathlib.Omega.{arith}
 use lib.ListN.{drop, length}
 use borrow.Author.Needs.{needs}
+use Rattle.laws.proofs.Lists.{fold-done, fold-step}
 use Rattle.columns.specs.Columns.{triangleAtOf}
 use Rattle.order.specs.Sort.{Below}
 use Rattle.planes_fit.specs.Fit.{heightsOf, meanOffsetOf}
-use Rattle.planes_fit.proofs.Folds.{fold-done, fold-step}
 use Rattle.planes_fit.proofs.mean_offset.Statement.{statement}
 use Rattle.planes_fit.proofs.mean_offset.Tie as tie
 

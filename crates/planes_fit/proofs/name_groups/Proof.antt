@@ -3,7 +3,8 @@ use mathlib.Core.Path.{_∙_, _≡_, refl}
 use Prim.Native.Nat.{_+_, _-_, _≤_}
 use native.Mathlib.Omega.{arith}
 use lib.ListN.{length}
-use Rattle.planes_fit.proofs.Naming.{Assigned, assigned-more, assigned-none, below-more}
+use Rattle.order.proofs.Laws.{below-more}
+use Rattle.planes_fit.proofs.Naming.{Assigned, assigned-more, assigned-none}
 use Rattle.planes_fit.proofs.name_groups.Statement.{statement}
 use Rattle.planes_fit.proofs.name_groups.Tie as tie
 

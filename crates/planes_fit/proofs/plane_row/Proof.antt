@@ -3,8 +3,8 @@ use native.Mathlib.Omega.{arith}
 use borrow.Author.Needs.{needs}
 use borrow.Author.Tests.{eq-eqb, ne-eqb}
 use Rattle.order.specs.Sort.{Below}
+use Rattle.order.proofs.Runs.{head-at}
 use Rattle.planes_fit.specs.Rows.{planeRowOf}
-use Rattle.planes_fit.proofs.Folds.{head-at}
 use Rattle.planes_fit.proofs.plane_row.Statement.{statement}
 use Rattle.planes_fit.proofs.plane_row.Tie as tie
 

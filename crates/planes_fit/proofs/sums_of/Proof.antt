@@ -5,10 +5,10 @@ use Prim.Native.Nat.{_-_}
 use native.Mathlib.Omega.{arith}
 use lib.ListN.{drop, length}
 use borrow.Author.Needs.{needs}
+use Rattle.laws.proofs.Lists.{fold-done, fold-step}
 use Rattle.planes_patches.specs.Rows.{rowIn}
 use Rattle.order.specs.Sort.{Below}
 use Rattle.planes_fit.specs.Rows.{summedOf}
-use Rattle.planes_fit.proofs.Folds.{fold-done, fold-step}
 use Rattle.planes_fit.proofs.sums_of.Statement.{statement}
 use Rattle.planes_fit.proofs.sums_of.Tie as tie
 

@@ -1,7 +1,8 @@
 -- `planes_importance::first_of` meets its contract: by its test for an empty list.
 use mathlib.Core.Path.{sym}
 use borrow.Author.Needs.{needs}
-use Rattle.planes_importance.proofs.Folds.{head-none, head-at}
+use Rattle.order.proofs.Runs.{head-at}
+use Rattle.planes_importance.proofs.Folds.{head-none}
 use Rattle.planes_importance.proofs.first_of.Statement.{statement}
 use Rattle.planes_importance.proofs.first_of.Tie as tie
 

@@ -5,10 +5,10 @@ use Prim.Native.Nat.{ℕ, _+_, _-_}
 use native.Mathlib.Omega.{arith}
 use borrow.Author.Needs.{needs}
 use lib.ListN.{length, drop}
+use Rattle.laws.proofs.Lists.{fold-step, fold-done}
 use Rattle.order.specs.Sort.{Below}
 use Rattle.columns.specs.Columns.{triangleAtOf}
 use Rattle.planes_importance.specs.Importance.{noMoments, momentOf}
-use Rattle.planes_importance.proofs.Folds.{fold-step, fold-done}
 use Rattle.planes_importance.proofs.moments_of.Statement.{statement}
 use Rattle.planes_importance.proofs.moments_of.Tie as tie
 

@@ -5,7 +5,7 @@ use native.Mathlib.Omega.{arith}
 use borrow.Author.Needs.{needs}
 use lib.ListN.{length}
 use Rattle.order.specs.Sort.{Below}
-use Rattle.planes_faces.proofs.Firsts.{upTo-length, upTo-positions}
+use Rattle.order.proofs.Positions.{upTo-length, upTo-positions}
 use Rattle.planes_patches.proofs.Lists.{length-upTo}
 use Rattle.planes_importance.specs.Importance.{centreOf, halfDiagOf}
 use Rattle.planes_importance.proofs.Ranks.{held-more, ranking-is}

@@ -1,10 +1,11 @@
 -- `planes_patches::is_coplanar` meets its contract, by its calls and tests.
 use borrow.Author.Needs.{needs}
 use mathlib.Core.Path.{sym}
+use Rattle.laws.proofs.Bools.{and-false}
 use Rattle.planes_patches.specs.Patches.{isCoplanar}
 use Rattle.planes_patches.specs.Rows.{patchIn}
 use Rattle.planes_patches.specs.Grid.{coplanarAt}
-use Rattle.planes_patches.proofs.Lists.{and-false, and-true}
+use Rattle.planes_patches.proofs.Lists.{and-true}
 use Rattle.planes_patches.proofs.is_coplanar.Statement.{statement}
 use Rattle.planes_patches.proofs.is_coplanar.Tie as tie
 

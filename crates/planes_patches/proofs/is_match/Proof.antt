@@ -1,8 +1,9 @@
 -- `planes_patches::is_match` meets its contract, by its calls and its test.
 use mathlib.Core.Path.{sym}
 use borrow.Author.Needs.{needs}
+use Rattle.laws.proofs.Bools.{and-false}
 use Rattle.planes_patches.specs.Grid.{matchAt}
-use Rattle.planes_patches.proofs.Lists.{and-false, and-true}
+use Rattle.planes_patches.proofs.Lists.{and-true}
 use Rattle.planes_patches.proofs.is_match.Statement.{statement}
 use Rattle.planes_patches.proofs.is_match.Tie as tie
 
