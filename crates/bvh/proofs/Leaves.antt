@@ -11,6 +11,7 @@ use lib.Dec.{eqb, leb}
 use lib.ListN.{length, take, drop}
 use Rattle.order.specs.Sort.{Below, Perm, none, skip, swap, then}
 use Rattle.order.proofs.Laws.{below-cons, below-head, below-tail}
+use Rattle.order.proofs.Stable.{perm-same}
 use Rattle.vector.specs.declared.Vec3.{Vec3}
 use Rattle.vector.specs.Vector.{axisOf}
 use Rattle.geometry.specs.declared.Aabb.{Aabb}
@@ -18,10 +19,6 @@ use Rattle.tree_split.specs.Split.{Swept, swept, Divided, divided, insertOn, so
 use Rattle.tree_build.specs.Tree.{Tree, leavesOf, leafOf, innerOf, leafThreshold, buildSahOf, countTo, buildOf}
 
 -- ---- permutations
-
-pub perm-same : (xs : List ℕ) → Perm xs xs
-perm-same [] = none
-perm-same (x ∷ xs) = skip (perm-same xs)
 
 pub perm-append : (xs ys zs ws : List ℕ) → Perm xs zs → Perm ys ws → Perm (xs ++ ys) (zs ++ ws)
 perm-append xs ys zs ws p q = then (left p) (right zs q)

@@ -192,7 +192,7 @@ product-fits a b =
       h7 = mul-fits binary32 (a .b7) (b .b7);
     }
 
-energy-fits : (g : Band8) → T (fits binary32 (sumOfSquaresOf g))
+pub energy-fits : (g : Band8) → T (fits binary32 (sumOfSquaresOf g))
 unfolding sumOfSquaresOf
 energy-fits g = add-fits binary32 _ _
 

@@ -7,7 +7,8 @@ use mathlib.Core.Bool.{Bool, true, false, cond, not, _&&_, _||_}
 use mathlib.Core.List.{List, [], _∷_, _++_, map}
 use native.Mathlib.Omega.{arith}
 use lib.Ieee.{Float}
-use lib.ListN.{length, getD, replicate, length-replicate}
+use lib.ListN.{length, getD, replicate}
+use Rattle.laws.proofs.Lists.{zero-of}
 use Rattle.float.specs.Literals.{zero32}
 use Rattle.geometry.specs.declared.Triangle.{Triangle}
 use Rattle.geometry.specs.Triangle.{isDegenerateOf, triangleOf}
@@ -105,12 +106,6 @@ refusal-is : (b : Bool) (p k : ℕ) → refusalOf (cond b (Far p) (Kept k p)) �
 refusal-is true p k = refl
 refusal-is false p k = refl
 
--- zeros as long as another list are zeros as long as themselves
-zeros-own : {A : Type 0} (z : A) (n : ℕ) (l : List A) → l ≡ replicate n z → l ≡ replicate (length l) z
-zeros-own z n l e =
-    let same : length l ≡ n = ap length e ∙ length-replicate n z in
-    e ∙ ap (λ (k : ℕ). replicate k z) (sym same)
-
 placed-is : (b : Bool) (p k : ℕ) → placingsOf (cond b (Far p) (Kept k p)) ≡ p
 placed-is true p k = refl
 placed-is false p k = refl
@@ -149,8 +144,8 @@ module _ (ms : List Mesh) (n : ℕ) (columns : List Float) (handles : List ℕ) 
   two-passes columns₀ handles₀ r passed =
       as-two r (passed .answer)
       (λ h. (
-        zeros-own zero32 (length columns₀) columns (passed .filled ∙ ap (λ (b : Bool). cond b (replicate (length columns₀) zero32) (putAll columns₀ n 0 (trianglesOf (cornersAll ms)))) h),
-        zeros-own 0 (length handles₀) handles (passed .named ∙ ap (λ (b : Bool). cond b (replicate (length handles₀) 0) (putHandles handles₀ 0 (trianglesOf (cornersAll ms)))) h),
+        zero-of zero32 (length columns₀) columns (passed .filled ∙ ap (λ (b : Bool). cond b (replicate (length columns₀) zero32) (putAll columns₀ n 0 (trianglesOf (cornersAll ms)))) h),
+        zero-of 0 (length handles₀) handles (passed .named ∙ ap (λ (b : Bool). cond b (replicate (length handles₀) 0) (putHandles handles₀ 0 (trianglesOf (cornersAll ms)))) h),
       ))
       (λ h i d k. passed .reads h i d k .triangle)
 
@@ -183,8 +178,8 @@ module _ (st : Settings) (c : ℕ) (s : Scene) (lens : List ℕ) where
         passes =
             as-two (meshesOf s) (triplesIn s) columns handles (placedOf (corners s)) refl
             (λ h. (
-              zeros-own zero32 (length columns₀) columns (loading .filled ∙ ap (λ (j : ℕ). left j zero32 columns₀ (putAll columns₀ (triplesIn s) 0 (triangles s))) (k ∙ ap (λ (x : Bool). cond x 6 0) h)),
-              zeros-own 0 (length handles₀) handles (loading .named ∙ ap (λ (j : ℕ). left j 0 handles₀ (putHandles handles₀ 0 (triangles s))) (k ∙ ap (λ (x : Bool). cond x 6 0) h)),
+              zero-of zero32 (length columns₀) columns (loading .filled ∙ ap (λ (j : ℕ). left j zero32 columns₀ (putAll columns₀ (triplesIn s) 0 (triangles s))) (k ∙ ap (λ (x : Bool). cond x 6 0) h)),
+              zero-of 0 (length handles₀) handles (loading .named ∙ ap (λ (j : ℕ). left j 0 handles₀ (putHandles handles₀ 0 (triangles s))) (k ∙ ap (λ (x : Bool). cond x 6 0) h)),
             ))
             (λ h i d b. loading .reads (k ∙ ap (λ (x : Bool). cond x 6 0) h) i d b .triangle);
       }

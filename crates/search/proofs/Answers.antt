@@ -44,7 +44,7 @@ abbrev isFail : Outcome → ℕ
 isFail (fails r) = 1
 isFail (passes r f) = 0
 
-never : {A : Type 0} (q r : ℕ) (f : Found) → fails q ≡ passes r f → A
+pub never : {A : Type 0} (q r : ℕ) (f : Found) → fails q ≡ passes r f → A
 never q r f e = absurd (let no : _≡_ {A = ℕ} 1 0 = ap isFail e in omega arith)
 
 abbrev whatOf : Found → Outcome → Found
@@ -77,7 +77,7 @@ module _ (s : Settings) (planes : List Plane) (tri : ℕ → Triangle) (t : Tree
 
 -- ---- rows
 
-map-has : (f : ℕ → Candidate) (i : ℕ) (l : List ℕ) → In i l → Has (f i) (map f l)
+pub map-has : (f : ℕ → Candidate) (i : ℕ) (l : List ℕ) → In i l → Has (f i) (map f l)
 unfolding In
 map-has f i [] k = absurd k
 map-has f i (x ∷ l) (inl e) = inl (ap f e)

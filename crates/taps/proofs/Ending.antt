@@ -2,33 +2,26 @@
 -- writer's answer is then the list's packet (`ended`).
 use Prim.Native.Nat.{ℕ, suc, _+_, _*_, _≤_, _<_}
 use mathlib.Core.Path.{_≡_, refl, sym, ap, subst, _∙_}
-use mathlib.Core.Logic.{inl, inr}
 use mathlib.Core.List.{List, [], _∷_, _++_, map}
 use native.Mathlib.Omega.{arith}
 use lib.ListN.{length, getD, take, drop, length-append}
 use lib.Seq.{sets, take-at, getD-take}
 use lib.Ieee.{Float}
 use Rattle.order.specs.Runs.{upTo}
-use Rattle.order.proofs.Runs.{In, in-upTo}
+use Rattle.order.proofs.Runs.{in-upTo}
 use Rattle.packet.specs.declared.Written.{Written}
 use Rattle.packet.specs.Limits.{mostTaps, tapWords, areaWords, outBytes}
 use Rattle.packet.specs.Tap.{Tap, tapsOf, allWords}
 use Rattle.packet.specs.Writer.{writeAnswer, writeOut, writeLength}
 use Rattle.ranking.specs.declared.Candidate.{Candidate}
-use Rattle.ranking.specs.Lists.{Has}
 use Rattle.ranking.specs.Candidate.{ranked}
 use Rattle.ranking.specs.Rows.{candidateAt, candidatesIn, AllRankable, Ranked}
+use Rattle.search.proofs.Answers.{map-has}
 use Rattle.taps.specs.Tap.{sentTap, packetOf}
 use Rattle.taps.specs.Sendable.{Sendable}
 use Rattle.taps.specs.Areas.{tapsAt, Pointing}
 use Rattle.taps.proofs.Storing.{stored-back}
 use Rattle.taps.proofs.Sending.{rankable-of, sent-length, sent-bytes, sent-out}
-
-map-has : (f : ℕ → Candidate) (i : ℕ) (l : List ℕ) → In i l → Has (f i) (map f l)
-unfolding In
-map-has f i [] k = absurd k
-map-has f i (x ∷ l) (inl e) = inl (ap f e)
-map-has f i (x ∷ l) (inr k) = inr (map-has f i l k)
 
 map-length : (f : ℕ → Candidate) (l : List ℕ) → length (map f l) ≡ length l
 map-length f [] = refl

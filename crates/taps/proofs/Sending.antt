@@ -14,12 +14,11 @@ use lib.Dec.{T, ltb, eqb, nltb→le, ltb→lt}
 use lib.IntN.{pos}
 use lib.Ieee.{Float, nan, inf, fin, binary32, up, down, lt, eq, fits, isNan, ofBits}
 use lib.Ieee.Bits.{ofBits-toBits, toBits-lt}
-use lib.Ieee.Fits.{up-pos, add-fits}
+use lib.Ieee.Fits.{up-pos}
 use borrow.Author.Tests.{lt-ltb, le-ltb, le-leb, ne-eqb}
 use Rattle.float.specs.Key.{floatKey}
 use Rattle.float.specs.Literals.{zero32}
 use Rattle.float.specs.Compare.{isFinite}
-use Rattle.bands.specs.declared.Band8.{Band8}
 use Rattle.bands.specs.Band8.{sumOfSquaresOf}
 use Rattle.packet.specs.Limits.{mostTaps, mostImages, mostOrder, areaWords, outBytes}
 use Rattle.packet.specs.Floats.{finiteBits, positiveBits, zeroBits}
@@ -35,6 +34,7 @@ use Rattle.ranking.specs.Candidate.{decides, better, ranked, Rankable}
 use Rattle.ranking.specs.Listed.{Once, Listed}
 use Rattle.ranking.proofs.Keys.{lt-key}
 use Rattle.ranking.proofs.Laws.{ranked-listed}
+use Rattle.paths.proofs.Numbers.{energy-fits}
 use Rattle.taps.specs.Tap.{bitsOf, sentTap, packetOf}
 use Rattle.taps.specs.Sendable.{Plain, Level, Sound, Placed, Sendable}
 use Rattle.taps.proofs.Storing.{plain-number}
@@ -161,10 +161,6 @@ sum-is c s =
     ∙ sym (s .energy-is)
 
 -- ---- what the ranking asks
-
-energy-fits : (g : Band8) → T (fits binary32 (sumOfSquaresOf g))
-unfolding sumOfSquaresOf
-energy-fits g = add-fits binary32 _ _
 
 above-number : (x : Float) → T (lt leastSum x) → T (not (isNan x))
 unfolding lt isNan ofBits

@@ -66,11 +66,6 @@ module _ (n : ℕ) (keys : List ℕ) (f : ℕ → Float) (o : KeysInOrder n keys
       insert-same x (sortBy (keyOf keys) xs) (below-head n x xs h) (below-sort (keyOf keys) n xs (below-tail n x xs h))
       ∙ ap (insertOn f x) (sort-same xs (below-tail n x xs h))
 
--- what is below m is below any n from m on
-pub below-wider : (m n : ℕ) (xs : List ℕ) → m ≤ n → Below m xs → Below n xs
-unfolding Below
-below-wider m n xs h b i l = let x = b i l in omega arith
-
 -- ---- the loop from the back
 module _ (b : ℕ → Aabb) (xs : List ℕ) (i : ℕ) (pos : 0 < i) (fits : i ≤ length xs) where
   pub back-step : suffixOf b (drop (i - 1) xs) ≡ unionOf (suffixOf b (drop i xs)) (b (getD xs (i - 1) 0))

@@ -3,7 +3,7 @@ use mathlib.Core.Path.{refl}
 use native.Mathlib.Omega.{arith}
 use Prim.Native.Nat.{_*_, _≤_}
 use lib.ListN.{length}
-use Rattle.tree_split.proofs.Laws.{below-wider}
+use Rattle.order.proofs.Laws.{below-more}
 use Rattle.bvh.proofs.Laws as law
 use Rattle.bvh.proofs.build_flat_bvh.Statement.{statement}
 use Rattle.bvh.proofs.build_flat_bvh.Tie as tie
@@ -54,7 +54,7 @@ put-traced-requires c κs =
     let size = w .size in
     let most = w .most in
     let q = b40 .pre .1 in
-    ((L .wide, below-wider _ _ _ (L .fewer) (w .inside), omega arith), (w .boxes-room, omega arith))
+    ((L .wide, below-more _ _ _ (L .fewer) (w .inside), omega arith), (w .boxes-room, omega arith))
 
 same-length-9 : tie.Need-same-length-9
 same-length-9 c = c .before .before .before .before .before .before .before .before .before .before .before .before .before .before .before .before .before .before .before .before .before .before .before .build-tree .kept .1 .1 .1 .0

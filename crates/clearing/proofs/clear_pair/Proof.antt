@@ -2,7 +2,7 @@
 use native.Mathlib.Omega.{arith}
 use borrow.Author.Needs.{needs}
 use lib.ListN.{length}
-use Rattle.clearing.proofs.Zero.{zero-of}
+use Rattle.laws.proofs.Lists.{zero-of}
 use Rattle.clearing.proofs.clear_pair.Statement.{statement}
 use Rattle.clearing.proofs.clear_pair.Tie as tie
 

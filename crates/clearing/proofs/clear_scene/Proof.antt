@@ -2,7 +2,7 @@
 use native.Mathlib.Omega.{arith}
 use borrow.Author.Needs.{needs}
 use lib.ListN.{length}
-use Rattle.clearing.proofs.Zero.{zero-of}
+use Rattle.laws.proofs.Lists.{zero-of}
 use Rattle.float.specs.Literals.{zero32}
 use Rattle.clearing.proofs.clear_scene.Statement.{statement}
 use Rattle.clearing.proofs.clear_scene.Tie as tie

@@ -1,7 +1,7 @@
 -- `tree_split::sort_by_centroid` meets its contract: keys in the order of the values sort as the values do (`sort-same`).
 use mathlib.Core.Path.{_∙_}
 use Rattle.order.specs.Sort.{keyOf}
-use Rattle.order.proofs.Laws.{below-sort}
+use Rattle.order.proofs.Laws.{below-sort, below-more}
 use Rattle.vector.specs.Vector.{axisOf}
 use Rattle.tree_split.specs.Split.{centroidAtOf}
 use Rattle.tree_split.proofs.Laws as law
@@ -9,7 +9,7 @@ use Rattle.tree_split.proofs.sort_by_centroid.Statement.{statement}
 use Rattle.tree_split.proofs.sort_by_centroid.Tie as tie
 
 sort-by-key-requires : tie.Need-sort-by-key-requires
-sort-by-key-requires c κs = let p = c .before .before .before .before .before .before .before .before .pre in (p .1 .0 .0, (p .1 .0 .1, law.below-wider _ _ _ (p .1 .1 .0) (p .0)))
+sort-by-key-requires c κs = let p = c .before .before .before .before .before .before .before .before .pre in (p .1 .0 .0, (p .1 .0 .1, below-more _ _ _ (p .1 .1 .0) (p .0)))
 
 same-length : tie.Need-same-length
 same-length c = c .before .before .before .before .before .before .sort-by-key .kept .1 .0
