@@ -200,7 +200,7 @@ fn say_fault(wrong: u32, word: &[u8]) {
 }
 
 // The line, what was expected there, and what stands there.
-pub fn say_wrong(s: &[u8], c: Cursor) {
+pub(crate) fn say_wrong(s: &[u8], c: Cursor) {
     let from = c.from;
     let at = c.at;
     say_line(c.line);
@@ -344,7 +344,7 @@ fn say_room(refusal: u32, room: u32) {
 }
 
 // A refusal, with its number; 1 with the setting that it is about. `room` is the room for candidates that the case has.
-pub fn say_refusal(s: &[u8], refusal: u32, settings: Settings, room: u32) {
+pub(crate) fn say_refusal(s: &[u8], refusal: u32, settings: Settings, room: u32) {
     say(b"refusal ");
     io::print_decimal(STDERR_FILENO, refusal as u64);
     say(b": ");
@@ -357,7 +357,7 @@ pub fn say_refusal(s: &[u8], refusal: u32, settings: Settings, room: u32) {
     say(b"\n");
 }
 
-pub fn say_usage() {
+pub(crate) fn say_usage() {
     say(b"usage: booth                        the built-in booth\n");
     say(b"       booth SCENE.case             the scene of a file (docs/BOOTH.md)\n");
     say(b"       booth SCENE.case PACKET.bin  the same, and the packet to a file\n");

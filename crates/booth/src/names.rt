@@ -32,7 +32,7 @@ fn wall_at(planes: [u8; MAX_IMAGE_ORDER], k: usize) -> u8 {
 }
 
 // The walls that the echo with this image meets.
-pub fn print_walls(on: &[u8], order: u32, number: u32) {
+pub(crate) fn print_walls(on: &[u8], order: u32, number: u32) {
     let met = walls_of(on, order, number);
     let planes = met.planes;
     let mut k = 0;
@@ -153,7 +153,7 @@ fn print_lines(
 }
 
 // The walls that the echoes meet, in the order of their numbers. A scene may have 256: one that no row names is left out.
-pub fn print_list(
+pub(crate) fn print_list(
     taps: &[u32],
     on: &[u8],
     order: u32,

@@ -28,15 +28,15 @@ fn tag_of(on: &[u8], part: usize, p: usize) -> u8 {
     0
 }
 
-pub fn mesh(on: &[u8], p: usize) -> u8 {
+pub(crate) fn mesh(on: &[u8], p: usize) -> u8 {
     tag_of(on, MESHES, p)
 }
 
-pub fn material(on: &[u8], p: usize) -> u8 {
+pub(crate) fn material(on: &[u8], p: usize) -> u8 {
     tag_of(on, MATERIALS, p)
 }
 
-pub fn is_of_several(on: &[u8], p: usize) -> bool {
+pub(crate) fn is_of_several(on: &[u8], p: usize) -> bool {
     tag_of(on, SEVERAL, p) != 0
 }
 
@@ -106,7 +106,7 @@ fn set_plane(
     );
 }
 
-pub fn set_planes(
+pub(crate) fn set_planes(
     on: &mut [u8],
     words: &[u32],
     triangles: &[u32],
