@@ -26,14 +26,14 @@ ghost use lib.ListN.{length};
 ghost use Rattle.mirror.specs.Rows.{planeFloats, planeWords};
 
 // The candidates that there is room for.
-const CANDIDATES: u32 = 4096;
+const CANDIDATES: u32 = areas::CANDIDATES as u32;
 
-const MOST_CANDIDATES: u32 = 250000;
+const MOST_CANDIDATES: u32 = sequences::MAX_IMAGE_NODES as u32;
 
 // More taps than any list has, and the most planes.
 const ALL_TAPS: u32 = 1000000;
 
-const ALL_PLANES: u32 = 256;
+const ALL_PLANES: u32 = sequences::MAX_PLANES as u32;
 
 // ---- the query
 
@@ -249,28 +249,7 @@ fn load(
         indices,
         materials,
         casefile::word(w, 7),
-        [
-            11776,
-            512,
-            11264,
-            4096,
-            512,
-            5632,
-            1536,
-            16384,
-            16384,
-            1536,
-            9728,
-            12288,
-            5632,
-            1537,
-            59392,
-            513,
-            6144,
-            2560,
-            9216,
-            packet::OUT_BYTES,
-        ],
+        areas::LENGTHS,
         &mut triangles,
         &mut handles,
     )
@@ -625,7 +604,10 @@ fn trace_and_name(
 // The order that the query searches to.
 pub(crate) fn order_of(w: &[u32], f: &[f32]) -> u32 {
     let order = front::search_order(settings_of(w, f));
-    if order < 9 { order as u32 } else { 0 }
+    if order <= sequences::MAX_IMAGE_ORDER {
+        return order as u32;
+    }
+    0
 }
 
 // A count of a case, cut to what its area holds.

@@ -8,6 +8,7 @@ use crate::tags;
 use libc::STDOUT_FILENO;
 use numbering::Walls;
 use sequences::MAX_IMAGE_ORDER;
+use sequences::MAX_PLANES;
 ghost use Prim.Native.Nat.{_+_, _*_, _≤_};
 ghost use lib.ListN.{length};
 
@@ -19,7 +20,10 @@ fn print_arrow(k: usize) {
 
 // How many planes there are, as `numbering` takes it.
 fn count_of(on: &[u8]) -> u32 {
-    if on.len() < 257 { on.len() as u32 } else { 0 }
+    if on.len() <= MAX_PLANES {
+        return on.len() as u32;
+    }
+    0
 }
 
 // The walls of the echo with this image, the one next to the source first.
@@ -144,7 +148,7 @@ fn print_lines(
 {
     let mut p = 0;
     while p < on.len() {
-        if 255 < p {
+        if MAX_PLANES <= p {
             return;
         }
         print_used(taps, on, order, count, floats, words, tags, text, p);
