@@ -152,9 +152,20 @@ fn advise(word: &[u8]) {
     }
 }
 
+// Whether a word begins as a number does, with a digit or a minus.
+fn is_numeric(word: &[u8]) -> bool {
+    let first = byte_at(word, 0);
+    first == b'-' || (b'0' <= first && first <= b'9')
+}
+
+// Whether it does, and has an exponent: a word as `merge` has none.
+fn has_exponent(word: &[u8]) -> bool {
+    is_numeric(word) && (has(word, b'e') || has(word, b'E'))
+}
+
 fn advise_more(word: &[u8]) {
-    if has(word, b'e') || has(word, b'E') {
-        say(b"write it without an exponent, as 1000 for 1e3");
+    if has_exponent(word) {
+        say(b"write it without an exponent, as 1000 for 1e3 and 0.001 for 1e-3");
     } else {
         say(b"write a decimal of at most seven digits, as -0.25, or a float's bits, as 0xbe800000");
     }
