@@ -54,7 +54,7 @@ fn byte_at(s: &[u8], k: usize) -> u8 {
 }
 
 // The remark in the line of mesh j, if there is one, up to a comma.
-pub fn print_mesh(s: &[u8], j: u8) {
+pub(crate) fn print_mesh(s: &[u8], j: u8) {
     let from = place_of(s, mesh_place(s, j), b'#');
     if byte_at(s, from) == b'#' {
         print(b"  ");

@@ -3,12 +3,12 @@ ghost use Prim.Native.Nat.{_<_, _≤_};
 ghost use lib.ListN.{length};
 
 // The byte at a place; past the end, a line feed.
-pub fn byte_at(s: &[u8], at: usize) -> u8 {
+pub(crate) fn byte_at(s: &[u8], at: usize) -> u8 {
     if at < s.len() { s[at] } else { b'\n' }
 }
 
 // The place after the line that `at` is in.
-pub fn line_end(s: &[u8], at: usize) -> usize
+pub(crate) fn line_end(s: &[u8], at: usize) -> usize
     requires { ⌜ at < length (now s) ⌝ }
     ensures { λ r. ⌜ (at < r) × (r ≤ length (now (s .entry))) ⌝ }
 {
@@ -23,7 +23,7 @@ pub fn line_end(s: &[u8], at: usize) -> usize
 }
 
 // The place of the first space, or the line's length.
-pub fn name_end(s: &[u8]) -> usize
+pub(crate) fn name_end(s: &[u8]) -> usize
     ensures { λ r. ⌜ r ≤ length (now (s .entry)) ⌝ }
 {
     let mut i = 0;
@@ -59,7 +59,7 @@ fn push_word(to: &mut [u32], k: usize, digit: u8) {
 }
 
 // The words in hexadecimal from `at` on, to `to`, which is zeros. Answers how many digits there are.
-pub fn hex_words(s: &[u8], at: usize, to: &mut [u32]) -> usize {
+pub(crate) fn hex_words(s: &[u8], at: usize, to: &mut [u32]) -> usize {
     let mut i = at;
     let mut k = 0;
     while i < s.len() {
@@ -89,7 +89,7 @@ fn put_float(to: &mut [f32], i: usize, w: u32) {
 }
 
 // Each word as the float that has its bits.
-pub fn floats_of(words: &[u32], to: &mut [f32]) {
+pub(crate) fn floats_of(words: &[u32], to: &mut [f32]) {
     let mut i = 0;
     while i < words.len() {
         put_float(to, i, words[i]);

@@ -16,7 +16,7 @@ print-used-requires : tie.Need-print-used-requires Inv-loop μ-loop
 print-used-requires c κs =
     let q = c .before .before .before .before .before .before .before .before .before .pre in
     let h = c .if1 .left in
-    (h, omega (arith, h, q .0), omega (arith, h, q .1))
+    (omega (arith, h), omega (arith, h, q .0), omega (arith, h, q .1))
 
 pub print-lines-spec : {M : Type 1} → statement M
 print-lines-spec =
