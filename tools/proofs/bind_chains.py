@@ -12,6 +12,8 @@ SHORT = 6  # chains up to this length stay as they are
 WIDE = 400
 
 CHAIN = re.compile(r"(?<![\w′₁₂])c((?: \.before){%d,})" % (SHORT + 1))
+# what reads every record in reach stops at 128 of them: a place that is bound is one more, so such an answer keeps its chains
+LOOKS_ROUND = re.compile(r"omega arith(?!,)|\bsearch\b|\bcc\b")
 ANSWER = re.compile(r"^(\S+)((?: t)? c(?: κs)?) =(.*)$", re.S)
 
 
@@ -19,7 +21,7 @@ def bound(body):
     """The body with each chain that it uses twice bound at its start."""
     counts = collections.Counter(chain.group(1).count(".before") for chain in CHAIN.finditer(body))
     lengths = sorted(length for length, times in counts.items() if times > 1)
-    if not lengths:
+    if not lengths or LOOKS_ROUND.search(body):
         return body
     lets, last, name = [], 0, "c"
     for length in lengths:

@@ -36,8 +36,8 @@ write-taps-requires c κs =
 
 returns-3 : tie.Need-returns-3
 returns-3 c =
-    let b17 = c .before .before .before .before .before .before .before .before .before .before .before .before .before .before .before .before .before in
-    let a = c .before .before .before .before .before .before .before .before .before .before .before .before .before .before .before .before .before .before .before .before .before .before .before .before .before .before .before .args in let f = a .found in let st = a .settings in let limit = b17 .list-limit .result in let v = c .before .before .before .before .before
+    let a = c .before .before .before .before .before .before .before .before .before .before .before .before .before .before .before .before .before .before .before .before .before .before .before .before .before .before .before .args in let f = a .found in let st = a .settings in let limit = c .before .before .before .before .before .before .before .before .before
+    .before .before .before .before .before .before .before .before .list-limit .result in let v = c .before .before .before .before .before
     .before .before .before .before .before .before .before .before .before .before .before .speed-of-sound in let t = c .before .before .before .before .before .before .before .before .before .before .write-taps in
     let cs = candidatesIn (f .found) (a .candidate-floats .now) (a .candidate-words .now) in
     let w = claim.search (f .images) (f .rays) cs (f .over) in
@@ -45,7 +45,7 @@ returns-3 c =
     let e =
     given-answer (v .result) (st .«sample_rate») limit (f .images) (f .rays) cs (f .over) (ended (v .result) (st .«sample_rate») limit w) (c .before .before .before .before .before .before .before .before .before .before .before .before .before .before .before .before .before .before .if2 .left) refl
     ∙ ap (λ (z : Float). ended z (st .«sample_rate») limit w) (v .ensures)
-    ∙ ap (λ (l : ℕ). ended (speedOf (st .«temperature_celsius»)) (st .«sample_rate») l w) (b17 .list-limit .ensures)
+    ∙ ap (λ (l : ℕ). ended (speedOf (st .«temperature_celsius»)) (st .«sample_rate») l w) (c .before .before .before .before .before .before .before .before .before .before .before .before .before .before .before .before .before .list-limit .ensures)
     ∙ by-none (a .refusal) q (c .before .before .before .before .before .before .before .before .before .before .before .before .before .before .before .before .before .before .before .if1 .left)
     in
     let s = sent-answer (f .images) (f .rays) (ranked (v .result) (st .«sample_rate») limit cs) (t .result .count) (t .result .bytes) (a .out .now) (t .last .1 .1 .1 .1 .1 .1 .1 .1 .1 .1 .1 .1 .0) (t .ensures .0) (t .ensures .1 .0) (t .ensures .1 .1 .0) in

@@ -48,12 +48,11 @@ returns c =
 
 put-traced-requires : tie.Need-put-traced-requires
 put-traced-requires c κs =
-    let b40 = c .before .before .before .before .before .before .before .before .before .before .before .before .before .before .before .before .before .before .before .before .before .before .before .before .before .before .before .before .before .before .before .before .before .before .before .before .before .before .before .before in
-    let L = b40 .pre .0 in
+    let L = c .before .before .before .before .before .before .before .before .before .before .before .before .before .before .before .before .before .before .before .before .before .before .before .before .before .before .before .before .before .before .before .before .before .before .before .before .before .before .before .before .pre .0 in
     let w = law.some-built _ _ _ _ _ _ _ _ (c .before .before .before .before .before .before .before .before .before .before .before .before .before .before .before .before .before .before .before .before .build-tree .ensures) (c .before .before .before .if1 .left) in
     let size = w .size in
     let most = w .most in
-    let q = b40 .pre .1 in
+    let q = c .before .before .before .before .before .before .before .before .before .before .before .before .before .before .before .before .before .before .before .before .before .before .before .before .before .before .before .before .before .before .before .before .before .before .before .before .before .before .before .before .pre .1 in
     ((L .wide, below-more _ _ _ (L .fewer) (w .inside), omega arith), (w .boxes-room, omega arith))
 
 same-length-9 : tie.Need-same-length-9
@@ -85,19 +84,19 @@ same-length-17 c = c .before .before .put-traced .kept .1 .1 .1 .1 .1 .0
 
 returns-2 : tie.Need-returns-2
 returns-2 c =
-    let b23 = c .before .before .before .before .before .before .before .before .before .before .before .before .before .before .before .before .before .before .before .before .before .before .before in
-    let b43 = b23 .before .before .before .before .before .before .before .before .before .before .before .before .before .before .before .before .before .before .before .before in
-    let a = b43 .args in
+    let a = c .before .before .before .before .before .before .before .before .before .before .before .before .before .before .before .before .before .before .before .before .before .before .before .before .before .before .before .before .before .before .before .before .before .before .before .before .before .before .before .before .before .before .before .args in
     let m = length (a .leaf-order .now) in
-    let q = b43 .pre .1 in
-    let w = law.some-built _ _ _ _ _ _ _ _ (b23 .build-tree .ensures) (c .before .before .before .before .before .before .if1 .left) in
+    let q = c .before .before .before .before .before .before .before .before .before .before .before .before .before .before .before .before .before .before .before .before .before .before .before .before .before .before .before .before .before .before .before .before .before .before .before .before .before .before .before .before .before .before .before .pre .1 in
+    let w = law.some-built _ _ _ _ _ _ _ _ (c .before .before .before .before .before .before .before .before .before .before .before .before .before .before .before .before .before .before .before .before .before .before .before .build-tree .ensures) (c .before .before .before .before .before .before .if1 .left) in
     let t = c .before .before .put-traced .last .1 .1 .1 .1 .1 .0 in
     let room : 22 * m ≤ length t = let e = c .before .before .put-traced .kept .1 .1 .1 .1 .1 .0 in omega arith in (
       record {
         built = λ _. w;
-        traced = λ _. law.traced-in (a .triangles .now) (a .handles .now) (a .n) m (b23 .build-tree .last .1 .1 .1 .1 .1 .1 .1 .1 .1 .0) (b23 .build-tree .last .1 .1 .1 .1 .1 .1 .1 .1 .1 .1 .0) (b23 .build-tree .last .1 .1 .1 .1 .1 .0) t (b23 .build-tree .result)
+        traced = λ _. law.traced-in (a .triangles .now) (a .handles .now) (a .n) m (c .before .before .before .before .before .before .before .before .before .before .before .before .before .before .before .before .before .before .before .before .before .before .before .build-tree .last .1 .1 .1 .1 .1 .1 .1 .1 .1 .0) (c .before .before .before .before .before .before
+            .before .before .before .before .before .before .before .before .before .before .before .before .before .before .before .before .before .build-tree .last .1 .1 .1 .1 .1 .1 .1 .1 .1 .1 .0) (c .before .before .before .before .before .before .before .before .before .before .before .before .before .before .before .before .before .before .before .before .before
+            .before .before .build-tree .last .1 .1 .1 .1 .1 .0) t (c .before .before .before .before .before .before .before .before .before .before .before .before .before .before .before .before .before .before .before .before .before .before .before .build-tree .result)
             w room (c .before .before .put-traced .ensures .0) (c .before .before .put-traced .ensures .1);
-        none = λ f. b23 .build-tree .ensures .none f;
+        none = λ f. c .before .before .before .before .before .before .before .before .before .before .before .before .before .before .before .before .before .before .before .before .before .before .before .build-tree .ensures .none f;
       },
       (same-length-9 c, same-length-10 c, same-length-12 c, same-length-13 c, same-length-14 c),
     )

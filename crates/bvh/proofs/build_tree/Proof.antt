@@ -24,115 +24,102 @@ number-requires c κs = c .before .before .before .before .before .before .befor
 
 sub-build-sah : tie.Need-sub-build-sah
 sub-build-sah c =
-    let b23 = c .before .before .before .before .before .before .before .before .before .before .before .before .before .before .before .before .before .before .before .before .before .before .before in
-    let few = b23 .pre .few in
-    let room = b23 .pre .keys-room in
+    let few = c .before .before .before .before .before .before .before .before .before .before .before .before .before .before .before .before .before .before .before .before .before .before .before .pre .few in
+    let room = c .before .before .before .before .before .before .before .before .before .before .before .before .before .before .before .before .before .before .before .before .before .before .before .pre .keys-room in
     let long = c .before .before .before .before .before .before .before .put-all-keys .kept .1 .1 .1 .1 .0 in
     omega arith
 
 part-build-sah-start : tie.Need-part-build-sah-start
 part-build-sah-start c =
-    let b24 = c .before .before .before .before .before .before .before .before .before .before .before .before .before .before .before .before .before .before .before .before .before .before .before .before in
-    let few = b24 .pre .few in
-    let room = b24 .pre .keys-room in
+    let few = c .before .before .before .before .before .before .before .before .before .before .before .before .before .before .before .before .before .before .before .before .before .before .before .before .pre .few in
+    let room = c .before .before .before .before .before .before .before .before .before .before .before .before .before .before .before .before .before .before .before .before .before .before .before .before .pre .keys-room in
     let long = c .before .before .before .before .before .before .before .before .put-all-keys .kept .1 .1 .1 .1 .0 in
     omega arith
 
 part-build-sah-end : tie.Need-part-build-sah-end
 part-build-sah-end c =
-    let b24 = c .before .before .before .before .before .before .before .before .before .before .before .before .before .before .before .before .before .before .before .before .before .before .before .before in
-    let few = b24 .pre .few in
-    let room = b24 .pre .keys-room in
+    let few = c .before .before .before .before .before .before .before .before .before .before .before .before .before .before .before .before .before .before .before .before .before .before .before .before .pre .few in
+    let room = c .before .before .before .before .before .before .before .before .before .before .before .before .before .before .before .before .before .before .before .before .before .before .before .before .pre .keys-room in
     let long = c .before .before .before .before .before .before .before .before .put-all-keys .kept .1 .1 .1 .1 .0 in
     omega arith
 
 mul-build-sah : tie.Need-mul-build-sah
 mul-build-sah c =
-    let b25 = c .before .before .before .before .before .before .before .before .before .before .before .before .before .before .before .before .before .before .before .before .before .before .before .before .before in
-    let few = b25 .pre .few in
-    let room = b25 .pre .keys-room in
+    let few = c .before .before .before .before .before .before .before .before .before .before .before .before .before .before .before .before .before .before .before .before .before .before .before .before .before .pre .few in
+    let room = c .before .before .before .before .before .before .before .before .before .before .before .before .before .before .before .before .before .before .before .before .before .before .before .before .before .pre .keys-room in
     let long = c .before .before .before .before .before .before .before .before .before .put-all-keys .kept .1 .1 .1 .1 .0 in
     omega arith
 
 sub-build-sah-2 : tie.Need-sub-build-sah-2
 sub-build-sah-2 c =
-    let b25 = c .before .before .before .before .before .before .before .before .before .before .before .before .before .before .before .before .before .before .before .before .before .before .before .before .before in
-    let few = b25 .pre .few in
-    let room = b25 .pre .keys-room in
+    let few = c .before .before .before .before .before .before .before .before .before .before .before .before .before .before .before .before .before .before .before .before .before .before .before .before .before .pre .few in
+    let room = c .before .before .before .before .before .before .before .before .before .before .before .before .before .before .before .before .before .before .before .before .before .before .before .before .before .pre .keys-room in
     let long = c .before .before .before .before .before .before .before .before .before .put-all-keys .kept .1 .1 .1 .1 .0 in
     omega arith
 
 part-build-sah-start-2 : tie.Need-part-build-sah-start-2
 part-build-sah-start-2 c =
-    let b25 = c .before .before .before .before .before .before .before .before .before .before .before .before .before .before .before .before .before .before .before .before .before .before .before .before .before in
-    let few = b25 .pre .few in
-    let room = b25 .pre .keys-room in
+    let few = c .before .before .before .before .before .before .before .before .before .before .before .before .before .before .before .before .before .before .before .before .before .before .before .before .before .pre .few in
+    let room = c .before .before .before .before .before .before .before .before .before .before .before .before .before .before .before .before .before .before .before .before .before .before .before .before .before .pre .keys-room in
     let long = c .before .before .before .before .before .before .before .before .before .put-all-keys .kept .1 .1 .1 .1 .0 in
     omega arith
 
 part-build-sah-end-2 : tie.Need-part-build-sah-end-2
 part-build-sah-end-2 c =
-    let b25 = c .before .before .before .before .before .before .before .before .before .before .before .before .before .before .before .before .before .before .before .before .before .before .before .before .before in
-    let few = b25 .pre .few in
-    let room = b25 .pre .keys-room in
+    let few = c .before .before .before .before .before .before .before .before .before .before .before .before .before .before .before .before .before .before .before .before .before .before .before .before .before .pre .few in
+    let room = c .before .before .before .before .before .before .before .before .before .before .before .before .before .before .before .before .before .before .before .before .before .before .before .before .before .pre .keys-room in
     let long = c .before .before .before .before .before .before .before .before .before .put-all-keys .kept .1 .1 .1 .1 .0 in
     omega arith
 
 mul-build-sah-2 : tie.Need-mul-build-sah-2
 mul-build-sah-2 c =
-    let b26 = c .before .before .before .before .before .before .before .before .before .before .before .before .before .before .before .before .before .before .before .before .before .before .before .before .before .before in
-    let few = b26 .pre .few in
-    let room = b26 .pre .keys-room in
+    let few = c .before .before .before .before .before .before .before .before .before .before .before .before .before .before .before .before .before .before .before .before .before .before .before .before .before .before .pre .few in
+    let room = c .before .before .before .before .before .before .before .before .before .before .before .before .before .before .before .before .before .before .before .before .before .before .before .before .before .before .pre .keys-room in
     let long = c .before .before .before .before .before .before .before .before .before .before .put-all-keys .kept .1 .1 .1 .1 .0 in
     omega arith
 
 sub-build-sah-3 : tie.Need-sub-build-sah-3
 sub-build-sah-3 c =
-    let b26 = c .before .before .before .before .before .before .before .before .before .before .before .before .before .before .before .before .before .before .before .before .before .before .before .before .before .before in
-    let few = b26 .pre .few in
-    let room = b26 .pre .keys-room in
+    let few = c .before .before .before .before .before .before .before .before .before .before .before .before .before .before .before .before .before .before .before .before .before .before .before .before .before .before .pre .few in
+    let room = c .before .before .before .before .before .before .before .before .before .before .before .before .before .before .before .before .before .before .before .before .before .before .before .before .before .before .pre .keys-room in
     let long = c .before .before .before .before .before .before .before .before .before .before .put-all-keys .kept .1 .1 .1 .1 .0 in
     omega arith
 
 part-build-sah-start-3 : tie.Need-part-build-sah-start-3
 part-build-sah-start-3 c =
-    let b26 = c .before .before .before .before .before .before .before .before .before .before .before .before .before .before .before .before .before .before .before .before .before .before .before .before .before .before in
-    let few = b26 .pre .few in
-    let room = b26 .pre .keys-room in
+    let few = c .before .before .before .before .before .before .before .before .before .before .before .before .before .before .before .before .before .before .before .before .before .before .before .before .before .before .pre .few in
+    let room = c .before .before .before .before .before .before .before .before .before .before .before .before .before .before .before .before .before .before .before .before .before .before .before .before .before .before .pre .keys-room in
     let long = c .before .before .before .before .before .before .before .before .before .before .put-all-keys .kept .1 .1 .1 .1 .0 in
     omega arith
 
 part-build-sah-end-3 : tie.Need-part-build-sah-end-3
 part-build-sah-end-3 c =
-    let b26 = c .before .before .before .before .before .before .before .before .before .before .before .before .before .before .before .before .before .before .before .before .before .before .before .before .before .before in
-    let few = b26 .pre .few in
-    let room = b26 .pre .keys-room in
+    let few = c .before .before .before .before .before .before .before .before .before .before .before .before .before .before .before .before .before .before .before .before .before .before .before .before .before .before .pre .few in
+    let room = c .before .before .before .before .before .before .before .before .before .before .before .before .before .before .before .before .before .before .before .before .before .before .before .before .before .before .pre .keys-room in
     let long = c .before .before .before .before .before .before .before .before .before .before .put-all-keys .kept .1 .1 .1 .1 .0 in
     omega arith
 
 build-sah-requires : tie.Need-build-sah-requires
 build-sah-requires c κs =
-    let b13 = c .before .before .before .before .before .before .before .before .before .before .before .before .before in
-    let b18 = b13 .before .before .before .before .before in
-    let b22 = b18 .before .before .before .before in
-    let b34 = b22 .before .before .before .before .before .before .before .before .before .before .before .before in
-    let a = b34 .args in
-    let L = b34 .pre in
+    let a = c .before .before .before .before .before .before .before .before .before .before .before .before .before .before .before .before .before .before .before .before .before .before .before .before .before .before .before .before .before .before .before .before .before .before .args in
+    let L = c .before .before .before .before .before .before .before .before .before .before .before .before .before .before .before .before .before .before .before .before .before .before .before .before .before .before .before .before .before .before .before .before .before .before .pre in
     let m = length (a .leaf-order .now) in
-    let ee = b22 .put-extents .kept .1 .1 .1 .1 .0 in
-    let ek = b18 .put-all-keys .kept .1 .1 .1 .1 .0 in
-    let ep = b13 .number .kept .0 in
+    let ee = c .before .before .before .before .before .before .before .before .before .before .before .before .before .before .before .before .before .before .before .before .before .before .put-extents .kept .1 .1 .1 .1 .0 in
+    let ek = c .before .before .before .before .before .before .before .before .before .before .before .before .before .before .before .before .before .before .put-all-keys .kept .1 .1 .1 .1 .0 in
+    let ep = c .before .before .before .before .before .before .before .before .before .before .before .before .before .number .kept .0 in
     let some = L .some in
     let r1 = L .extents-room in
     let r2 = L .keys-room in
     let r5 = L .boxes-room in
     let r6 = L .nodes-room in
     let few = L .few in (
-      record { wide = omega arith; few = few; some = some; within = omega arith; size = ep; inside = b13 .number .ensures .1 },
+      record { wide = omega arith; few = few; some = some; within = omega arith; size = ep; inside = c .before .before .before .before .before .before .before .before .before .before .before .before .before .number .ensures .1 },
       (
         record {
-          keyed = law.keyed-in (b22 .put-extents .last .1 .1 .1 .1 .0) (centroidIn (a .triangles .now) (a .handles .now) (a .n)) m (b18 .put-all-keys .last .1 .1 .1 .1 .0)
-              (λ i h. b22 .put-extents .ensures i h .1) (omega arith) (b18 .put-all-keys .ensures .1 (c .before .before .before .before .before .before .before .before .before .before .before .before .before .before .before .if1 .taken));
+          keyed = law.keyed-in (c .before .before .before .before .before .before .before .before .before .before .before .before .before .before .before .before .before .before .before .before .before .before .put-extents .last .1 .1 .1 .1 .0) (centroidIn (a .triangles .now) (a .handles .now) (a .n)) m (c .before .before .before .before .before .before .before .before
+              .before .before .before .before .before .before .before .before .before .before .put-all-keys .last .1 .1 .1 .1 .0)
+              (λ i h. c .before .before .before .before .before .before .before .before .before .before .before .before .before .before .before .before .before .before .before .before .before .before .put-extents .ensures i h .1) (omega arith) (c .before .before .before .before .before .before .before .before .before .before .before .before .before .before .before
+              .before .before .before .put-all-keys .ensures .1 (c .before .before .before .before .before .before .before .before .before .before .before .before .before .before .before .if1 .taken));
           words-room = L .words-room;
           scratch-room = L .scratch-room;
           areas-room = L .areas-room;
@@ -167,21 +154,23 @@ same-length-8 c = c .before .before .before .before .before .before .before .bef
 
 returns : tie.Need-returns
 returns c =
-    let b12 = c .before .before .before .before .before .before .before .before .before .before .before .before in
-    let b26 = b12 .before .before .before .before .before .before .before .before .before .before .before .before .before .before in
-    let b35 = b26 .before .before .before .before .before .before .before .before .before in
-    let b47 = b35 .before .before .before .before .before .before .before .before .before .before .before .before in
-    let a = b47 .args in
-    let L = b47 .pre in
+    let a = c .before .before .before .before .before .before .before .before .before .before .before .before .before .before .before .before .before .before .before .before .before .before .before .before .before .before .before .before .before .before .before .before .before .before .before .before .before .before .before .before .before .before .before .before .before .before .before .args in
+    let L = c .before .before .before .before .before .before .before .before .before .before .before .before .before .before .before .before .before .before .before .before .before .before .before .before .before .before .before .before .before .before .before .before .before .before .before .before .before .before .before .before .before .before .before .before .before .before .before .pre in
     let m = length (a .leaf-order .now) in
-    let eb = b12 .build-sah .kept .1 .1 .1 .1 .1 .1 .1 .1 .1 .1 .1 .1 .0 in
-    let en = b12 .build-sah .kept .1 .1 .1 .1 .1 .1 .1 .1 .1 .1 .1 .1 .1 .0 in
+    let eb = c .before .before .before .before .before .before .before .before .before .before .before .before .build-sah .kept .1 .1 .1 .1 .1 .1 .1 .1 .1 .1 .1 .1 .0 in
+    let en = c .before .before .before .before .before .before .before .before .before .before .before .before .build-sah .kept .1 .1 .1 .1 .1 .1 .1 .1 .1 .1 .1 .1 .1 .0 in
     let r5 = L .boxes-room in
     let r6 = L .nodes-room in
     record {
-      built = λ _. law.stands (a .triangles .now) (a .handles .now) (a .n) m (b12 .build-sah .result) (b35 .put-extents .last .1 .1 .1 .1 .0) (b26 .number .last .0) (b12 .build-sah .last .1 .1 .1 .1 .1 .1 .1 .1 .0)
-          (a .boxes .now) (b12 .build-sah .last .1 .1 .1 .1 .1 .1 .1 .1 .1 .1 .1 .1 .0) (a .nodes .now) (b12 .build-sah .last .1 .1 .1 .1 .1 .1 .1 .1 .1 .1 .1 .1 .1 .0) (b35 .put-extents .ensures)
-          (b26 .number .kept .0) (b12 .build-sah .kept .1 .1 .1 .1 .1 .1 .1 .1 .0 ∙ b26 .number .kept .0) (b26 .number .ensures .0) (b26 .number .ensures .1) (omega arith) (omega arith) (b12 .build-sah .ensures .0);
+      built = λ _. law.stands (a .triangles .now) (a .handles .now) (a .n) m (c .before .before .before .before .before .before .before .before .before .before .before .before .build-sah .result) (c .before .before .before .before .before .before .before .before .before .before .before .before .before .before .before .before .before .before .before .before .before
+          .before .before .before .before .before .before .before .before .before .before .before .before .before .before .put-extents .last .1 .1 .1 .1 .0) (c .before .before .before .before .before .before .before .before .before .before .before .before .before .before .before .before .before .before .before .before .before .before .before .before .before
+          .before .number .last .0) (c .before .before .before .before .before .before .before .before .before .before .before .before .build-sah .last .1 .1 .1 .1 .1 .1 .1 .1 .0)
+          (a .boxes .now) (c .before .before .before .before .before .before .before .before .before .before .before .before .build-sah .last .1 .1 .1 .1 .1 .1 .1 .1 .1 .1 .1 .1 .0) (a .nodes .now) (c .before .before .before .before .before .before .before .before .before .before .before .before .build-sah .last .1 .1 .1 .1 .1 .1 .1 .1 .1 .1 .1 .1 .1 .0) (c .before
+          .before .before .before .before .before .before .before .before .before .before .before .before .before .before .before .before .before .before .before .before .before .before .before .before .before .before .before .before .before .before .before .before .before .before .put-extents .ensures)
+          (c .before .before .before .before .before .before .before .before .before .before .before .before .before .before .before .before .before .before .before .before .before .before .before .before .before .before .number .kept .0) (c .before .before .before .before .before .before .before .before .before .before .before .before .build-sah .kept .1 .1 .1 .1 .1 .1 .1
+          .1 .0 ∙ c .before .before .before .before .before .before .before .before .before .before .before .before .before .before .before .before .before .before .before .before .before .before .before .before .before .before .number .kept .0) (c .before .before .before .before .before .before .before .before .before .before .before .before .before .before .before
+          .before .before .before .before .before .before .before .before .before .before .before .number .ensures .0) (c .before .before .before .before .before .before .before .before .before .before .before .before .before .before .before .before .before .before .before .before .before .before .before .before .before .before .number .ensures .1) (omega arith)
+          (omega arith) (c .before .before .before .before .before .before .before .before .before .before .before .before .build-sah .ensures .0);
       none = λ f. law.not-both (sym f ∙ sym (c .before .before .before .before .before .before .before .before .before .before .before .before .before .before .before .before .before .before .before .before .before .before .before .before .before .before .before .before .before .before .before .put-all-keys .ensures .0)
           ∙ c .before .before .before .before .before .before .before .before .before .before .before .before .before .before .before .before .before .before .before .before .before .before .before .before .before .before .before .before .if1 .taken);
     }

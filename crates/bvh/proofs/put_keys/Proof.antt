@@ -32,13 +32,11 @@ float-key-requires c κs = law.finite-number (c .before .before .axis .result) (
 
 mul-keys : tie.Need-mul-keys Inv-loop μ-loop
 mul-keys c =
-    let b8 = c .before .before .before .before .before .before .before .before in
-    let b12 = b8 .before .before .before .before in
-    let inv = b8 .loop .inv .1 in
-    let p = b12 .pre in
+    let inv = c .before .before .before .before .before .before .before .before .loop .inv .1 in
+    let p = c .before .before .before .before .before .before .before .before .before .before .before .before .pre in
     let t = c .before .before .before .before .before .before .before .loop-test .taken in
-    let g = b12 .good .1 .1 .1 .1 .1 .0 in
-    scaled-fits (b8 .loop .i) (length (b8 .loop .keys)) 8 (omega arith) (omega (arith, b12 .good .1 .1 .1 .1 .1 .0 .0))
+    let g = c .before .before .before .before .before .before .before .before .before .before .before .before .good .1 .1 .1 .1 .1 .0 in
+    scaled-fits (c .before .before .before .before .before .before .before .before .loop .i) (length (c .before .before .before .before .before .before .before .before .loop .keys)) 8 (omega arith) (omega (arith, c .before .before .before .before .before .before .before .before .before .before .before .before .good .1 .1 .1 .1 .1 .0 .0))
 
 slice-write-keys : tie.Need-slice-write-keys Inv-loop μ-loop
 slice-write-keys c = let inv = c .before .before .before .before .before .before .before .before .loop .inv .1 in let p = c .before .before .before .before .before .before .before .before .before .before .before .before .pre in let t = c .before .before .before .before .before .before .before .loop-test .taken in omega arith
@@ -65,18 +63,17 @@ loop-less c = let t = c .before .before .before .before .before .before .before 
 loop-again : tie.Need-loop-again Inv-loop μ-loop
 unfolding centroidIn
 loop-again c =
-    let b8 = c .before .before .before .before .before .before .before .before in
-    let b12 = b8 .before .before .before .before in
-    let a = b12 .args in
+    let a = c .before .before .before .before .before .before .before .before .before .before .before .before .args in
     let f : ℕ → Float = λ j. axisOf (centroidIn (a .triangles .now) (a .handles .now) (a .n) j) (a .k) in
-    let inv = b8 .loop .inv in
+    let inv = c .before .before .before .before .before .before .before .before .loop .inv in
     let long = inv .1 in
-    let p = b12 .pre in
+    let p = c .before .before .before .before .before .before .before .before .before .before .before .before .pre in
     let t = c .before .before .before .before .before .before .before .loop-test .taken in
-    let e : c .before .before .before .before .axis .result ≡ f (b8 .loop .i) = c .before .before .before .before .axis .ensures ∙ ap (λ (v : Vec3). axisOf v (a .k)) (c .before .before .before .before .before .centroid .ensures ∙ ap triangle.centroidOf (c .before .before .before .before .before .before .triangle-at .ensures)) in (
+    let e : c .before .before .before .before .axis .result ≡ f (c .before .before .before .before .before .before .before .before .loop .i) = c .before .before .before .before .axis .ensures ∙ ap (λ (v : Vec3). axisOf v (a .k)) (c .before .before .before .before .before .centroid .ensures ∙ ap triangle.centroidOf (c .before .before .before .before .before .before .triangle-at .ensures)) in (
       omega arith,
-      length-set (b8 .loop .keys) (b8 .loop .i) (c .wide .result) ∙ inv .1,
-      law.keys-more f (b8 .loop .keys) (b8 .loop .i) (c .wide .result) (c .before .before .before .before .axis .result) (omega arith) e (sym (c .before .before .before .is-finite .ensures) ∙ c .before .before .if1 .taken) (c .wide .ensures ∙ c .before .float-key .ensures) (inv .2),
+      length-set (c .before .before .before .before .before .before .before .before .loop .keys) (c .before .before .before .before .before .before .before .before .loop .i) (c .wide .result) ∙ inv .1,
+      law.keys-more f (c .before .before .before .before .before .before .before .before .loop .keys) (c .before .before .before .before .before .before .before .before .loop .i) (c .wide .result) (c .before .before .before .before .axis .result) (omega arith) e (sym (c .before .before .before .is-finite .ensures) ∙ c .before .before .if1 .taken) (c .wide .ensures ∙ c
+          .before .float-key .ensures) (inv .2),
     )
 
 same-length-2 : tie.Need-same-length-2 Inv-loop μ-loop

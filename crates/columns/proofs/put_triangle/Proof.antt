@@ -20,86 +20,95 @@ put-vec-requires-2 c κs = let a = c .before .before .before .before .before .be
 
 put-vec-requires-3 : tie.Need-put-vec-requires-3
 put-vec-requires-3 c κs =
-    let b10 = c .before .before .before .before .before .before .before .before .before .before in
-    let a = b10 .pre .0 in let b = b10 .pre .1 in let d = b10 .pre .2 in let k1 = c .before .before .before .before .before .before .before .put-vec .kept .0 in let k2 = c .before .before .before .put-vec2 .kept .0 in (omega arith, omega arith, omega arith)
+    let a = c .before .before .before .before .before .before .before .before .before .before .pre .0 in let b = c .before .before .before .before .before .before .before .before .before .before .pre .1 in let d = c .before .before .before .before .before .before .before .before .before .before .pre .2 in let k1 = c .before .before .before .before .before .before
+    .before .put-vec .kept .0 in let k2 = c .before .before .before .put-vec2 .kept .0 in (omega arith, omega arith, omega arith)
 
 put-vec-requires-4 : tie.Need-put-vec-requires-4
 put-vec-requires-4 c κs =
-    let b14 = c .before .before .before .before .before .before .before .before .before .before .before .before .before .before in
-    let a = b14 .pre .0 in let b = b14 .pre .1 in let d = b14 .pre .2 in let k1 = c .before .before .before .before .before .before .before .before .before .before .before .put-vec .kept .0 in let k2 = c .before .before .before .before .before .before .before .put-vec2 .kept .0 in let k3 = c .before .before .before .put-vec3 .kept .0 in (omega arith, omega arith, omega arith)
+    let a = c .before .before .before .before .before .before .before .before .before .before .before .before .before .before .pre .0 in let b = c .before .before .before .before .before .before .before .before .before .before .before .before .before .before .pre .1 in let d = c .before .before .before .before .before .before .before .before .before .before .before
+    .before .before .before .pre .2 in let k1 = c .before .before .before .before .before .before .before .before .before .before .before .put-vec .kept .0 in let k2 = c .before .before .before .before .before .before .before .put-vec2 .kept .0 in let k3 = c .before .before .before .put-vec3 .kept .0 in (omega arith, omega arith, omega arith)
 
 mul-put-vec-4 : tie.Need-mul-put-vec-4
 mul-put-vec-4 c =
-    let b20 = c .before .before .before .before .before .before .before .before .before .before .before .before .before .before .before .before .before .before .before .before in
-    let a = b20 .pre .0 in let b = b20 .pre .1 in let d = b20 .pre .2 in omega arith
+    let a = c .before .before .before .before .before .before .before .before .before .before .before .before .before .before .before .before .before .before .before .before .pre .0 in let b = c .before .before .before .before .before .before .before .before .before .before .before .before .before .before .before .before .before .before .before .before .pre
+    .1 in let d = c .before .before .before .before .before .before .before .before .before .before .before .before .before .before .before .before .before .before .before .before .pre .2 in omega arith
 
 add-put-vec-4 : tie.Need-add-put-vec-4
 add-put-vec-4 c =
-    let b20 = c .before .before .before .before .before .before .before .before .before .before .before .before .before .before .before .before .before .before .before .before in
-    let a = b20 .pre .0 in let b = b20 .pre .1 in let d = b20 .pre .2 in omega arith
+    let a = c .before .before .before .before .before .before .before .before .before .before .before .before .before .before .before .before .before .before .before .before .pre .0 in let b = c .before .before .before .before .before .before .before .before .before .before .before .before .before .before .before .before .before .before .before .before .pre
+    .1 in let d = c .before .before .before .before .before .before .before .before .before .before .before .before .before .before .before .before .before .before .before .before .pre .2 in omega arith
 
 put-vec-requires-5 : tie.Need-put-vec-requires-5
 put-vec-requires-5 c κs =
-    let b20 = c .before .before .before .before .before .before .before .before .before .before .before .before .before .before .before .before .before .before .before .before in
-    let a = b20 .pre .0 in let b = b20 .pre .1 in let d = b20 .pre .2 in let k1 = c .before .before .before .before .before .before .before .before .before .before .before .before .before .before .before .before .before .put-vec .kept .0 in let k2 = c .before .before .before .before .before .before .before .before .before .before .before .before
+    let a = c .before .before .before .before .before .before .before .before .before .before .before .before .before .before .before .before .before .before .before .before .pre .0 in let b = c .before .before .before .before .before .before .before .before .before .before .before .before .before .before .before .before .before .before .before .before .pre
+    .1 in let d = c .before .before .before .before .before .before .before .before .before .before .before .before .before .before .before .before .before .before .before .before .pre .2 in let k1 = c .before .before .before .before .before .before .before .before .before .before .before .before .before .before .before .before
+    .before .put-vec .kept .0 in let k2 = c .before .before .before .before .before .before .before .before .before .before .before .before
     .before .put-vec2 .kept .0 in let k3 = c .before .before .before .before .before .before .before .before .before .put-vec3 .kept .0 in let k4 = c .before .before .before .before .before .put-vec4 .kept .0 in (omega arith, omega arith, omega arith)
 
 mul-put-vec-5 : tie.Need-mul-put-vec-5
 mul-put-vec-5 c =
-    let b24 = c .before .before .before .before .before .before .before .before .before .before .before .before .before .before .before .before .before .before .before .before .before .before .before .before in
-    let a = b24 .pre .0 in let b = b24 .pre .1 in let d = b24 .pre .2 in omega arith
+    let a = c .before .before .before .before .before .before .before .before .before .before .before .before .before .before .before .before .before .before .before .before .before .before .before .before .pre .0 in let b = c .before .before .before .before .before .before .before .before .before .before .before .before .before .before .before .before .before .before
+    .before .before .before .before .before .before .pre .1 in let d = c .before .before .before .before .before .before .before .before .before .before .before .before .before .before .before .before .before .before .before .before .before .before .before .before .pre .2 in omega arith
 
 add-put-vec-5 : tie.Need-add-put-vec-5
 add-put-vec-5 c =
-    let b24 = c .before .before .before .before .before .before .before .before .before .before .before .before .before .before .before .before .before .before .before .before .before .before .before .before in
-    let a = b24 .pre .0 in let b = b24 .pre .1 in let d = b24 .pre .2 in omega arith
+    let a = c .before .before .before .before .before .before .before .before .before .before .before .before .before .before .before .before .before .before .before .before .before .before .before .before .pre .0 in let b = c .before .before .before .before .before .before .before .before .before .before .before .before .before .before .before .before .before .before
+    .before .before .before .before .before .before .pre .1 in let d = c .before .before .before .before .before .before .before .before .before .before .before .before .before .before .before .before .before .before .before .before .before .before .before .before .pre .2 in omega arith
 
 put-vec-requires-6 : tie.Need-put-vec-requires-6
 put-vec-requires-6 c κs =
-    let b24 = c .before .before .before .before .before .before .before .before .before .before .before .before .before .before .before .before .before .before .before .before .before .before .before .before in
-    let a = b24 .pre .0 in let b = b24 .pre .1 in let d = b24 .pre .2 in let k1 = c .before .before .before .before .before .before .before .before .before .before .before .before .before .before .before .before .before .before .before .before .before .put-vec .kept .0 in let k2 = c .before .before .before .before .before .before .before .before .before .before .before
+    let a = c .before .before .before .before .before .before .before .before .before .before .before .before .before .before .before .before .before .before .before .before .before .before .before .before .pre .0 in let b = c .before .before .before .before .before .before .before .before .before .before .before .before .before .before .before .before .before .before
+    .before .before .before .before .before .before .pre .1 in let d = c .before .before .before .before .before .before .before .before .before .before .before .before .before .before .before .before .before .before .before .before .before .before .before .before .pre .2 in let k1 = c .before .before .before .before .before .before .before .before .before .before
+    .before .before .before .before .before .before .before .before .before .before .before .put-vec .kept .0 in let k2 = c .before .before .before .before .before .before .before .before .before .before .before
     .before .before .before .before .before .before .put-vec2 .kept .0 in let k3 = c .before .before .before .before .before .before .before .before .before .before .before .before .before .put-vec3 .kept .0 in let k4 = c .before .before .before .before .before .before .before .before .before .put-vec4 .kept .0 in let k5 = c .before .before .before .put-vec5 .kept .0 in
     (omega arith, omega arith, omega arith)
 
 mul-put-dots : tie.Need-mul-put-dots
 mul-put-dots c =
-    let b28 = c .before .before .before .before .before .before .before .before .before .before .before .before .before .before .before .before .before .before .before .before .before .before .before .before .before .before .before .before in
-    let a = b28 .pre .0 in let b = b28 .pre .1 in let d = b28 .pre .2 in omega arith
+    let a = c .before .before .before .before .before .before .before .before .before .before .before .before .before .before .before .before .before .before .before .before .before .before .before .before .before .before .before .before .pre .0 in let b = c .before .before .before .before .before .before .before .before .before .before .before .before .before .before
+    .before .before .before .before .before .before .before .before .before .before .before .before .before .before .pre .1 in let d = c .before .before .before .before .before .before .before .before .before .before .before .before .before .before .before .before .before .before .before .before .before .before .before .before .before .before .before .before .pre .2 in omega arith
 
 add-put-dots : tie.Need-add-put-dots
 add-put-dots c =
-    let b28 = c .before .before .before .before .before .before .before .before .before .before .before .before .before .before .before .before .before .before .before .before .before .before .before .before .before .before .before .before in
-    let a = b28 .pre .0 in let b = b28 .pre .1 in let d = b28 .pre .2 in omega arith
+    let a = c .before .before .before .before .before .before .before .before .before .before .before .before .before .before .before .before .before .before .before .before .before .before .before .before .before .before .before .before .pre .0 in let b = c .before .before .before .before .before .before .before .before .before .before .before .before .before .before
+    .before .before .before .before .before .before .before .before .before .before .before .before .before .before .pre .1 in let d = c .before .before .before .before .before .before .before .before .before .before .before .before .before .before .before .before .before .before .before .before .before .before .before .before .before .before .before .before .pre .2 in omega arith
 
 put-dots-requires : tie.Need-put-dots-requires
 put-dots-requires c κs =
-    let b29 = c .before .before .before .before .before .before .before .before .before .before .before .before .before .before .before .before .before .before .before .before .before .before .before .before .before .before .before .before .before in
-    let a = b29 .pre .0 in let b = b29 .pre .1 in let d = b29 .pre .2 in let k1 = c .before .before .before .before .before .before .before .before .before .before .before .before .before .before .before .before .before .before .before .before .before .before .before .before .before .before .put-vec .kept .0 in let k2 = c .before .before .before .before .before .before
+    let a = c .before .before .before .before .before .before .before .before .before .before .before .before .before .before .before .before .before .before .before .before .before .before .before .before .before .before .before .before .before .pre .0 in let b = c .before .before .before .before .before .before .before .before .before .before .before .before .before
+    .before .before .before .before .before .before .before .before .before .before .before .before .before .before .before .before .pre .1 in let d = c .before .before .before .before .before .before .before .before .before .before .before .before .before .before .before .before .before .before .before .before .before .before .before .before .before .before .before
+    .before .before .pre .2 in let k1 = c .before .before .before .before .before .before .before .before .before .before .before .before .before .before .before .before .before .before .before .before .before .before .before .before .before .before .put-vec .kept .0 in let k2 = c .before .before .before .before .before .before
     .before .before .before .before .before .before .before .before .before .before .before .before .before .before .before .before .put-vec2 .kept .0 in let k3 = c .before .before .before .before .before .before .before .before .before .before .before .before .before .before .before .before .before .before .put-vec3 .kept .0 in let k4 = c .before .before .before
     .before .before .before .before .before .before .before .before .before .before .before .put-vec4 .kept .0 in let k5 = c .before .before .before .before .before .before .before .before .put-vec5 .kept .0 in let k6 = c .before .before .before .before .put-vec6 .kept .0 in (omega arith, omega arith, omega arith)
 
 mul-triangles : tie.Need-mul-triangles
 mul-triangles c =
-    let b33 = c .before .before .before .before .before .before .before .before .before .before .before .before .before .before .before .before .before .before .before .before .before .before .before .before .before .before .before .before .before .before .before .before .before in
-    let a = b33 .pre .0 in let b = b33 .pre .1 in let d = b33 .pre .2 in omega arith
+    let a = c .before .before .before .before .before .before .before .before .before .before .before .before .before .before .before .before .before .before .before .before .before .before .before .before .before .before .before .before .before .before .before .before .before .pre .0 in let b = c .before .before .before .before .before .before .before .before .before
+    .before .before .before .before .before .before .before .before .before .before .before .before .before .before .before .before .before .before .before .before .before .before .before .before .pre .1 in let d = c .before .before .before .before .before .before .before .before .before .before .before .before .before .before .before .before .before .before .before
+    .before .before .before .before .before .before .before .before .before .before .before .before .before .before .pre .2 in omega arith
 
 add-triangles : tie.Need-add-triangles
 add-triangles c =
-    let b33 = c .before .before .before .before .before .before .before .before .before .before .before .before .before .before .before .before .before .before .before .before .before .before .before .before .before .before .before .before .before .before .before .before .before in
-    let a = b33 .pre .0 in let b = b33 .pre .1 in let d = b33 .pre .2 in omega arith
+    let a = c .before .before .before .before .before .before .before .before .before .before .before .before .before .before .before .before .before .before .before .before .before .before .before .before .before .before .before .before .before .before .before .before .before .pre .0 in let b = c .before .before .before .before .before .before .before .before .before
+    .before .before .before .before .before .before .before .before .before .before .before .before .before .before .before .before .before .before .before .before .before .before .before .before .pre .1 in let d = c .before .before .before .before .before .before .before .before .before .before .before .before .before .before .before .before .before .before .before
+    .before .before .before .before .before .before .before .before .before .before .before .before .before .before .pre .2 in omega arith
 
 mul-triangles-2 : tie.Need-mul-triangles-2
 mul-triangles-2 c =
-    let b33 = c .before .before .before .before .before .before .before .before .before .before .before .before .before .before .before .before .before .before .before .before .before .before .before .before .before .before .before .before .before .before .before .before .before in
-    let a = b33 .pre .0 in let b = b33 .pre .1 in let d = b33 .pre .2 in let k1 = c .before .before .before .before .before .before .before .before .before .before .before .before .before .before .before .before .before .before .before .before .before .before .before .before .before .before .before .before .before .before .put-vec .kept .0 in let k2 = c .before .before
+    let a = c .before .before .before .before .before .before .before .before .before .before .before .before .before .before .before .before .before .before .before .before .before .before .before .before .before .before .before .before .before .before .before .before .before .pre .0 in let b = c .before .before .before .before .before .before .before .before .before
+    .before .before .before .before .before .before .before .before .before .before .before .before .before .before .before .before .before .before .before .before .before .before .before .before .pre .1 in let d = c .before .before .before .before .before .before .before .before .before .before .before .before .before .before .before .before .before .before .before
+    .before .before .before .before .before .before .before .before .before .before .before .before .before .before .pre .2 in let k1 = c .before .before .before .before .before .before .before .before .before .before .before .before .before .before .before .before .before .before .before .before .before .before .before .before .before .before .before .before
+    .before .before .put-vec .kept .0 in let k2 = c .before .before
     .before .before .before .before .before .before .before .before .before .before .before .before .before .before .before .before .before .before .before .before .before .before .before .before .put-vec2 .kept .0 in let k3 = c .before .before .before .before .before .before .before .before .before .before .before .before .before .before .before .before .before
     .before .before .before .before .before .put-vec3 .kept .0 in let k4 = c .before .before .before .before .before .before .before .before .before .before .before .before .before .before .before .before .before .before .put-vec4 .kept .0 in let k5 = c .before .before .before .before .before .before .before .before .before .before .before
     .before .put-vec5 .kept .0 in let k6 = c .before .before .before .before .before .before .before .before .put-vec6 .kept .0 in let k7 = c .before .before .before .put-dots .kept .0 in omega arith
 
 slice-write-triangles : tie.Need-slice-write-triangles
 slice-write-triangles c =
-    let b33 = c .before .before .before .before .before .before .before .before .before .before .before .before .before .before .before .before .before .before .before .before .before .before .before .before .before .before .before .before .before .before .before .before .before in
-    let a = b33 .pre .0 in let b = b33 .pre .1 in let d = b33 .pre .2 in let k1 = c .before .before .before .before .before .before .before .before .before .before .before .before .before .before .before .before .before .before .before .before .before .before .before .before .before .before .before .before .before .before .put-vec .kept .0 in let k2 = c .before .before
+    let a = c .before .before .before .before .before .before .before .before .before .before .before .before .before .before .before .before .before .before .before .before .before .before .before .before .before .before .before .before .before .before .before .before .before .pre .0 in let b = c .before .before .before .before .before .before .before .before .before
+    .before .before .before .before .before .before .before .before .before .before .before .before .before .before .before .before .before .before .before .before .before .before .before .before .pre .1 in let d = c .before .before .before .before .before .before .before .before .before .before .before .before .before .before .before .before .before .before .before
+    .before .before .before .before .before .before .before .before .before .before .before .before .before .before .pre .2 in let k1 = c .before .before .before .before .before .before .before .before .before .before .before .before .before .before .before .before .before .before .before .before .before .before .before .before .before .before .before .before
+    .before .before .put-vec .kept .0 in let k2 = c .before .before
     .before .before .before .before .before .before .before .before .before .before .before .before .before .before .before .before .before .before .before .before .before .before .before .before .put-vec2 .kept .0 in let k3 = c .before .before .before .before .before .before .before .before .before .before .before .before .before .before .before .before .before
     .before .before .before .before .before .put-vec3 .kept .0 in let k4 = c .before .before .before .before .before .before .before .before .before .before .before .before .before .before .before .before .before .before .put-vec4 .kept .0 in let k5 = c .before .before .before .before .before .before .before .before .before .before .before
     .before .put-vec5 .kept .0 in let k6 = c .before .before .before .before .before .before .before .before .put-vec6 .kept .0 in let k7 = c .before .before .before .put-dots .kept .0 in omega arith
@@ -112,16 +121,19 @@ same-length c = simp length-set (c .before .before .before .put-dots .kept .0 �
 
 returns : tie.Need-returns
 returns c =
-    let b8 = c .before .before .before .before .before .before .before .before in
-    let b14 = b8 .before .before .before .before .before .before in
-    let b15 = b14 .before in
-    let b33 = b15 .before .before .before .before .before .before .before .before .before .before .before .before .before .before .before .before .before .before in
-    let b = b33 .pre .1 in parts-stored (b33 .args .t) (b33 .args .n) (b33 .args .i) (b33 .args .triangles .now) _ _ _ _ _ _ _ (record { edge1 = b15 .sub3 .result; edge2 = b14 .sub32 .result; «least_det» = zero32 }) _ (omega arith)
+    let b = c .before .before .before .before .before .before .before .before .before .before .before .before .before .before .before .before .before .before .before .before .before .before .before .before .before .before .before .before .before .before .before .before .before .pre .1 in parts-stored (c .before .before .before .before .before .before .before .before
+    .before .before .before .before .before .before .before .before .before .before .before .before .before .before .before .before .before .before .before .before .before .before .before .before .before .args .t) (c .before .before .before .before .before .before .before .before .before .before .before .before .before .before .before .before .before .before .before
+    .before .before .before .before .before .before .before .before .before .before .before .before .before .before .args .n) (c .before .before .before .before .before .before .before .before .before .before .before .before .before .before .before .before .before .before .before .before .before .before .before .before .before .before .before .before .before
+    .before .before .before .before .args .i) (c .before .before .before .before .before .before .before .before .before .before .before .before .before .before .before .before .before .before .before .before .before .before .before .before .before .before .before .before .before .before .before .before .before .args .triangles .now) _ _ _ _ _ _ _
+    (record { edge1 = c .before .before .before .before .before .before .before .before .before .before .before .before .before .before .before .sub3 .result; edge2 = c .before .before .before .before .before .before .before .before .before .before .before .before .before .before .sub32 .result; «least_det» = zero32 }) _ (omega arith)
     (c .before .before .before .before .before .before .before .before .before .before .before .before .before .before .before .before .before .before .before .before .before .before .before .before .before .before .before .before .before .before .put-vec .ensures)
     (c .before .before .before .before .before .before .before .before .before .before .before .before .before .before .before .before .before .before .before .before .before .before .before .before .before .before .put-vec2 .ensures)
     (c .before .before .before .before .before .before .before .before .before .before .before .before .before .before .before .before .before .before .before .before .before .before .put-vec3 .ensures) (c .before .before .before .before .before .before .before .before .before .before .before .before .before .before .before .before .before .before .put-vec4 .ensures)
-    (c .before .before .before .before .before .before .before .before .before .before .before .before .put-vec5 .ensures) (b8 .put-vec6 .ensures) (c .before .before .before .put-dots .ensures ∙ ap (λ (d : Dots). putColumns (b8 .put-vec6 .last .0) (b33 .args .n) (b33 .args .i + 19 * b33 .args .n) (dotsRowOf d)) (c .before .before .before .before .dots-of .ensures))
-    (b15 .sub3 .ensures) (b14 .sub32 .ensures) (ap (λ (x : Edges). x .«least_det») (c .edges-of .ensures))
+    (c .before .before .before .before .before .before .before .before .before .before .before .before .put-vec5 .ensures) (c .before .before .before .before .before .before .before .before .put-vec6 .ensures) (c .before .before .before .put-dots .ensures ∙ ap (λ (d : Dots). putColumns (c .before .before .before .before .before .before .before .before .put-vec6 .last .0)
+    (c .before .before .before .before .before .before .before .before .before .before .before .before .before .before .before .before .before .before .before .before .before .before .before .before .before .before .before .before .before .before .before .before .before .args .n) (c .before .before .before .before .before .before .before .before .before .before
+    .before .before .before .before .before .before .before .before .before .before .before .before .before .before .before .before .before .before .before .before .before .before .before .args .i + 19 * c .before .before .before .before .before .before .before .before .before .before .before .before .before .before .before .before .before .before .before
+    .before .before .before .before .before .before .before .before .before .before .before .before .before .before .args .n) (dotsRowOf d)) (c .before .before .before .before .dots-of .ensures))
+    (c .before .before .before .before .before .before .before .before .before .before .before .before .before .before .before .sub3 .ensures) (c .before .before .before .before .before .before .before .before .before .before .before .before .before .before .sub32 .ensures) (ap (λ (x : Edges). x .«least_det») (c .edges-of .ensures))
 
 pub put-triangle-spec : {M : Type 1} → statement M
 put-triangle-spec =

@@ -36,10 +36,10 @@ returns c =
 
 returns-2 : tie.Need-returns-2
 returns-2 c =
-    let b16 = c .before .before .before .before .before .before .before .before .before .before .before .before .before .before .before .before in
-    let a = b16 .args in
+    let a = c .before .before .before .before .before .before .before .before .before .before .before .before .before .before .before .before .args in
     let planes = planesIn (a .plane-floats .now) (a .plane-words .now) (a .plane-triangles .now) (a .plane-edges .now) (a .count) in (
-      λ tri t h. rw (c .counted .ensures) (path-far (a .s) planes tri t (a .materials .now) (a .source) (a .listener) (a .seq) (λ j. getD (a .t17) j noPoint) (a .order) (omega (arith, b16 .pre .1 .0)) (b16 .pre .1 .1 .1) (rw (c .before .before .before .distance3 .ensures) at (c .before .if1 .left))),
+      λ tri t h. rw (c .counted .ensures) (path-far (a .s) planes tri t (a .materials .now) (a .source) (a .listener) (a .seq) (λ j. getD (a .t17) j noPoint) (a .order) (omega (arith, c .before .before .before .before .before .before .before .before .before .before .before .before .before .before .before .before .pre .1 .0)) (c .before .before .before .before .before
+          .before .before .before .before .before .before .before .before .before .before .before .pre .1 .1 .1) (rw (c .before .before .before .distance3 .ensures) at (c .before .if1 .left))),
       rw (c .counted .ensures) (omega arith),
     )
 

@@ -53,10 +53,14 @@ merge-patches-requires c κs =
 
 group-planes-requires : tie.Need-group-planes-requires
 group-planes-requires c κs =
-    let b32 = c .before .before .before .before .before .before .before .before .before .before .before .before .before .before .before .before .before .before .before .before .before .before .before .before .before .before .before .before .before .before .before .before in
-    let b61 = b32 .before .before .before .before .before .before .before .before .before .before .before .before .before .before .before .before .before .before .before .before .before .before .before .before .before .before .before .before .before in
-    let t = b61 .pre .0 in let q = b61 .pre .1 .0 in let g = b61 .pre .1 .1 .1 in let a = b61 .args in let r = b32 .merge-patches .ensures in
-    let ng = b32 .merge-patches .result in
+    let t = c .before .before .before .before .before .before .before .before .before .before .before .before .before .before .before .before .before .before .before .before .before .before .before .before .before .before .before .before .before .before .before .before .before .before .before .before .before .before .before .before .before .before .before .before
+    .before .before .before .before .before .before .before .before .before .before .before .before .before .before .before .before .before .pre .0 in let q = c .before .before .before .before .before .before .before .before .before .before .before .before .before .before .before .before .before .before .before .before .before .before .before .before .before .before
+    .before .before .before .before .before .before .before .before .before .before .before .before .before .before .before .before .before .before .before .before .before .before .before .before .before .before .before .before .before .before .before .before .before .before .before .pre .1 .0 in let g = c .before .before .before .before .before .before .before
+    .before .before .before .before .before .before .before .before .before .before .before .before .before .before .before .before .before .before .before .before .before .before .before .before .before .before .before .before .before .before .before .before .before .before .before .before .before .before .before .before .before .before .before .before
+    .before .before .before .before .before .before .before .before .before .before .pre .1 .1 .1 in let a = c .before .before .before .before .before .before .before .before .before .before .before .before .before .before .before .before .before .before .before .before .before .before .before .before .before .before .before .before .before .before
+    .before .before .before .before .before .before .before .before .before .before .before .before .before .before .before .before .before .before .before .before .before .before .before .before .before .before .before .before .before .before .before .args in let r = c .before .before .before .before .before .before .before .before .before .before
+    .before .before .before .before .before .before .before .before .before .before .before .before .before .before .before .before .before .before .before .before .before .before .merge-patches .ensures in
+    let ng = c .before .before .before .before .before .before .before .before .before .before .before .before .before .before .before .before .before .before .before .before .before .before .before .before .before .before .before .before .before .before .before .before .merge-patches .result in
     let few = r .0 in
     let is = r .1 .1 .0 (mergeSettings (a .on) (a .least) (a .most)) refl refl refl in
     let ends = r .1 .0 .ends ng (omega arith) in (
@@ -65,18 +69,94 @@ group-planes-requires c κs =
         (t .some, omega (arith, t .few, t .some), q .2),
         (
           (
-            grouped (b32 .merge-patches .last .1 .1 .1 .1 .1 .1 .1 .1 .1 .1 .1 .1 .1 .1 .1 .1 .1 .1 .1 .1 .1 .0) (b32 .merge-patches .last .1 .1 .1 .1 .1 .1 .1 .1 .1 .1 .1 .1 .1 .1 .1 .1 .1 .1 .1 .1 .1 .1 .0) (a .np) ng (mergeSettings (a .on) (a .least) (a .most)) (trianglesIn (a .triangles .now) (a .handles .now) (a .n) (a .m)) (patchesIn (a .plane-floats .now) (a .of .now)
-                (a .m) (a .np)) (patches-length (a .plane-floats .now) (a .of .now) (a .m) (a .np)) is (omega (arith, few, q .0, t .some, b32 .merge-patches .kept .1 .1 .1 .1 .1 .1 .1 .1 .1 .1 .1 .1 .1 .1 .1 .1 .1 .1 .1 .1 .1 .1 .0, g .offsets-room)) (omega
-                (arith, ends, q .0, t .some, b32 .merge-patches .kept .1 .1 .1 .1 .1 .1 .1 .1 .1 .1 .1 .1 .1 .1 .1 .1 .1 .1 .1 .1 .1 .0, g .queue-room)),
+            grouped (c .before .before .before .before .before .before .before .before .before .before .before .before .before .before .before .before .before .before .before .before .before .before .before .before .before .before .before .before .before .before .before .before .merge-patches .last .1 .1 .1 .1 .1 .1 .1 .1 .1 .1 .1 .1 .1 .1 .1 .1 .1 .1 .1 .1 .1 .0) (c
+                .before .before .before .before .before .before .before .before .before .before .before .before .before .before .before .before .before .before .before .before .before .before .before .before .before .before .before .before .before .before .before .before .merge-patches .last .1 .1 .1 .1 .1 .1 .1 .1 .1 .1 .1 .1 .1 .1 .1 .1 .1 .1 .1 .1 .1 .1 .0) (a .np) ng
+                (mergeSettings (a .on) (a .least) (a .most)) (trianglesIn (a .triangles .now) (a .handles .now) (a .n) (a .m)) (patchesIn (a .plane-floats .now) (a .of .now)
+                (a .m) (a .np)) (patches-length (a .plane-floats .now) (a .of .now) (a .m) (a .np)) is (omega (
+                  arith,
+                  few,
+                  q .0,
+                  t .some,
+                  c .before .before .before .before .before .before .before .before .before .before .before .before .before .before .before .before .before .before .before .before .before .before .before .before .before .before .before .before .before
+                      .before .before .before .merge-patches .kept .1 .1 .1 .1 .1 .1 .1 .1 .1 .1 .1 .1 .1 .1 .1 .1 .1 .1 .1 .1 .1 .1 .0,
+                  g .offsets-room,
+                )) (omega (
+                  arith,
+                  ends,
+                  q .0,
+                  t .some,
+                  c .before .before .before .before .before .before .before .before .before .before .before .before .before .before .before .before .before .before .before .before .before .before .before .before .before .before .before .before .before .before .before .before .merge-patches .kept .1 .1 .1 .1 .1 .1 .1 .1 .1 .1 .1 .1 .1 .1 .1 .1 .1 .1
+                      .1 .1 .1 .0,
+                  g .queue-room,
+                )),
             omega (arith, few, q .0, t .some, t .few),
           ),
           (
-            (omega (arith, b32 .merge-patches .kept .1 .1 .1 .1 .1 .1 .1 .1 .1 .1 .1 .1 .1 .1 .1 .0, g .index-room, q .0, t .some), omega (arith, b32 .merge-patches .kept .1 .1 .1 .1 .1 .1 .1 .1 .1 .1 .1 .1 .1 .1 .1 .1 .1 .1 .1 .0, g .first-room, t .some)),
             (
-              (omega (arith, b32 .merge-patches .kept .1 .1 .1 .1 .1 .1 .1 .1 .1 .1 .1 .1 .1 .0, g .words-room, t .some), omega (arith, b32 .merge-patches .kept .1 .1 .1 .1 .1 .1 .1 .1 .1 .1 .1 .1 .1 .1 .0, g .scratch-room, t .some)),
+              omega (
+                arith,
+                c .before .before .before .before .before .before .before .before .before .before .before .before .before .before .before .before .before .before .before .before .before .before .before .before .before .before .before .before .before .before .before .before .merge-patches .kept .1 .1 .1 .1 .1 .1 .1 .1 .1 .1 .1 .1 .1 .1
+                    .1 .0,
+                g .index-room,
+                q .0,
+                t .some,
+              ),
+              omega (
+                arith,
+                c .before .before .before .before .before .before .before .before .before .before .before .before .before .before .before .before .before .before .before .before .before .before .before .before .before .before .before .before .before .before .before .before .merge-patches .kept .1 .1 .1 .1 .1 .1 .1 .1 .1 .1
+                    .1 .1 .1 .1 .1 .1 .1 .1 .1 .0,
+                g .first-room,
+                t .some,
+              ),
+            ),
+            (
               (
-                (omega (arith, b32 .merge-patches .kept .1 .1 .1 .1 .1 .1 .1 .1 .1 .1 .1 .1 .1 .1 .1 .1 .1 .1 .0, g .plane-triangles-room, t .some), omega (arith, b32 .merge-patches .kept .1 .1 .1 .1 .1 .1 .1 .1 .1 .1 .1 .1 .1 .1 .1 .1 .0, g .next-room, few, q .0, t .some)),
-                (omega (arith, g .floats-room, few, q .0, t .some), omega (arith, b32 .merge-patches .kept .1 .1 .1 .1 .1 .1 .1 .1 .1 .1 .1 .1 .1 .1 .1 .1 .1 .0, g .adjacency-room, few, q .0, t .some)),
+                omega (
+                  arith,
+                  c .before .before .before .before .before .before .before .before .before .before .before .before .before .before .before .before .before .before .before .before .before .before .before .before .before .before .before .before .before .before .before .before .merge-patches .kept .1 .1 .1 .1 .1 .1 .1 .1 .1 .1 .1 .1
+                      .1 .0,
+                  g .words-room,
+                  t .some,
+                ),
+                omega (
+                  arith,
+                  c .before .before .before .before .before .before .before .before .before .before .before .before .before .before .before .before .before .before .before .before .before .before .before .before .before .before .before .before .before .before .before .before .merge-patches .kept .1 .1 .1 .1 .1 .1 .1 .1 .1 .1 .1
+                      .1 .1 .1 .0,
+                  g .scratch-room,
+                  t .some,
+                ),
+              ),
+              (
+                (
+                  omega (
+                    arith,
+                    c .before .before .before .before .before .before .before .before .before .before .before .before .before .before .before .before .before .before .before .before .before .before .before .before .before .before .before .before .before .before .before .before .merge-patches .kept .1 .1 .1 .1 .1 .1 .1 .1 .1 .1 .1 .1 .1 .1 .1 .1 .1
+                        .1 .0,
+                    g .plane-triangles-room,
+                    t .some,
+                  ),
+                  omega (
+                    arith,
+                    c .before .before .before .before .before .before .before .before .before .before .before .before .before .before .before .before .before .before .before .before .before .before .before .before .before .before .before .before .before .before .before .before .merge-patches .kept .1 .1 .1 .1 .1 .1 .1
+                        .1 .1 .1 .1 .1 .1 .1 .1 .1 .0,
+                    g .next-room,
+                    few,
+                    q .0,
+                    t .some,
+                  ),
+                ),
+                (
+                  omega (arith, g .floats-room, few, q .0, t .some),
+                  omega (
+                    arith,
+                    c .before .before .before .before .before .before .before .before .before .before .before .before .before .before .before .before .before .before .before .before .before .before .before .before .before .before .before .before .before .before .before .before .merge-patches .kept .1 .1 .1 .1 .1
+                        .1 .1 .1 .1 .1 .1 .1 .1 .1 .1 .1 .1 .0,
+                    g .adjacency-room,
+                    few,
+                    q .0,
+                    t .some,
+                  ),
+                ),
               ),
             ),
           ),

@@ -18,22 +18,23 @@ edge-keys-requires c κs =
 
 first-indexes-requires : tie.Need-first-indexes-requires
 first-indexes-requires c κs =
-    let b10 = c .before .before .before .before .before .before .before .before .before .before in
-    let b22 = b10 .before .before .before .before .before .before .before .before .before .before .before .before in
-    let p = b22 .pre .0 in let q = b22 .pre .1 .1 .0 in let r = b22 .pre .1 .1 .1 .0 in let f = b22 .pre .1 .1 .1 .1 in
-    let kh = b10 .edge-keys .kept .1 .1 .1 .1 .0 in let kl = b10 .edge-keys .kept .1 .1 .1 .1 .1 .0 in
-    (omega arith, (omega arith, (b10 .edge-keys .ensures .0, (omega arith, (omega arith, (omega arith, omega arith))))))
+    let p = c .before .before .before .before .before .before .before .before .before .before .before .before .before .before .before .before .before .before .before .before .before .before .pre .0 in let q = c .before .before .before .before .before .before .before .before .before .before .before .before .before .before .before .before .before .before .before .before
+    .before .before .pre .1 .1 .0 in let r = c .before .before .before .before .before .before .before .before .before .before .before .before .before .before .before .before .before .before .before .before .before .before .pre .1 .1 .1 .0 in let f = c .before .before .before .before .before .before .before .before .before .before .before .before .before .before
+    .before .before .before .before .before .before .before .before .pre .1 .1 .1 .1 in
+    let kh = c .before .before .before .before .before .before .before .before .before .before .edge-keys .kept .1 .1 .1 .1 .0 in let kl = c .before .before .before .before .before .before .before .before .before .before .edge-keys .kept .1 .1 .1 .1 .1 .0 in
+    (omega arith, (omega arith, (c .before .before .before .before .before .before .before .before .before .before .edge-keys .ensures .0, (omega arith, (omega arith, (omega arith, omega arith))))))
 
 count-uses-requires : tie.Need-count-uses-requires
 count-uses-requires c κs =
-    let b10 = c .before .before .before .before .before .before .before .before .before .before in
-    let b21 = b10 .before .before .before .before .before .before .before .before .before .before .before in
-    let b33 = b21 .before .before .before .before .before .before .before .before .before .before .before .before in
-    let a = b33 .args in let p = b33 .pre .0 in let q = b33 .pre .1 .1 .0 in let f = b33 .pre .1 .1 .1 .1 in
-    let kh = b21 .edge-keys .kept .1 .1 .1 .1 .0 in let kf = b10 .first-indexes .kept .1 .1 .1 .1 .1 .0 in
-    let hi = b21 .edge-keys .last .1 .1 .1 .1 .0 in let lo = b21 .edge-keys .last .1 .1 .1 .1 .1 .0 in let first = b10 .first-indexes .last .1 .1 .1 .1 .1 .0 in
+    let a = c .before .before .before .before .before .before .before .before .before .before .before .before .before .before .before .before .before .before .before .before .before .before .before .before .before .before .before .before .before .before .before .before .before .args in let p = c .before .before .before .before .before .before .before .before .before
+    .before .before .before .before .before .before .before .before .before .before .before .before .before .before .before .before .before .before .before .before .before .before .before .before .pre .0 in let q = c .before .before .before .before .before .before .before .before .before .before .before .before .before .before .before .before .before .before .before
+    .before .before .before .before .before .before .before .before .before .before .before .before .before .before .pre .1 .1 .0 in let f = c .before .before .before .before .before .before .before .before .before .before .before .before .before .before .before .before .before .before .before .before .before .before .before .before .before .before .before
+    .before .before .before .before .before .before .pre .1 .1 .1 .1 in
+    let kh = c .before .before .before .before .before .before .before .before .before .before .before .before .before .before .before .before .before .before .before .before .before .edge-keys .kept .1 .1 .1 .1 .0 in let kf = c .before .before .before .before .before .before .before .before .before .before .first-indexes .kept .1 .1 .1 .1 .1 .0 in
+    let hi = c .before .before .before .before .before .before .before .before .before .before .before .before .before .before .before .before .before .before .before .before .before .edge-keys .last .1 .1 .1 .1 .0 in let lo = c .before .before .before .before .before .before .before .before .before .before .before .before .before .before .before .before .before .before
+    .before .before .before .edge-keys .last .1 .1 .1 .1 .1 .0 in let first = c .before .before .before .before .before .before .before .before .before .before .first-indexes .last .1 .1 .1 .1 .1 .0 in
     let len : length first ≡ 3 * a .m = omega arith in
-    (omega arith, (omega arith, rw len (firsts-low (a .m) (keyAt hi lo) first len (λ e h. b10 .first-indexes .ensures .0 e (omega (arith, h, kh, q))))))
+    (omega arith, (omega arith, rw len (firsts-low (a .m) (keyAt hi lo) first len (λ e h. c .before .before .before .before .before .before .before .before .before .before .first-indexes .ensures .0 e (omega (arith, h, kh, q))))))
 
 same-length : tie.Need-same-length
 same-length c = search needs
@@ -52,17 +53,19 @@ same-length-5 c = search needs
 
 returns : tie.Need-returns
 returns c =
-    let b13 = c .before .before .before .before .before .before .before .before .before .before .before .before .before in
-    let b24 = b13 .before .before .before .before .before .before .before .before .before .before .before in
-    let b36 = b24 .before .before .before .before .before .before .before .before .before .before .before .before in
-    let a = b36 .args in let p = b36 .pre .0 in let o = b36 .pre .1 .0 in let q = b36 .pre .1 .1 .0 in let f = b36 .pre .1 .1 .1 .1 in
-    let kh = b24 .edge-keys .kept .1 .1 .1 .1 .0 in let kf = b13 .first-indexes .kept .1 .1 .1 .1 .1 .0 in
-    let hi = b24 .edge-keys .last .1 .1 .1 .1 .0 in let lo = b24 .edge-keys .last .1 .1 .1 .1 .1 .0 in let first = b13 .first-indexes .last .1 .1 .1 .1 .1 .0 in let uses = c .before .before .count-uses .last .1 .0 in
+    let a = c .before .before .before .before .before .before .before .before .before .before .before .before .before .before .before .before .before .before .before .before .before .before .before .before .before .before .before .before .before .before .before .before .before .before .before .before .args in let p = c .before .before .before .before .before .before
+    .before .before .before .before .before .before .before .before .before .before .before .before .before .before .before .before .before .before .before .before .before .before .before .before .before .before .before .before .before .before .pre .0 in let o = c .before .before .before .before .before .before .before .before .before .before .before .before .before
+    .before .before .before .before .before .before .before .before .before .before .before .before .before .before .before .before .before .before .before .before .before .before .before .pre .1 .0 in let q = c .before .before .before .before .before .before .before .before .before .before .before .before .before .before .before .before .before .before .before
+    .before .before .before .before .before .before .before .before .before .before .before .before .before .before .before .before .before .pre .1 .1 .0 in let f = c .before .before .before .before .before .before .before .before .before .before .before .before .before .before .before .before .before .before .before .before .before .before .before .before
+    .before .before .before .before .before .before .before .before .before .before .before .before .pre .1 .1 .1 .1 in
+    let kh = c .before .before .before .before .before .before .before .before .before .before .before .before .before .before .before .before .before .before .before .before .before .before .before .before .edge-keys .kept .1 .1 .1 .1 .0 in let kf = c .before .before .before .before .before .before .before .before .before .before .before .before .before .first-indexes .kept .1 .1 .1 .1 .1 .0 in
+    let hi = c .before .before .before .before .before .before .before .before .before .before .before .before .before .before .before .before .before .before .before .before .before .before .before .before .edge-keys .last .1 .1 .1 .1 .0 in let lo = c .before .before .before .before .before .before .before .before .before .before .before .before .before .before .before
+    .before .before .before .before .before .before .before .before .before .edge-keys .last .1 .1 .1 .1 .1 .0 in let first = c .before .before .before .before .before .before .before .before .before .before .before .before .before .first-indexes .last .1 .1 .1 .1 .1 .0 in let uses = c .before .before .count-uses .last .1 .0 in
     let len : length first ≡ 3 * a .m = omega arith in
-    let firsts : (e : ℕ) → e < 3 * a .m → getD first e 0 ≡ firstAt (keyAt hi lo) e = λ e h. b13 .first-indexes .ensures .0 e (omega (arith, h, kh, q)) in (
+    let firsts : (e : ℕ) → e < 3 * a .m → getD first e 0 ≡ firstAt (keyAt hi lo) e = λ e h. c .before .before .before .before .before .before .before .before .before .before .before .before .before .first-indexes .ensures .0 e (omega (arith, h, kh, q)) in (
       firsts-low (a .m) (keyAt hi lo) first len firsts,
       (
-        λ area k h num. once-counted area (a .n) k (a .m) (a .numbers .now) (a .of .now) num (p .1) h (o .0) (o .1) (keyAt hi lo) first uses (b24 .edge-keys .ensures .1) firsts
+        λ area k h num. once-counted area (a .n) k (a .m) (a .numbers .now) (a .of .now) num (p .1) h (o .0) (o .1) (keyAt hi lo) first uses (c .before .before .before .before .before .before .before .before .before .before .before .before .before .before .before .before .before .before .before .before .before .before .before .before .edge-keys .ensures .1) firsts
             (λ e l. c .before .before .count-uses .ensures e (omega (arith, l, len)) ∙ ap (countIn first e) len),
         (same-length c, same-length-2 c, same-length-3 c, same-length-4 c, same-length-5 c),
       ),

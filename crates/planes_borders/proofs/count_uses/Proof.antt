@@ -19,34 +19,34 @@ loop-holds c = let a = c .before .before .before .before .before .before .args i
 
 cast-k : tie.Need-cast-k Inv-loop μ-loop
 cast-k c =
-    let b9 = c .before .before .before .before .before .before .before .before .before in
-    let b = below-at (length (b9 .args .first .now)) (b9 .args .first .now) (c .before .before .loop .e) (b9 .pre .1 .1) (c .before .loop-test .taken) in omega arith
+    let b = below-at (length (c .before .before .before .before .before .before .before .before .before .args .first .now)) (c .before .before .before .before .before .before .before .before .before .args .first .now) (c .before .before .loop .e) (c .before .before .before .before .before .before .before .before .before .pre .1 .1) (c .before .loop-test .taken) in omega arith
 
 mul-uses : tie.Need-mul-uses Inv-loop μ-loop
 mul-uses c =
-    let b9 = c .before .before .before .before .before .before .before .before .before in
-    let b = below-at (length (b9 .args .first .now)) (b9 .args .first .now) (c .before .before .loop .e) (b9 .pre .1 .1) (c .before .loop-test .taken) in let s = b9 .pre .1 .0 in omega arith
+    let b = below-at (length (c .before .before .before .before .before .before .before .before .before .args .first .now)) (c .before .before .before .before .before .before .before .before .before .args .first .now) (c .before .before .loop .e) (c .before .before .before .before .before .before .before .before .before .pre .1 .1) (c
+    .before .loop-test .taken) in let s = c .before .before .before .before .before .before .before .before .before .pre .1 .0 in omega arith
 
 slice-read-uses : tie.Need-slice-read-uses Inv-loop μ-loop
 slice-read-uses c =
-    let b10 = c .before .before .before .before .before .before .before .before .before .before in
-    let b = below-at (length (b10 .args .first .now)) (b10 .args .first .now) (c .before .before .before .loop .e) (b10 .pre .1 .1) (c .before .before .loop-test .taken) in let s = c .before .before .before .loop .inv .long in omega arith
+    let b = below-at (length (c .before .before .before .before .before .before .before .before .before .before .args .first .now)) (c .before .before .before .before .before .before .before .before .before .before .args .first .now) (c .before .before .before .loop .e) (c .before .before .before .before .before .before .before .before .before .before .pre .1 .1) (c
+    .before .before .loop-test .taken) in let s = c .before .before .before .loop .inv .long in omega arith
 
 add-uses : tie.Need-add-uses Inv-loop μ-loop
 add-uses c =
-    let b10 = c .before .before .before .before .before .before .before .before .before .before in
-    let b = below-at (length (b10 .args .first .now)) (b10 .args .first .now) (c .before .before .before .loop .e) (b10 .pre .1 .1) (c .before .before .loop-test .taken) in let l = c .before .before .before .loop .inv .long in let s = b10 .pre .1 .0 in let h = c .before .before .loop-test .taken in
-    let low = counted-low (b10 .args .first .now) (c .before .before .before .loop .uses) (c .before .before .before .loop .e) (getD (b10 .args .first .now) (c .before .before .before .loop .e) 0) (c .before .before .before .loop .inv) b in omega arith
+    let b = below-at (length (c .before .before .before .before .before .before .before .before .before .before .args .first .now)) (c .before .before .before .before .before .before .before .before .before .before .args .first .now) (c .before .before .before .loop .e) (c .before .before .before .before .before .before .before .before .before .before .pre .1 .1) (c
+    .before .before .loop-test .taken) in let l = c .before .before .before .loop .inv .long in let s = c .before .before .before .before .before .before .before .before .before .before .pre .1 .0 in let h = c .before .before .loop-test .taken in
+    let low = counted-low (c .before .before .before .before .before .before .before .before .before .before .args .first .now) (c .before .before .before .loop .uses) (c .before .before .before .loop .e) (getD (c .before .before .before .before .before .before .before .before .before .before .args .first .now) (c .before .before .before .loop .e) 0) (c .before .before
+    .before .loop .inv) b in omega arith
 
 mul-uses-2 : tie.Need-mul-uses-2 Inv-loop μ-loop
 mul-uses-2 c =
-    let b10 = c .before .before .before .before .before .before .before .before .before .before in
-    let b = below-at (length (b10 .args .first .now)) (b10 .args .first .now) (c .before .before .before .loop .e) (b10 .pre .1 .1) (c .before .before .loop-test .taken) in let s = b10 .pre .1 .0 in omega arith
+    let b = below-at (length (c .before .before .before .before .before .before .before .before .before .before .args .first .now)) (c .before .before .before .before .before .before .before .before .before .before .args .first .now) (c .before .before .before .loop .e) (c .before .before .before .before .before .before .before .before .before .before .pre .1 .1) (c
+    .before .before .loop-test .taken) in let s = c .before .before .before .before .before .before .before .before .before .before .pre .1 .0 in omega arith
 
 slice-write-uses : tie.Need-slice-write-uses Inv-loop μ-loop
 slice-write-uses c =
-    let b10 = c .before .before .before .before .before .before .before .before .before .before in
-    let b = below-at (length (b10 .args .first .now)) (b10 .args .first .now) (c .before .before .before .loop .e) (b10 .pre .1 .1) (c .before .before .loop-test .taken) in let s = c .before .before .before .loop .inv .long in omega arith
+    let b = below-at (length (c .before .before .before .before .before .before .before .before .before .before .args .first .now)) (c .before .before .before .before .before .before .before .before .before .before .args .first .now) (c .before .before .before .loop .e) (c .before .before .before .before .before .before .before .before .before .before .pre .1 .1) (c
+    .before .before .loop-test .taken) in let s = c .before .before .before .loop .inv .long in omega arith
 
 add-e : tie.Need-add-e Inv-loop μ-loop
 add-e c = let h = c .before .before .loop-test .taken in let s = c .before .before .before .before .before .before .before .before .before .before .pre .1 .0 in omega arith

@@ -20,8 +20,8 @@ mul-put-key c = let h = c .before .before .before .before .before .before .loop-
 
 put-key-requires : tie.Need-put-key-requires Inv-loop μ-loop
 put-key-requires c κs =
-    let b7 = c .before .before .before .before .before .before .before in
-    let h = c .before .before .before .before .before .before .loop-test .taken in let p = c .before .before .before .before .before .before .before .before .before .before .before .before .pre .1 .1 in let x = b7 .loop .inv .1 .len-hi in let y = b7 .loop .inv .1 .len-lo in (omega arith, omega arith)
+    let h = c .before .before .before .before .before .before .loop-test .taken in let p = c .before .before .before .before .before .before .before .before .before .before .before .before .pre .1 .1 in let x = c .before .before .before .before .before .before .before .loop .inv .1 .len-hi in let y = c .before .before .before .before .before .before .before .loop .inv
+    .1 .len-lo in (omega arith, omega arith)
 
 mul-put-key-2 : tie.Need-mul-put-key-2 Inv-loop μ-loop
 mul-put-key-2 c = let h = c .before .before .before .before .before .before .before .before .before .before .before .before .before .loop-test .taken in let p = c .before .before .before .before .before .before .before .before .before .before .before .before .before .before .before .before .before .before .before .pre .1 .1 in omega arith
@@ -31,8 +31,8 @@ add-put-key c = let h = c .before .before .before .before .before .before .befor
 
 put-key-requires-2 : tie.Need-put-key-requires-2 Inv-loop μ-loop
 put-key-requires-2 c κs =
-    let b14 = c .before .before .before .before .before .before .before .before .before .before .before .before .before .before in
-    let h = c .before .before .before .before .before .before .before .before .before .before .before .before .before .loop-test .taken in let p = c .before .before .before .before .before .before .before .before .before .before .before .before .before .before .before .before .before .before .before .pre .1 .1 in let x = b14 .loop .inv .1 .len-hi in let y = b14 .loop .inv
+    let h = c .before .before .before .before .before .before .before .before .before .before .before .before .before .loop-test .taken in let p = c .before .before .before .before .before .before .before .before .before .before .before .before .before .before .before .before .before .before .before .pre .1 .1 in let x = c .before .before .before .before .before .before
+    .before .before .before .before .before .before .before .before .loop .inv .1 .len-hi in let y = c .before .before .before .before .before .before .before .before .before .before .before .before .before .before .loop .inv
     .1 .len-lo in let u = c .before .before .before .before .before .before .put-key .kept .0 in let v = c .before .before .before .before .before .before .put-key .kept .1 .0 in (omega arith, omega arith)
 
 mul-put-key-3 : tie.Need-mul-put-key-3 Inv-loop μ-loop
@@ -45,10 +45,10 @@ add-put-key-2 c = let h = c .before .before .before .before .before .before .bef
 
 put-key-requires-3 : tie.Need-put-key-requires-3 Inv-loop μ-loop
 put-key-requires-3 c κs =
-    let b13 = c .before .before .before .before .before .before .before .before .before .before .before .before .before in
-    let b21 = b13 .before .before .before .before .before .before .before .before in
     let h = c .before .before .before .before .before .before .before .before .before .before .before .before .before .before .before .before .before .before .before .before .loop-test .taken in let p = c .before .before .before .before .before .before .before .before .before .before .before .before .before .before .before .before .before .before .before .before .before
-    .before .before .before .before .before .pre .1 .1 in let x = b21 .loop .inv .1 .len-hi in let y = b21 .loop .inv .1 .len-lo in let u = b13 .put-key .kept .0 in let v = b13 .put-key .kept .1 .0 in let w = c .before .before .before .before .before .before .put-key2 .kept .0 in let z = c .before .before .before .before .before .before .put-key2 .kept .1 .0 in (omega arith, omega arith)
+    .before .before .before .before .before .pre .1 .1 in let x = c .before .before .before .before .before .before .before .before .before .before .before .before .before .before .before .before .before .before .before .before .before .loop .inv .1 .len-hi in let y = c .before .before .before .before .before .before .before .before .before .before .before .before
+    .before .before .before .before .before .before .before .before .before .loop .inv .1 .len-lo in let u = c .before .before .before .before .before .before .before .before .before .before .before .before .before .put-key .kept .0 in let v = c .before .before .before .before .before .before .before .before .before .before .before .before .before .put-key .kept
+    .1 .0 in let w = c .before .before .before .before .before .before .put-key2 .kept .0 in let z = c .before .before .before .before .before .before .put-key2 .kept .1 .0 in (omega arith, omega arith)
 
 add-t : tie.Need-add-t Inv-loop μ-loop
 add-t c = let h = c .before .before .before .before .before .before .before .before .before .before .before .before .before .before .before .before .before .before .before .before .before .before .before .before .before .loop-test .taken in let p = c .before .before .before .before .before .before .before .before .before .before .before .before .before .before .before
@@ -59,14 +59,14 @@ loop-less c = let h = c .before .before .before .before .before .before .before 
 
 loop-again : tie.Need-loop-again Inv-loop μ-loop
 loop-again c =
-    let b11 = c .before .before .before .before .before .before .before .before .before .before .before in
-    let b18 = b11 .before .before .before .before .before .before .before in
-    let b31 = b18 .before .before .before .before .before .before .before .before .before .before .before .before .before in
-    let a = b31 .args in let l = c .before .before .before .before .before .before .before .before .before .before .before .before .before .before .before .before .before .before .before .before .before .before .before .before .before .before .loop in let h = c .before .before .before .before .before .before .before .before .before .before .before .before .before
-    .before .before .before .before .before .before .before .before .before .before .before .before .loop-test .taken in let p = b31 .pre .1 .1 in (
+    let a = c .before .before .before .before .before .before .before .before .before .before .before .before .before .before .before .before .before .before .before .before .before .before .before .before .before .before .before .before .before .before .before .args in let l = c .before .before .before .before .before .before .before .before .before .before .before
+    .before .before .before .before .before .before .before .before .before .before .before .before .before .before .before .loop in let h = c .before .before .before .before .before .before .before .before .before .before .before .before .before
+    .before .before .before .before .before .before .before .before .before .before .before .before .loop-test .taken in let p = c .before .before .before .before .before .before .before .before .before .before .before .before .before .before .before .before .before .before .before .before .before .before .before .before .before .before .before .before .before .before .before .pre .1 .1 in (
       omega arith,
-      keyed-more (a .numbers .now) (a .n) (a .of .now) (a .keys .now) (a .low-keys .now) (l .keys) (l .low-keys) (b18 .put-key .last .0) (b18 .put-key .last .1 .0) (b11 .put-key2 .last .0) (b11 .put-key2 .last .1 .0) (c .before .before .before .before .put-key3 .last .0) (c .before .before .before .before .put-key3 .last .1 .0) (l .t) (l .inv .1) (omega arith)
-          (omega arith) (b18 .put-key .ensures) (b11 .put-key2 .ensures) (c .before .before .before .before .put-key3 .ensures),
+      keyed-more (a .numbers .now) (a .n) (a .of .now) (a .keys .now) (a .low-keys .now) (l .keys) (l .low-keys) (c .before .before .before .before .before .before .before .before .before .before .before .before .before .before .before .before .before .before .put-key .last .0) (c .before .before .before .before .before .before .before .before .before .before .before
+          .before .before .before .before .before .before .before .put-key .last .1 .0) (c .before .before .before .before .before .before .before .before .before .before .before .put-key2 .last .0) (c .before .before .before .before .before .before .before .before .before .before .before .put-key2 .last .1 .0) (c .before .before .before .before .put-key3 .last .0) (c
+          .before .before .before .before .put-key3 .last .1 .0) (l .t) (l .inv .1) (omega arith)
+          (omega arith) (c .before .before .before .before .before .before .before .before .before .before .before .before .before .before .before .before .before .before .put-key .ensures) (c .before .before .before .before .before .before .before .before .before .before .before .put-key2 .ensures) (c .before .before .before .before .put-key3 .ensures),
     )
 
 same-length : tie.Need-same-length Inv-loop μ-loop

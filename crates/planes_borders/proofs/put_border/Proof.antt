@@ -21,14 +21,13 @@ loop-holds c = let a = c .before .before .before .before .before .args in (omega
 
 cast-put-sides : tie.Need-cast-put-sides Inv-loop μ-loop
 cast-put-sides c =
-    let b8 = c .before .before .before .before .before .before .before .before in
-    let b = below-at (length (b8 .args .first .now) / 3) (b8 .args .tris .now) (c .before .before .loop .k) (b8 .pre .1 .0) (c .before .loop-test .taken) in omega arith
+    let b = below-at (length (c .before .before .before .before .before .before .before .before .args .first .now) / 3) (c .before .before .before .before .before .before .before .before .args .tris .now) (c .before .before .loop .k) (c .before .before .before .before .before .before .before .before .pre .1 .0) (c .before .loop-test .taken) in omega arith
 
 put-sides-requires : tie.Need-put-sides-requires Inv-loop μ-loop
 put-sides-requires c κs =
-    let b9 = c .before .before .before .before .before .before .before .before .before in
-    let b = below-at (length (b9 .args .first .now) / 3) (b9 .args .tris .now) (c .before .before .before .loop .k) (b9 .pre .1 .0) (c .before .before .loop-test .taken) in let p = b9 .pre .0 in let h = c .before .before .loop-test .taken in let i = c .before .before .before .loop .inv in let e = b9 .pre .1 .1 .1 in
-    ((omega arith, p .0), ((omega arith, b9 .pre .1 .1 .0), omega arith))
+    let b = below-at (length (c .before .before .before .before .before .before .before .before .before .args .first .now) / 3) (c .before .before .before .before .before .before .before .before .before .args .tris .now) (c .before .before .before .loop .k) (c .before .before .before .before .before .before .before .before .before .pre .1 .0) (c .before
+    .before .loop-test .taken) in let p = c .before .before .before .before .before .before .before .before .before .pre .0 in let h = c .before .before .loop-test .taken in let i = c .before .before .before .loop .inv in let e = c .before .before .before .before .before .before .before .before .before .pre .1 .1 .1 in
+    ((omega arith, p .0), ((omega arith, c .before .before .before .before .before .before .before .before .before .pre .1 .1 .0), omega arith))
 
 add-k : tie.Need-add-k Inv-loop μ-loop
 add-k c = let h = c .before .before .before .before .before .loop-test .taken in omega arith

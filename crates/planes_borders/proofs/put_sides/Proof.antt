@@ -37,8 +37,8 @@ add-put-side-4 c = let p = c .before .before .before .before .before .before .be
 
 put-side-requires-2 : tie.Need-put-side-requires-2
 put-side-requires-2 c κs =
-    let b9 = c .before .before .before .before .before .before .before .before .before in
-    let p = b9 .pre .0 in let q = b9 .pre .1 .0 in let e = b9 .pre .1 .1 in let r = c .before .before .before .put-side .ensures .0 in let k = c .before .before .before .put-side .kept .1 .1 .1 .1 .1 .1 .1 .0 in ((omega arith, omega arith), ((omega (arith, q .0), q .1), omega arith))
+    let p = c .before .before .before .before .before .before .before .before .before .pre .0 in let q = c .before .before .before .before .before .before .before .before .before .pre .1 .0 in let e = c .before .before .before .before .before .before .before .before .before .pre .1 .1 in let r = c .before .before .before .put-side .ensures .0 in let k = c .before
+    .before .before .put-side .kept .1 .1 .1 .1 .1 .1 .1 .0 in ((omega arith, omega arith), ((omega (arith, q .0), q .1), omega arith))
 
 mul-put-side-6 : tie.Need-mul-put-side-6
 mul-put-side-6 c = let p = c .before .before .before .before .before .before .before .before .before .before .before .before .pre .0 in omega arith
@@ -54,9 +54,9 @@ add-put-side-6 c = let p = c .before .before .before .before .before .before .be
 
 put-side-requires-3 : tie.Need-put-side-requires-3
 put-side-requires-3 c κs =
-    let b7 = c .before .before .before .before .before .before .before in
-    let b13 = b7 .before .before .before .before .before .before in
-    let p = b13 .pre .0 in let q = b13 .pre .1 .0 in let e = b13 .pre .1 .1 in let r = b7 .put-side .ensures .0 in let s = c .before .before .before .put-side2 .ensures .0 in let k = b7 .put-side .kept .1 .1 .1 .1 .1 .1 .1 .0 in let l = c .before .before .before .put-side2 .kept .1 .1 .1 .1 .1 .1 .1 .0 in ((omega arith, omega arith), ((omega (arith, q .0), q .1), omega arith))
+    let p = c .before .before .before .before .before .before .before .before .before .before .before .before .before .pre .0 in let q = c .before .before .before .before .before .before .before .before .before .before .before .before .before .pre .1 .0 in let e = c .before .before .before .before .before .before .before .before .before .before .before .before .before .pre
+    .1 .1 in let r = c .before .before .before .before .before .before .before .put-side .ensures .0 in let s = c .before .before .before .put-side2 .ensures .0 in let k = c .before .before .before .before .before .before .before .put-side .kept .1 .1 .1 .1 .1 .1 .1 .0 in let l = c .before .before .before .put-side2 .kept .1 .1 .1 .1 .1 .1 .1 .0 in
+    ((omega arith, omega arith), ((omega (arith, q .0), q .1), omega arith))
 
 same-length : tie.Need-same-length
 same-length c = c .before .before .put-side3 .kept .1 .1 .1 .1 .1 .1 .1 .0 ∙ c .before .before .before .before .before .before .put-side2 .kept .1 .1 .1 .1 .1 .1 .1 .0 ∙ c .before .before .before .before .before .before .before .before .before .before .put-side .kept .1 .1 .1 .1 .1 .1 .1 .0

@@ -21,9 +21,8 @@ loop-holds c = (omega arith, closing-none (c .before .before .before .args .flag
 
 close-row-requires : tie.Need-close-row-requires Inv-loop μ-loop
 close-row-requires c κs =
-    let b7 = c .before .before .before .before .before .before .before in
-    let p = b7 .pre in let h = c .before .before .loop-test .taken in let i = c .before .before .before .loop .inv .1 in let lr = i .len-rows in let ln = i .len-numbers in
-    let le : c .before .before .before .loop .w ≤ c .before .before .before .loop .p = rw (i .count) (open-le (b7 .args .flags .now) (c .before .before .before .loop .p)) in
+    let p = c .before .before .before .before .before .before .before .pre in let h = c .before .before .loop-test .taken in let i = c .before .before .before .loop .inv .1 in let lr = i .len-rows in let ln = i .len-numbers in
+    let le : c .before .before .before .loop .w ≤ c .before .before .before .loop .p = rw (i .count) (open-le (c .before .before .before .before .before .before .before .args .flags .now) (c .before .before .before .loop .p)) in
     (omega arith, le, omega arith, omega arith, omega arith)
 
 add-p : tie.Need-add-p Inv-loop μ-loop
@@ -34,8 +33,8 @@ loop-less c = let h = c .before .before .before .before .before .before .before 
 
 loop-again : tie.Need-loop-again Inv-loop μ-loop
 loop-again c =
-    let b12 = c .before .before .before .before .before .before .before .before .before .before .before .before in
-    let a = b12 .args in let l = c .before .before .before .before .before .before .before .before .loop in let ln = l .inv .1 .len-numbers in let h = c .before .before .before .before .before .before .before .loop-test .taken in let p = b12 .pre in (
+    let a = c .before .before .before .before .before .before .before .before .before .before .before .before .args in let l = c .before .before .before .before .before .before .before .before .loop in let ln = l .inv .1 .len-numbers in let h = c .before .before .before .before .before .before .before .loop-test .taken in let p = c .before .before .before .before
+    .before .before .before .before .before .before .before .before .pre in (
       omega arith,
       rw (add-one (l .p)) (closing-more (a .flags .now) (a .rows .now) (a .numbers .now) (l .rows) (l .numbers) (l .w) (l .p) (c .before .before .before .before .close-row .last .1 .1 .1 .0) (c .before .before .before .before .close-row .last .1 .1 .1 .1 .0) (c .before .before .before .before .close-row .result) (l .inv .1) (omega arith)
           (c .before .before .before .before .close-row .kept .1 .1 .1 .0) (c .before .before .before .before .close-row .ensures .0) (c .before .before .before .before .close-row .ensures .1 .0) (c .before .before .before .before .close-row .ensures .1 .1)),

@@ -28,10 +28,15 @@ shared-slice-read-p c = let h = c .before .loop-test .taken in let p = c .before
 
 meet-requires : tie.Need-meet-requires Inv-loop μ-loop
 meet-requires c κs =
-    let b9 = c .before .before .before .before .before .before .before .before .before in
-    let b17 = b9 .before .before .before .before .before .before .before .before in
-    let p = b17 .pre .0 in let q = b17 .pre .1 .0 in let i = c .before .before .before .before .loop .inv in let h = c .before .before .before .loop-test .taken in let la = i .len-areas in let ll = i .len-largest in let ka = b9 .reset .kept .0 in let kl = b9 .reset .kept .1 .0 in
-    ((p .0, p .1, omega arith, omega arith), ((omega arith, omega arith), numbered-at (b17 .args .of .now) (b17 .args .m) (b17 .args .np) (c .before .before .before .before .loop .t) (b17 .pre .1 .1) h (p .4)))
+    let p = c .before .before .before .before .before .before .before .before .before .before .before .before .before .before .before .before .before .pre .0 in let q = c .before .before .before .before .before .before .before .before .before .before .before .before .before .before .before .before .before .pre .1 .0 in let i = c .before .before .before
+    .before .loop .inv in let h = c .before .before .before .loop-test .taken in let la = i .len-areas in let ll = i .len-largest in let ka = c .before .before .before .before .before .before .before .before .before .reset .kept .0 in let kl = c .before .before .before .before .before .before .before .before .before .reset .kept .1 .0 in (
+      (p .0, p .1, omega arith, omega arith),
+      (
+        (omega arith, omega arith),
+        numbered-at (c .before .before .before .before .before .before .before .before .before .before .before .before .before .before .before .before .before .args .of .now) (c .before .before .before .before .before .before .before .before .before .before .before .before .before .before .before .before
+            .before .args .m) (c .before .before .before .before .before .before .before .before .before .before .before .before .before .before .before .before .before .args .np) (c .before .before .before .before .loop .t) (c .before .before .before .before .before .before .before .before .before .before .before .before .before .before .before .before .before .pre .1 .1) h (p .4),
+      ),
+    )
 
 add-t : tie.Need-add-t Inv-loop μ-loop
 add-t c = let h = c .before .before .before .before .before .before .before .before .loop-test .taken in let p = c .before .before .before .before .before .before .before .before .before .before .before .before .before .before .before .before .before .before .before .before .before .before .pre .0 in omega arith

@@ -23,13 +23,13 @@ largest-triangles-requires c κs =
 
 mark-open-requires : tie.Need-mark-open-requires
 mark-open-requires c κs =
-    let b22 = c .before .before .before .before .before .before .before .before .before .before .before .before .before .before .before .before .before .before .before .before .before .before in
-    let a = b22 .args in let p = b22 .pre .0 in let q = b22 .pre .1 .0 in let k = c .before .before .before .before .before .before .largest-triangles .kept .1 .1 .1 .1 .1 .1 .1 .0 in (
+    let a = c .before .before .before .before .before .before .before .before .before .before .before .before .before .before .before .before .before .before .before .before .before .before .args in let p = c .before .before .before .before .before .before .before .before .before .before .before .before .before .before .before .before .before .before .before .before
+    .before .before .pre .0 in let q = c .before .before .before .before .before .before .before .before .before .before .before .before .before .before .before .before .before .before .before .before .before .before .pre .1 .0 in let k = c .before .before .before .before .before .before .largest-triangles .kept .1 .1 .1 .1 .1 .1 .1 .0 in (
       (p .0, p .1, omega arith, q .3, omega arith),
       (
-        b22 .pre .1 .1 .0,
+        c .before .before .before .before .before .before .before .before .before .before .before .before .before .before .before .before .before .before .before .before .before .before .pre .1 .1 .0,
         (
-          b22 .pre .1 .1 .1 .0,
+          c .before .before .before .before .before .before .before .before .before .before .before .before .before .before .before .before .before .before .before .before .before .before .pre .1 .1 .1 .0,
           λ i h. let b = largest-below (a .triangles .now) (a .handles .now) (a .n) (a .m) (a .of .now) (a .np) (c .before .before .before .before .before .before .largest-triangles .last .1 .1 .1 .1 .1 .1 .0)
               (c .before .before .before .before .before .before .largest-triangles .last .1 .1 .1 .1 .1 .1 .1 .0) (p .3) (c .before .before .before .before .before .before .largest-triangles .ensures) i h (q .0) in omega arith,
         ),
@@ -38,14 +38,20 @@ mark-open-requires c κs =
 
 close-rows-requires : tie.Need-close-rows-requires
 close-rows-requires c κs =
-    let b28 = c .before .before .before .before .before .before .before .before .before .before .before .before .before .before .before .before .before .before .before .before .before .before .before .before .before .before .before .before in
-    let p = b28 .pre .0 in let q = b28 .pre .1 .0 in let k = c .before .before .before .before .before .mark-open .kept .1 .1 .1 .1 .1 .1 .1 .1 .1 .1 .1 .0 in let l = c .before .before .before .before .before .before .before .before .before .before .before .before .largest-triangles .kept .1 .1 .1 .1 .1 .1 .1 .0 in (q .4, omega arith, omega arith, omega arith)
+    let p = c .before .before .before .before .before .before .before .before .before .before .before .before .before .before .before .before .before .before .before .before .before .before .before .before .before .before .before .before .pre .0 in let q = c .before .before .before .before .before .before .before .before .before .before .before .before .before .before
+    .before .before .before .before .before .before .before .before .before .before .before .before .before .before .pre .1 .0 in let k = c .before .before .before .before .before .mark-open .kept .1 .1 .1 .1 .1 .1 .1 .1 .1 .1 .1 .0 in let l = c .before .before .before .before .before .before .before .before .before .before .before .before .largest-triangles .kept .1 .1
+    .1 .1 .1 .1 .1 .0 in (q .4, omega arith, omega arith, omega arith)
 
 renumber-requires : tie.Need-renumber-requires
 renumber-requires c κs =
-    let b35 = c .before .before .before .before .before .before .before .before .before .before .before .before .before .before .before .before .before .before .before .before .before .before .before .before .before .before .before .before .before .before .before .before .before .before .before in
-    let a = b35 .args in let p = b35 .pre .0 in let q = b35 .pre .1 .0 in let k = c .before .before .before .before .before .before .close-rows .kept .1 .1 .1 .0 in let l = c .before .before .before .before .before .before .before .before .before .before .before .before .before .before .before .before .before .before .before .largest-triangles .kept .1 .1 .1 .1 .1 .1 .1 .0 in
-    (p .4, numbered-wider (a .of .now) (a .m) (a .np) (length (c .before .before .before .before .before .before .close-rows .last .1 .1 .1 .0)) (b35 .pre .1 .1 .1 .1) (omega arith))
+    let a = c .before .before .before .before .before .before .before .before .before .before .before .before .before .before .before .before .before .before .before .before .before .before .before .before .before .before .before .before .before .before .before .before .before .before .before .args in let p = c .before .before .before .before .before .before .before
+    .before .before .before .before .before .before .before .before .before .before .before .before .before .before .before .before .before .before .before .before .before .before .before .before .before .before .before .before .pre .0 in let q = c .before .before .before .before .before .before .before .before .before .before .before .before .before .before .before
+    .before .before .before .before .before .before .before .before .before .before .before .before .before .before .before .before .before .before .before .before .pre .1 .0 in let k = c .before .before .before .before .before .before .close-rows .kept .1 .1 .1 .0 in let l = c .before .before .before .before .before .before .before .before .before .before
+    .before .before .before .before .before .before .before .before .before .largest-triangles .kept .1 .1 .1 .1 .1 .1 .1 .0 in (
+      p .4,
+      numbered-wider (a .of .now) (a .m) (a .np) (length (c .before .before .before .before .before .before .close-rows .last .1 .1 .1 .0)) (c .before .before .before .before .before .before .before .before .before .before .before .before .before .before .before .before .before .before .before .before .before .before .before .before .before .before .before .before
+          .before .before .before .before .before .before .before .pre .1 .1 .1 .1) (omega arith),
+    )
 
 same-length : tie.Need-same-length
 same-length c = search needs

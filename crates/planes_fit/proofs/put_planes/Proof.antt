@@ -114,19 +114,19 @@ plane-row-requires c κs =
 
 put-plane-requires : tie.Need-put-plane-requires Inv-loop μ-loop
 put-plane-requires c κs =
-    let b10 = c .before .before .before .before .before .before .before .before .before .before in
-    let b20 = b10 .before .before .before .before .before .before .before .before .before .before in
-    let a = b20 .args in
-    let g = b10 .loop .g in
-    let p = b20 .pre in
+    let a = c .before .before .before .before .before .before .before .before .before .before .before .before .before .before .before .before .before .before .before .before .args in
+    let g = c .before .before .before .before .before .before .before .before .before .before .loop .g in
+    let p = c .before .before .before .before .before .before .before .before .before .before .before .before .before .before .before .before .before .before .before .before .pre in
     let t = c .before .before .before .before .before .before .before .before .before .loop-test .taken in
-    let i = b10 .loop .inv in
+    let i = c .before .before .before .before .before .before .before .before .before .before .loop .inv in
     let r = p .1 .1 .0 in
     let rise = r .fenced .rise _ t in
-    let ends = r .fenced .ends (b10 .loop .g + 1) (omega (arith, t)) in
+    let ends = r .fenced .ends (c .before .before .before .before .before .before .before .before .before .before .loop .g + 1) (omega (arith, t)) in
     let low = c .before .before .before .before .before .before .shared-slice-known10 .given g in
     let high = c .before .before .before .before .before .shared-slice-known11 .given (g + 1) in
-    let long = part-length (b20 .args .plane-triangles .now) (getD (b20 .args .mstarts .now) (b10 .loop .g) 0) (getD (b20 .args .mstarts .now) (b10 .loop .g + 1) 0) ends in (
+    let long = part-length (c .before .before .before .before .before .before .before .before .before .before .before .before .before .before .before .before .before .before .before .before .args .plane-triangles .now) (getD (c .before .before .before .before .before .before .before .before .before .before .before .before .before .before .before .before .before .before
+    .before .before .args .mstarts .now) (c .before .before .before .before .before .before .before .before .before .before .loop .g) 0) (getD (c .before .before .before .before .before .before .before .before .before .before .before .before .before .before .before .before .before .before .before .before .args .mstarts .now) (c .before .before .before .before
+    .before .before .before .before .before .before .loop .g + 1) 0) ends in (
       omega (arith, p .1 .1 .1 .0, t, i .len-floats),
       (
         omega (arith, p .1 .1 .1 .1, t, i .len-words),

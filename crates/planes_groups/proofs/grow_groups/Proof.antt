@@ -76,13 +76,41 @@ add-start-group c = omega (arith, c .before .before .before .before .before .bef
 
 start-group-requires : tie.Need-start-group-requires Inv-loop μ-loop
 start-group-requires c κs =
-    let b18 = c .before .before .before .before .before .before .before .before .before .before .before .before .before .before .before .before .before .before in
-    let sb = seed-below (b18 .args .np) (b18 .args .order .now) (c .before .before .before .before .before .before .loop .i) (b18 .pre .1 .1 .1 .1 .1 .0 .1) (b18 .pre .1 .1 .1 .1 .1 .0 .0) (c .before .before .before .before .before .loop-test .taken) in let sa = seed-at (b18 .args .np) (b18 .args .order .now) (c .before .before .before .before .before .before .loop .i)
-    (c .before .before .before .before .before .loop-test .taken) in let long = length-take-le (b18 .args .np) (b18 .args .order .now) (b18 .pre .1 .1 .1 .1 .1 .0 .0) in
-    let free = group-free (b18 .args .np) (takesIn (b18 .args .triangles .now) (b18 .args .handles .now) (b18 .args .n) (b18 .args .rows .now) (b18 .args .tsorted .now) (b18 .args .tstarts .now) (b18 .args .least) (b18 .args .most)) (b18 .args .asorted .now) (b18 .args .astarts .now) (take (b18 .args .np) (b18 .args .order .now)) (b18 .args .assigned .now)
+    let sb = seed-below (c .before .before .before .before .before .before .before .before .before .before .before .before .before .before .before .before .before .before .args .np) (c .before .before .before .before .before .before .before .before .before .before .before .before .before .before .before .before .before .before .args .order .now) (c .before .before
+    .before .before .before .before .loop .i) (c .before .before .before .before .before .before .before .before .before .before .before .before .before .before .before .before .before .before .pre .1 .1 .1 .1 .1 .0 .1) (c .before .before .before .before .before .before .before .before .before .before .before .before .before .before .before .before .before .before .pre
+    .1 .1 .1 .1 .1 .0 .0) (c .before .before .before .before .before .loop-test .taken) in let sa = seed-at (c .before .before .before .before .before .before .before .before .before .before .before .before .before .before .before .before .before .before .args .np) (c .before .before .before .before .before .before .before .before .before .before .before .before
+    .before .before .before .before .before .before .args .order .now) (c .before .before .before .before .before .before .loop .i)
+    (c .before .before .before .before .before .loop-test .taken) in let long = length-take-le (c .before .before .before .before .before .before .before .before .before .before .before .before .before .before .before .before .before .before .args .np) (c .before .before .before .before .before .before .before .before .before .before .before .before .before .before
+    .before .before .before .before .args .order .now) (c .before .before .before .before .before .before .before .before .before .before .before .before .before .before .before .before .before .before .pre .1 .1 .1 .1 .1 .0 .0) in
+    let free = group-free (c .before .before .before .before .before .before .before .before .before .before .before .before .before .before .before .before .before .before .args .np) (takesIn (c .before .before .before .before .before .before .before .before .before .before .before .before .before .before .before .before .before .before .args .triangles .now) (c
+    .before .before .before .before .before .before .before .before .before .before .before .before .before .before .before .before .before .before .args .handles .now) (c .before .before .before .before .before .before .before .before .before .before .before .before .before .before .before .before .before .before .args .n) (c .before .before .before .before .before
+    .before .before .before .before .before .before .before .before .before .before .before .before .before .args .rows .now) (c .before .before .before .before .before .before .before .before .before .before .before .before .before .before .before .before .before .before .args .tsorted .now) (c .before .before .before .before .before .before .before .before
+    .before .before .before .before .before .before .before .before .before .before .args .tstarts .now) (c .before .before .before .before .before .before .before .before .before .before .before .before .before .before .before .before .before .before .args .least) (c .before .before .before .before .before .before .before .before .before .before .before
+    .before .before .before .before .before .before .before .args .most)) (c .before .before .before .before .before .before .before .before .before .before .before .before .before .before .before .before .before .before .args .asorted .now) (c .before .before .before .before .before .before .before .before .before .before .before .before .before .before
+    .before .before .before .before .args .astarts .now) (take (c .before .before .before .before .before .before .before .before .before .before .before .before .before .before .before .before .before .before .args .np) (c .before .before .before .before .before .before .before .before .before .before .before .before .before .before .before .before
+    .before .before .args .order .now)) (c .before .before .before .before .before .before .before .before .before .before .before .before .before .before .before .before .before .before .args .assigned .now)
     (c .before .before .before .before .before .before .loop .assigned) (c .before .before .before .before .before .before .loop .queue) (c .before .before .before .before .before .before .loop .offsets) (c .before .before .before .before .before .before .loop .ng) (c .before .before .before .before .before .before .loop .tail)
-    (c .before .before .before .before .before .before .loop .i) (c .before .before .before .before .before .before .loop .inv .5) (omega (arith, long, c .before .before .before .before .before .loop-test .taken)) (omega (arith, sb, sa)) (ap (λ (k : ℕ). getD (c .before .before .before .before .before .before .loop .assigned) k 0) sa ∙ c .before .before .if1 .left) in
-    (b18 .pre .0, (b18 .pre .1 .0, (b18 .pre .1 .1 .0, ((sb, omega arith), (b18 .pre .1 .1 .1 .1 .0, (c .before .before .before .before .before .before .loop .inv .5 .queue-is, rw sa at free))))))
+    (c .before .before .before .before .before .before .loop .i) (c .before .before .before .before .before .before .loop .inv .5) (omega (arith, long, c .before .before .before .before .before .loop-test .taken)) (omega (arith, sb, sa)) (ap (λ (k : ℕ). getD (c .before .before .before .before .before .before .loop .assigned) k 0) sa ∙ c .before .before .if1 .left) in (
+      c .before .before .before .before .before .before .before .before .before .before .before .before .before .before .before .before .before .before .pre .0,
+      (
+        c .before .before .before .before .before .before .before .before .before .before .before .before .before .before .before .before .before .before .pre .1 .0,
+        (
+          c .before .before .before .before .before .before
+              .before .before .before .before .before .before .before .before .before .before .before .before .pre .1 .1 .0,
+          (
+            (sb, omega arith),
+            (
+              c .before .before .before .before .before .before .before .before .before .before .before .before .before .before .before .before .before .before .pre .1 .1 .1 .1 .0,
+              (
+                c .before .before .before .before .before
+                    .before .loop .inv .5 .queue-is,
+                rw sa at free,
+              ),
+            ),
+          ),
+        ),
+      ),
+    )
 
 add-ng : tie.Need-add-ng Inv-loop μ-loop
 add-ng c = omega (arith, c .before .before .before .before .before .before .before .before .before .before .before .before .before .before .before .before .before .before .before .before .before .before .before .pre .1 .1 .1 .0)

@@ -23,8 +23,8 @@ loop-holds c =
 
 turn-requires : tie.Need-turn-requires Inv-loop μ-loop
 turn-requires c κs =
-    let b19 = c .before .before .before .before .before .before .before .before .before .before .before .before .before .before .before .before .before .before .before in
-    let f = c .before .before .before .before .before .before .loop .inv in let p = b19 .pre .0 in let q = b19 .pre .1 .0 in let h = c .before .before .before .before .before .loop-test .taken in
+    let f = c .before .before .before .before .before .before .loop .inv in let p = c .before .before .before .before .before .before .before .before .before .before .before .before .before .before .before .before .before .before .before .pre .0 in let q = c .before .before .before .before .before .before .before .before .before .before .before .before .before .before
+    .before .before .before .before .before .pre .1 .0 in let h = c .before .before .before .before .before .loop-test .taken in
     let lr = f .len-rows in let lo = f .len-of in let lc = f .len-cells in let ln = f .len-next in
     ((p .0, p .1, omega arith, omega arith, omega arith), ((omega arith, omega arith, omega arith, omega arith), f .standing))
 

@@ -31,9 +31,8 @@ mul-p c = omega (arith, c .before .shared-slice-known5 .given (c .before .before
 
 shared-slice-read-p : tie.Need-shared-slice-read-p Inv-loop μ-loop
 shared-slice-read-p c =
-    let b8 = c .before .before .before .before .before .before .before .before in
-    let a = b8 .args in let r = b8 .pre .room-next in
-    let l = tail-low (b8 .pre) (key (a .x) (a .y) (a .z)) (a .k .normal) (a .k .offset) (c .before .before .before .bucket .ensures .0) (c .before .if1 .left) in omega arith
+    let a = c .before .before .before .before .before .before .before .before .args in let r = c .before .before .before .before .before .before .before .before .pre .room-next in
+    let l = tail-low (c .before .before .before .before .before .before .before .before .pre) (key (a .x) (a .y) (a .z)) (a .k .normal) (a .k .offset) (c .before .before .before .bucket .ensures .0) (c .before .if1 .left) in omega arith
 
 cast-p : tie.Need-cast-p Inv-loop μ-loop
 cast-p c = let a = c .before .before .before .before .before .before .before .before .args in omega (arith, c .shared-slice-known6 .given (getD (a .heads .now) (c .before .before .before .bucket .result) 0 - 1) .fits)
@@ -45,8 +44,7 @@ loop-holds c =
 
 is-match-requires : tie.Need-is-match-requires Inv-loop μ-loop
 is-match-requires c κs =
-    let b9 = c .before .before .before .before .before .before .before .before .before in
-    let a = b9 .args in let g = b9 .pre in let w = c .loop .inv .0 in
+    let a = c .before .before .before .before .before .before .before .before .before .args in let g = c .before .before .before .before .before .before .before .before .before .pre in let w = c .loop .inv .0 in
     let l = tail-low g (key (a .x) (a .y) (a .z)) (a .k .normal) (a .k .offset) (c .before .before .before .before .bucket .ensures .0) (c .before .before .if1 .left) in (omega arith, omega arith)
 
 returns-2 : tie.Need-returns-2 Inv-loop μ-loop
@@ -66,18 +64,17 @@ mul-p-2 c = let w = c .before .before .before .loop .inv .0 in omega (arith, c .
 
 shared-slice-read-p-2 : tie.Need-shared-slice-read-p-2 Inv-loop μ-loop
 shared-slice-read-p-2 c =
-    let b13 = c .before .before .before .before .before .before .before .before .before .before .before .before .before in
-    let a = b13 .args in let r = b13 .pre .room-next in let w = c .before .before .before .before .loop .inv .0 in
-    let l = tail-low (b13 .pre) (key (a .x) (a .y) (a .z)) (a .k .normal) (a .k .offset) (c .before .before .before .before .before .before .before .before .bucket .ensures .0) (c .before .before .before .before .before .before .if1 .left) in omega arith
+    let a = c .before .before .before .before .before .before .before .before .before .before .before .before .before .args in let r = c .before .before .before .before .before .before .before .before .before .before .before .before .before .pre .room-next in let w = c .before .before .before .before .loop .inv .0 in
+    let l = tail-low (c .before .before .before .before .before .before .before .before .before .before .before .before .before .pre) (key (a .x) (a .y) (a .z)) (a .k .normal) (a .k .offset) (c .before .before .before .before .before .before .before .before .bucket .ensures .0) (c .before .before .before .before .before .before .if1 .left) in omega arith
 
 cast-p-2 : tie.Need-cast-p-2 Inv-loop μ-loop
 cast-p-2 c = omega (arith, c .shared-slice-known7 .given (c .before .before .before .before .loop .p) .fits)
 
 loop-less : tie.Need-loop-less Inv-loop μ-loop
 loop-less c =
-    let b13 = c .before .before .before .before .before .before .before .before .before .before .before .before .before in
-    let a = b13 .args in
-    let w = walk-step (b13 .pre) (key (a .x) (a .y) (a .z)) (a .k .normal) (a .k .offset) (c .before .before .before .before .before .before .before .before .bucket .ensures .0) (c .before .before .before .before .before .before .if1 .left) (c .before .before .before .before .loop .p) (c .before .before .before .before .loop .inv) (c .before .if3 .left) (sym
+    let a = c .before .before .before .before .before .before .before .before .before .before .before .before .before .args in
+    let w = walk-step (c .before .before .before .before .before .before .before .before .before .before .before .before .before .pre) (key (a .x) (a .y) (a .z)) (a .k .normal) (a .k .offset) (c .before .before .before .before .before .before .before .before .bucket .ensures .0) (c .before .before .before .before .before .before .if1 .left) (c .before .before .before
+    .before .loop .p) (c .before .before .before .before .loop .inv) (c .before .if3 .left) (sym
     (c .before .before .before .is-match .ensures) ∙ c .before .before .if2 .left) in
     let l = w .0 in let i = w .1 .0 in omega arith
 

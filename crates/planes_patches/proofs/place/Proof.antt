@@ -21,13 +21,12 @@ found-requires c κs = (c .before .before .before .before .before .before .befor
 
 join-patch-requires : tie.Need-join-patch-requires
 join-patch-requires c κs =
-    let b16 = c .before .before .before .before .before .before .before .before .before .before .before .before .before .before .before .before in
-    let p = b16 .pre .1 .0 in let f = b16 .pre .1 .1 .few in let t = c .before .if1 .taken in omega arith
+    let p = c .before .before .before .before .before .before .before .before .before .before .before .before .before .before .before .before .pre .1 .0 in let f = c .before .before .before .before .before .before .before .before .before .before .before .before .before .before .before .before .pre .1 .1 .few in let t = c .before .if1 .taken in omega arith
 
 cast-of : tie.Need-cast-of
 cast-of c =
-    let b19 = c .before .before .before .before .before .before .before .before .before .before .before .before .before .before .before .before .before .before .before in
-    let p = b19 .pre .0 in let f = b19 .pre .1 .1 .few in let t = c .before .before .before .before .if1 .taken in omega arith
+    let p = c .before .before .before .before .before .before .before .before .before .before .before .before .before .before .before .before .before .before .before .pre .0 in let f = c .before .before .before .before .before .before .before .before .before .before .before .before .before .before .before .before .before .before .before .pre .1 .1 .few in let t = c
+    .before .before .before .before .if1 .taken in omega arith
 
 mul-of : tie.Need-mul-of
 mul-of c = let p = c .before .before .before .before .before .before .before .before .before .before .before .before .before .before .before .before .before .before .before .pre .0 .3 in omega arith
@@ -62,8 +61,8 @@ put-in-grid-requires c κs =
 
 cast-of-2 : tie.Need-cast-of-2
 cast-of-2 c =
-    let b29 = c .before .before .before .before .before .before .before .before .before .before .before .before .before .before .before .before .before .before .before .before .before .before .before .before .before .before .before .before .before in
-    let p = b29 .pre .0 in let f = b29 .pre .1 .1 .few in omega arith
+    let p = c .before .before .before .before .before .before .before .before .before .before .before .before .before .before .before .before .before .before .before .before .before .before .before .before .before .before .before .before .before .pre .0 in let f = c .before .before .before .before .before .before .before .before .before .before .before .before .before
+    .before .before .before .before .before .before .before .before .before .before .before .before .before .before .before .before .pre .1 .1 .few in omega arith
 
 mul-of-2 : tie.Need-mul-of-2
 mul-of-2 c = let p = c .before .before .before .before .before .before .before .before .before .before .before .before .before .before .before .before .before .before .before .before .before .before .before .before .before .before .before .before .before .pre .0 .3 in omega arith
@@ -73,29 +72,33 @@ slice-write-of-2 c = c .before .before .before .before .before .before .before .
 
 add-result : tie.Need-add-result
 add-result c =
-    let b29 = c .before .before .before .before .before .before .before .before .before .before .before .before .before .before .before .before .before .before .before .before .before .before .before .before .before .before .before .before .before in
-    let p = b29 .pre .0 in let f = b29 .pre .1 .1 .few in omega arith
+    let p = c .before .before .before .before .before .before .before .before .before .before .before .before .before .before .before .before .before .before .before .before .before .before .before .before .before .before .before .before .before .pre .0 in let f = c .before .before .before .before .before .before .before .before .before .before .before .before .before
+    .before .before .before .before .before .before .before .before .before .before .before .before .before .before .before .before .pre .1 .1 .few in omega arith
 
 returns-2 : tie.Need-returns-2
 returns-2 c =
-    let b12 = c .before .before .before .before .before .before .before .before .before .before .before .before in
-    let b14 = b12 .before .before in
-    let b15 = b14 .before in
-    let b20 = b15 .before .before .before .before .before in
-    let b21 = b20 .before in
-    let b29 = b21 .before .before .before .before .before .before .before .before in
-    let a = b29 .args in let s = b29 .pre .1 .1 in let f = s .few in let p = b29 .pre .1 .0 in let q = b29 .pre .0 .3 in
-    let lr = b12 .new-patch .kept .0 in let lc = c .before .before .before .before .before .before .put-in-grid .kept .0 in
-    let rr : patchFloats * a .np + patchFloats ≤ length (b12 .new-patch .last .0) = omega arith in
+    let a = c .before .before .before .before .before .before .before .before .before .before .before .before .before .before .before .before .before .before .before .before .before .before .before .before .before .before .before .before .before .args in let s = c .before .before .before .before .before .before .before .before .before .before .before .before .before
+    .before .before .before .before .before .before .before .before .before .before .before .before .before .before .before .before .pre .1 .1 in let f = s .few in let p = c .before .before .before .before .before .before .before .before .before .before .before .before .before .before .before .before .before .before .before .before .before .before .before .before
+    .before .before .before .before .before .pre .1 .0 in let q = c .before .before .before .before .before .before .before .before .before .before .before .before .before .before .before .before .before .before .before .before .before .before .before .before .before .before .before .before .before .pre .0 .3 in
+    let lr = c .before .before .before .before .before .before .before .before .before .before .before .before .new-patch .kept .0 in let lc = c .before .before .before .before .before .before .put-in-grid .kept .0 in
+    let rr : patchFloats * a .np + patchFloats ≤ length (c .before .before .before .before .before .before .before .before .before .before .before .before .new-patch .last .0) = omega arith in
     let rc : 3 * a .np + 3 ≤ length (c .before .before .before .before .before .before .put-in-grid .last .0) = omega arith in
     let rn : a .np < length (a .next .now) = omega arith in
     rw (add-one (a .np)) (
-      new-standing (a .rows .now) (a .of .now) (a .cells .now) (a .heads .now) (a .next .now) (a .t) (a .np) (b15 .found .result) (b21 .triangle-at .result) (b20 .plane-key .result) s (p .3) (b20 .plane-key .ensures .0) (b15 .found .ensures) (b12 .new-patch .last .0) (c .before .before .before .before .before .before .put-in-grid .last .0) (b14 .if1 .left) q rr rc rn
-          (b12 .new-patch .ensures .0) (b12 .new-patch .ensures .1) (c .before .before .before .before .before .before .put-in-grid .ensures .0) (c .before .before .before .before .before .before .put-in-grid .ensures .1 .0) (c .before .before .before .before .before .before .put-in-grid .last .1 .0)
+      new-standing (a .rows .now) (a .of .now) (a .cells .now) (a .heads .now) (a .next .now) (a .t) (a .np) (c .before .before .before .before .before .before .before .before .before .before .before .before .before .before .before .found .result) (c .before .before .before .before .before .before .before .before .before .before .before .before .before .before .before
+          .before .before .before .before .before .before .triangle-at .result) (c .before .before .before .before .before .before .before .before .before .before .before .before .before .before .before .before .before .before .before .before .plane-key .result) s (p .3) (c .before .before .before .before .before .before .before .before .before .before .before .before
+          .before .before .before .before .before .before .before .before .plane-key .ensures .0) (c .before .before .before .before .before .before .before .before .before .before .before .before .before .before .before .found .ensures) (c .before .before .before .before .before .before .before .before .before .before .before .before .new-patch .last .0) (c .before
+          .before .before .before .before .before .put-in-grid .last .0) (c .before .before .before .before .before .before .before .before .before .before .before .before .before .before .if1 .left) q rr rc rn
+          (c .before .before .before .before .before .before .before .before .before .before .before .before .new-patch .ensures .0) (c .before .before .before .before .before .before .before .before .before .before .before .before .new-patch .ensures .1) (c .before .before .before .before .before .before .put-in-grid .ensures .0) (c .before .before .before .before
+          .before .before .put-in-grid .ensures .1 .0) (c .before .before .before .before .before .before .put-in-grid .last .1 .0)
           (c .before .before .before .before .before .before .put-in-grid .last .1 .1 .0) (c .before .before .before .before .before .before .put-in-grid .ensures .1 .1 .0) (c .before .before .before .before .before .before .put-in-grid .ensures .1 .1 .1),
       (
-        λ ts w. new-patches (a .rows .now) (a .of .now) (a .cells .now) (a .heads .now) (a .next .now) (a .t) (a .np) (b15 .found .result) (b21 .triangle-at .result) (b20 .plane-key .result) s (p .3) (b20 .plane-key .ensures .0) (b15 .found .ensures) (b12 .new-patch .last .0) (c .before .before .before .before .before .before .put-in-grid .last .0) (b14 .if1 .left) q rr rc rn
-            (b12 .new-patch .ensures .0) (b12 .new-patch .ensures .1) (c .before .before .before .before .before .before .put-in-grid .ensures .0) (c .before .before .before .before .before .before .put-in-grid .ensures .1 .0) ts (w ∙ sym (b21 .triangle-at .ensures)),
+        λ ts w. new-patches (a .rows .now) (a .of .now) (a .cells .now) (a .heads .now) (a .next .now) (a .t) (a .np) (c .before .before .before .before .before .before .before .before .before .before .before .before .before .before .before .found .result) (c .before .before .before .before .before .before .before .before .before .before .before .before .before .before
+            .before .before .before .before .before .before .before .triangle-at .result) (c .before .before .before .before .before .before .before .before .before .before .before .before .before .before .before .before .before .before .before .before .plane-key .result) s (p .3) (c .before .before .before .before .before .before .before .before .before .before .before
+            .before .before .before .before .before .before .before .before .before .plane-key .ensures .0) (c .before .before .before .before .before .before .before .before .before .before .before .before .before .before .before .found .ensures) (c .before .before .before .before .before .before .before .before .before .before .before .before .new-patch .last .0)
+            (c .before .before .before .before .before .before .put-in-grid .last .0) (c .before .before .before .before .before .before .before .before .before .before .before .before .before .before .if1 .left) q rr rc rn
+            (c .before .before .before .before .before .before .before .before .before .before .before .before .new-patch .ensures .0) (c .before .before .before .before .before .before .before .before .before .before .before .before .new-patch .ensures .1) (c .before .before .before .before .before .before .put-in-grid .ensures .0) (c .before .before .before .before
+            .before .before .put-in-grid .ensures .1 .0) ts (w ∙ sym (c .before .before .before .before .before .before .before .before .before .before .before .before .before .before .before .before .before .before .before .before .before .triangle-at .ensures)),
         λ i d. getD-set-other (a .of .now) (a .t) i (a .np) noneOf d,
       ),
     )

@@ -20,10 +20,9 @@ put-vec-requires-2 c κs = let a = c .before .before .before .before .before .be
 
 put-vec-requires-3 : tie.Need-put-vec-requires-3
 put-vec-requires-3 c κs =
-    let b7 = c .before .before .before .before .before .before .before in
-    let a = c .before .before .before .before .before .before .before .before .before .before .args in let k = b7 .put-vec .kept .0 in
-    let s = length-set (b7 .put-vec .last .0) (patchFloats * a .p + 3) (a .r .offset) in
-    let t = length-set (set (b7 .put-vec .last .0) (patchFloats * a .p + 3) (a .r .offset)) (patchFloats * a .p + 4) (a .r .area) in
+    let a = c .before .before .before .before .before .before .before .before .before .before .args in let k = c .before .before .before .before .before .before .before .put-vec .kept .0 in
+    let s = length-set (c .before .before .before .before .before .before .before .put-vec .last .0) (patchFloats * a .p + 3) (a .r .offset) in
+    let t = length-set (set (c .before .before .before .before .before .before .before .put-vec .last .0) (patchFloats * a .p + 3) (a .r .offset)) (patchFloats * a .p + 4) (a .r .area) in
     let u = c .before .before .before .put-vec2 .kept .0 in omega arith
 
 same-length : tie.Need-same-length

@@ -30,10 +30,16 @@ slice-write-of c = c .before .before .before .before .before .before .before .be
 
 returns-2 : tie.Need-returns-2
 returns-2 c =
-    let b10 = c .before .before .before .before .before .before .before .before .before .before in
-    let a = b10 .args in let s = b10 .pre .1 .1 in let f = s .few in let p = b10 .pre .0 .3 in (
-      none-standing (a .rows .now) (a .of .now) (a .cells .now) (a .heads .now) (a .next .now) (a .t) (a .np) s (b10 .pre .1 .0 .3),
-      (λ ts w. turn-none (a .rows .now) (a .of .now) (a .t) (a .np) (b10 .pre .1 .0 .3) (omega arith) ∙ sym (rw (ne-eqb (getD (a .first .now) (a .t) 0) (a .t) (c .if1 .left))), (λ i d. getD-set-other (a .of .now) (a .t) i noneOf noneOf d, λ e. getD-set-same (a .of .now) (a .t) noneOf noneOf (b10 .pre .1 .0 .3))),
+    let a = c .before .before .before .before .before .before .before .before .before .before .args in let s = c .before .before .before .before .before .before .before .before .before .before .pre .1 .1 in let f = s .few in let p = c .before .before .before .before .before .before .before .before .before .before .pre .0 .3 in (
+      none-standing (a .rows .now) (a .of .now) (a .cells .now) (a .heads .now) (a .next .now) (a .t) (a .np) s (c .before .before .before .before .before .before .before .before .before .before .pre .1 .0 .3),
+      (
+        λ ts w. turn-none (a .rows .now) (a .of .now) (a .t) (a .np) (c .before .before .before .before .before .before .before .before .before .before .pre .1 .0 .3) (omega arith) ∙ sym (rw (ne-eqb (getD (a .first .now) (a .t) 0) (a .t) (c .if1 .left))),
+        (
+          λ i d. getD-set-other (a .of .now) (a .t) i noneOf noneOf d,
+          λ e. getD-set-same (a .of .now) (a .t) noneOf noneOf (c
+              .before .before .before .before .before .before .before .before .before .before .pre .1 .0 .3),
+        ),
+      ),
     )
 
 pub turn-spec : {M : Type 1} → statement M

@@ -22,9 +22,8 @@ returns c = let a = c .before .before .before .before .before .before .before .b
 
 expand-images-requires : tie.Need-expand-images-requires
 expand-images-requires c κs =
-    let b20 = c .before .before .before .before .before .before .before .before .before .before .before .before .before .before .before .before .before .before .before .before in
-    let a = b20 .args in
-    let pre = b20 .pre in
+    let a = c .before .before .before .before .before .before .before .before .before .before .before .before .before .before .before .before .before .before .before .before .args in
+    let pre = c .before .before .before .before .before .before .before .before .before .before .before .before .before .before .before .before .before .before .before .before .pre in
     let b = c .before .before .before .before .first-images .ensures in
     let q : Task = record { listener = a .listener; beyond = c .before .before .before .before .before .square-beyond .result; n = a .n; count = a .count; order = a .order; «nodes_count» = a .nodes-count; room = a .room; source = a .source; limit = most; settings = a .settings } in
     let s : State = (state (0 ∷ 0 ∷ 0 ∷ 0 ∷ 0 ∷ 0 ∷ 0 ∷ 0 ∷ []) (c .before .before .before .before .first-images .result) (record { nodes = 0; rays = 0; found = 0; over = 0 })) in

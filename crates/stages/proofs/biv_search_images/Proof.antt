@@ -19,9 +19,8 @@ point-from-requires-2 c κs = c .before .before .before .before .before .before 
 
 search-images-requires : tie.Need-search-images-requires
 search-images-requires c κs =
-    let b23 = c .before .before .before .before .before .before .before .before .before .before .before .before .before .before .before .before .before .before .before .before .before .before .before in
-    let p = b23 .pre in
-    let a = b23 .args in
+    let p = c .before .before .before .before .before .before .before .before .before .before .before .before .before .before .before .before .before .before .before .before .before .before .before .pre in
+    let a = c .before .before .before .before .before .before .before .before .before .before .before .before .before .before .before .before .before .before .before .before .before .before .before .args in
     let q = p .1 .1 .1 .0 in
     (p .0, ((q .0, q .1, crossings-within (a .counts .now) (a .setting-floats .now) (c .before .before .before .before .settings-from .result) (c .before .before .before .before .settings-from .ensures) (q .2)), p .1 .1 .1 .1))
 
@@ -45,10 +44,10 @@ same-length-3 c = simp length-set
 
 returns : tie.Need-returns
 returns c =
-    let b30 = c .before .before .before .before .before .before .before .before .before .before .before .before .before .before .before .before .before .before .before .before .before .before .before .before .before .before .before .before .before .before in
     λ tri t reads.
     let f = c .before .before .before .before .before .before .search-images .result in
-    let k = three (b30 .args .found .now) (f .images) (f .rays) (f .found) (b30 .pre .1 .1 .0 .2) in
+    let k = three (c .before .before .before .before .before .before .before .before .before .before .before .before .before .before .before .before .before .before .before .before .before .before .before .before .before .before .before .before .before .before .args .found .now) (f .images) (f .rays) (f .found) (c .before .before .before .before .before .before .before
+    .before .before .before .before .before .before .before .before .before .before .before .before .before .before .before .before .before .before .before .before .before .before .before .pre .1 .1 .0 .2) in
     rw (k .zeroth, k .first, k .second, ← c .before .before .before .before .before .before .before .before .before .before .before .settings-from .ensures, ← c .before .before .before .before .before .before .before .before .before .before .point-from .ensures, ← c .before .before .before .before .before .before .before .before .before .point-from2 .ensures)
     (c .before .before .before .before .before .before .search-images .ensures .0 tri t reads)
 

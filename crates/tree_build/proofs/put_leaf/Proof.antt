@@ -25,28 +25,24 @@ bounds-requires c κs = let a = c .before .before .before .before .before .args 
 
 cast-put-node : tie.Need-cast-put-node
 cast-put-node c =
-    let b8 = c .before .before .before .before .before .before .before .before in
-    let L = b8 .pre .0 in let R = b8 .pre .1 in let some = L .some in let within = L .within in let size = L .size in let few = L .few in let br = R .boxes-room in let nr = R .nodes-room in let small = R .small in omega arith
+    let L = c .before .before .before .before .before .before .before .before .pre .0 in let R = c .before .before .before .before .before .before .before .before .pre .1 in let some = L .some in let within = L .within in let size = L .size in let few = L .few in let br = R .boxes-room in let nr = R .nodes-room in let small = R .small in omega arith
 
 sub-put-node : tie.Need-sub-put-node
 sub-put-node c =
-    let b8 = c .before .before .before .before .before .before .before .before in
-    let L = b8 .pre .0 in let R = b8 .pre .1 in let some = L .some in let within = L .within in let size = L .size in let few = L .few in let br = R .boxes-room in let nr = R .nodes-room in let small = R .small in omega arith
+    let L = c .before .before .before .before .before .before .before .before .pre .0 in let R = c .before .before .before .before .before .before .before .before .pre .1 in let some = L .some in let within = L .within in let size = L .size in let few = L .few in let br = R .boxes-room in let nr = R .nodes-room in let small = R .small in omega arith
 
 cast-put-node-2 : tie.Need-cast-put-node-2
 cast-put-node-2 c =
-    let b8 = c .before .before .before .before .before .before .before .before in
-    let L = b8 .pre .0 in let R = b8 .pre .1 in let some = L .some in let within = L .within in let size = L .size in let few = L .few in let br = R .boxes-room in let nr = R .nodes-room in let small = R .small in omega arith
+    let L = c .before .before .before .before .before .before .before .before .pre .0 in let R = c .before .before .before .before .before .before .before .before .pre .1 in let some = L .some in let within = L .within in let size = L .size in let few = L .few in let br = R .boxes-room in let nr = R .nodes-room in let small = R .small in omega arith
 
 put-node-requires : tie.Need-put-node-requires
 put-node-requires c κs =
-    let b8 = c .before .before .before .before .before .before .before .before in
-    let L = b8 .pre .0 in let R = b8 .pre .1 in let some = L .some in let br = R .boxes-room in let nr = R .nodes-room in (omega arith, omega arith)
+    let L = c .before .before .before .before .before .before .before .before .pre .0 in let R = c .before .before .before .before .before .before .before .before .pre .1 in let some = L .some in let br = R .boxes-room in let nr = R .nodes-room in (omega arith, omega arith)
 
 add-result : tie.Need-add-result
 add-result c =
-    let b13 = c .before .before .before .before .before .before .before .before .before .before .before .before .before in
-    let L = b13 .pre .0 in let R = b13 .pre .1 in let some = L .some in let within = L .within in let size = L .size in let few = L .few in let br = R .boxes-room in let nr = R .nodes-room in let small = R .small in omega arith
+    let L = c .before .before .before .before .before .before .before .before .before .before .before .before .before .pre .0 in let R = c .before .before .before .before .before .before .before .before .before .before .before .before .before .pre
+    .1 in let some = L .some in let within = L .within in let size = L .size in let few = L .few in let br = R .boxes-room in let nr = R .nodes-room in let small = R .small in omega arith
 
 same-length : tie.Need-same-length
 same-length c = c .before .before .before .before .put-node .kept .0

@@ -24,10 +24,9 @@ part-split-end c = let L = c .before .before .before .before .before .before .be
 
 split-requires : tie.Need-split-requires
 split-requires c κs =
-    let b12 = c .before .before .before .before .before .before .before .before .before .before .before .before in
-    let a = b12 .args in
-    let L = b12 .pre .0 in
-    let S = b12 .pre .1 in
+    let a = c .before .before .before .before .before .before .before .before .before .before .before .before .args in
+    let L = c .before .before .before .before .before .before .before .before .before .before .before .before .pre .0 in
+    let S = c .before .before .before .before .before .before .before .before .before .before .before .before .pre .1 in
     let some = L .some in let within = L .within in let size = L .size in let few = L .few in
     let w = S .words-room in let s = S .scratch-room in let r = S .areas-room in
     let l = part-length (a .lo) (a .hi) (a .leaf-order .now) (omega arith) (L .within) in
@@ -58,13 +57,12 @@ same-length-4 c = c .before .before .before .before .before .before .before .bef
 
 returns : tie.Need-returns
 returns c =
-    let b8 = c .before .before .before .before .before .before .before .before in
-    let b21 = b8 .before .before .before .before .before .before .before .before .before .before .before .before .before in
-    let a = b21 .args in
-    let L = b21 .pre .0 in
+    let a = c .before .before .before .before .before .before .before .before .before .before .before .before .before .before .before .before .before .before .before .before .before .args in
+    let L = c .before .before .before .before .before .before .before .before .before .before .before .before .before .before .before .before .before .before .before .before .before .pre .0 in
     let some = L .some in
-    law.back-split (a .lo) (a .hi) (a .leaf-order .now) (b8 .split .last .1 .1 .1 .1 .1 .0) (omega arith) (L .within) (b8 .split .kept .1 .1 .1 .1 .1 .0)
-    (aabbAtOf (a .extents .now)) (centroidAtOf (a .extents .now)) (a .n) (b8 .split .result) (L .inside) (b8 .split .ensures .0 .0) (b8 .split .ensures .0 .1) (b8 .split .ensures .0 .2)
+    law.back-split (a .lo) (a .hi) (a .leaf-order .now) (c .before .before .before .before .before .before .before .before .split .last .1 .1 .1 .1 .1 .0) (omega arith) (L .within) (c .before .before .before .before .before .before .before .before .split .kept .1 .1 .1 .1 .1 .0)
+    (aabbAtOf (a .extents .now)) (centroidAtOf (a .extents .now)) (a .n) (c .before .before .before .before .before .before .before .before .split .result) (L .inside) (c .before .before .before .before .before .before .before .before .split .ensures .0 .0) (c .before .before .before .before .before .before .before .before .split .ensures .0 .1) (c .before .before
+    .before .before .before .before .before .before .split .ensures .0 .2)
 
 pub split-part-spec : {M : Type 1} → statement M
 split-part-spec =

@@ -18,21 +18,19 @@ sort-by-centroid-requires c κs = let pre = c .before .before .before .before .b
 
 suffix-areas-requires : tie.Need-suffix-areas-requires
 suffix-areas-requires c κs =
-    let b8 = c .before .before .before .before .before .before .before .before in
     let pre = c .before .before .before .before .before .before .before .before .before .before .before .before .before .before .before .before .before .before .before .pre in
-    let k = b8 .sort-by-centroid .kept .1 .1 .1 .1 .0 in
+    let k = c .before .before .before .before .before .before .before .before .sort-by-centroid .kept .1 .1 .1 .1 .0 in
     let p = pre .1 .1 .1 .0 in
-    (pre .0, (b8 .sort-by-centroid .ensures .1, omega arith))
+    (pre .0, (c .before .before .before .before .before .before .before .before .sort-by-centroid .ensures .1, omega arith))
 
 sweep-requires : tie.Need-sweep-requires
 sweep-requires c κs =
-    let b13 = c .before .before .before .before .before .before .before .before .before .before .before .before .before in
     let pre = c .before .before .before .before .before .before .before .before .before .before .before .before .before .before .before .before .before .before .before .before .before .before .before .before .pre in
-    let k = b13 .sort-by-centroid .kept .1 .1 .1 .1 .0 in
+    let k = c .before .before .before .before .before .before .before .before .before .before .before .before .before .sort-by-centroid .kept .1 .1 .1 .1 .0 in
     let s = c .before .before .before .before .suffix-areas .kept .1 .1 .1 .0 in
     let p = pre .1 .1 .1 .0 in
     let q = pre .1 .1 .0 in
-    (pre .0, (b13 .sort-by-centroid .ensures .1, ((omega arith, omega arith), (omega arith, c .before .before .before .before .suffix-areas .ensures))))
+    (pre .0, (c .before .before .before .before .before .before .before .before .before .before .before .before .before .sort-by-centroid .ensures .1, ((omega arith, omega arith), (omega arith, c .before .before .before .before .suffix-areas .ensures))))
 
 same-length : tie.Need-same-length
 same-length c = c .before .before .before .before .before .before .before .before .before .before .before .before .before .before .sort-by-centroid .kept .1 .1 .1 .1 .0

@@ -23,23 +23,27 @@ same-length-4 c = c .before .before .before .before .before .before .before .bef
 
 returns : tie.Need-returns
 returns c =
-    let b9 = c .before .before .before .before .before .before .before .before .before in
-    let b22 = b9 .before .before .before .before .before .before .before .before .before .before .before .before .before in
-    let a = b22 .args in
-    let S = b22 .pre in
+    let a = c .before .before .before .before .before .before .before .before .before .before .before .before .before .before .before .before .before .before .before .before .before .before .args in
+    let S = c .before .before .before .before .before .before .before .before .before .before .before .before .before .before .before .before .before .before .before .before .before .before .pre in
     let b = aabbAtOf (a .extents .now) in
-    let mid = centroidAtOf (a .extents .now) in
-    ((law.split-none b mid (a .part .now) (b9 .search-axes .last .1 .1 .1 .1 .1 .0) (b9 .search-axes .result) (b9 .search-axes .ensures .0) (c .if1 .taken), b9 .search-axes .ensures .1, S .some), (same-length-2 c, same-length-3 c, same-length-4 c))
+    let mid = centroidAtOf (a .extents .now) in (
+      (
+        law.split-none b mid (a .part .now) (c .before .before .before .before .before .before .before .before .before .search-axes .last .1 .1 .1 .1 .1 .0) (c .before .before .before .before .before .before .before .before .before .search-axes .result) (c .before .before .before .before .before .before .before .before .before .search-axes .ensures .0) (c .if1 .taken),
+        c
+            .before .before .before .before .before .before .before .before .before .search-axes .ensures .1,
+        S .some,
+      ),
+      (same-length-2 c, same-length-3 c, same-length-4 c),
+    )
 
 sort-by-axis-requires : tie.Need-sort-by-axis-requires
 sort-by-axis-requires c κs =
-    let b12 = c .before .before .before .before .before .before .before .before .before .before .before .before in
     let S = c .before .before .before .before .before .before .before .before .before .before .before .before .before .before .before .before .before .before .before .before .before .before .before .before .before .pre in
     let w = S .words-room in let s = S .scratch-room in
-    let k0 = b12 .search-axes .kept .1 .1 .1 .1 .1 .0 in
-    let k1 = b12 .search-axes .kept .1 .1 .1 .1 .1 .1 .0 in
-    let k2 = b12 .search-axes .kept .1 .1 .1 .1 .1 .1 .1 .0 in
-    (b12 .search-axes .ensures .1, ((omega arith, omega arith), S .keyed))
+    let k0 = c .before .before .before .before .before .before .before .before .before .before .before .before .search-axes .kept .1 .1 .1 .1 .1 .0 in
+    let k1 = c .before .before .before .before .before .before .before .before .before .before .before .before .search-axes .kept .1 .1 .1 .1 .1 .1 .0 in
+    let k2 = c .before .before .before .before .before .before .before .before .before .before .before .before .search-axes .kept .1 .1 .1 .1 .1 .1 .1 .0 in
+    (c .before .before .before .before .before .before .before .before .before .before .before .before .search-axes .ensures .1, ((omega arith, omega arith), S .keyed))
 
 same-length-5 : tie.Need-same-length-5
 same-length-5 c = c .before .before .before .before .before .before .sort-by-axis .kept .1 .1 .1 .1 .1 .1 .0 ∙ c .before .before .before .before .before .before .before .before .before .before .before .before .before .before .before .before .before .before .before .search-axes .kept .1 .1 .1 .1 .1 .0
@@ -55,17 +59,18 @@ same-length-8 c = c .before .before .before .before .before .before .before .bef
 
 returns-2 : tie.Need-returns-2
 returns-2 c =
-    let b19 = c .before .before .before .before .before .before .before .before .before .before .before .before .before .before .before .before .before .before .before in
-    let b32 = b19 .before .before .before .before .before .before .before .before .before .before .before .before .before in
-    let a = b32 .args in
-    let S = b32 .pre in
+    let a = c .before .before .before .before .before .before .before .before .before .before .before .before .before .before .before .before .before .before .before .before .before .before .before .before .before .before .before .before .before .before .before .before .args in
+    let S = c .before .before .before .before .before .before .before .before .before .before .before .before .before .before .before .before .before .before .before .before .before .before .before .before .before .before .before .before .before .before .before .before .pre in
     let b = aabbAtOf (a .extents .now) in
     let mid = centroidAtOf (a .extents .now) in (
       (
-        law.split-some b mid (a .part .now) (b19 .search-axes .last .1 .1 .1 .1 .1 .0) (b19 .search-axes .result) (b19 .search-axes .ensures .0) (c .before .before .before .before .before .before .sort-by-axis .last .1 .1 .1 .1 .1 .1 .0) (c .before .before .before .before .before .before .before .before .before .before .if1 .left)
+        law.split-some b mid (a .part .now) (c .before .before .before .before .before .before .before .before .before .before .before .before .before .before .before .before .before .before .before .search-axes .last .1 .1 .1 .1 .1 .0) (c .before .before .before .before .before .before .before .before .before .before .before .before .before .before .before .before
+            .before .before .before .search-axes .result) (c .before .before .before .before .before .before .before .before .before .before .before .before .before .before .before .before .before .before .before .search-axes .ensures .0) (c .before .before .before .before .before .before .sort-by-axis .last .1 .1 .1 .1 .1 .1 .0) (c .before .before .before .before
+            .before .before .before .before .before .before .if1 .left)
             (c .before .before .before .before .before .before .sort-by-axis .ensures .0),
         c .before .before .before .before .before .before .sort-by-axis .ensures .1,
-        law.found-below b mid (a .part .now) (b19 .search-axes .last .1 .1 .1 .1 .1 .0) (b19 .search-axes .result) (b19 .search-axes .ensures .0) (S .some),
+        law.found-below b mid (a .part .now) (c .before .before .before .before .before .before .before .before .before .before .before .before .before .before .before .before .before .before .before .search-axes .last .1 .1 .1 .1 .1 .0) (c .before .before .before .before .before .before .before .before .before .before .before .before .before .before .before .before
+            .before .before .before .search-axes .result) (c .before .before .before .before .before .before .before .before .before .before .before .before .before .before .before .before .before .before .before .search-axes .ensures .0) (S .some),
       ),
       (same-length-6 c, same-length-7 c, same-length-8 c),
     )

@@ -34,20 +34,18 @@ cast-t c = omega (arith, c .before .before .before .before .before .shared-slice
 aabb-at-requires : tie.Need-aabb-at-requires Inv-loop μ-loop
 unfolding Below
 aabb-at-requires c κs =
-    let b7 = c .before .before .before .before .before .before .before in
-    let p = b7 .pre .0 in let h = b7 .pre .1 .0 (c .before .before .loop .i - 1) (omega arith) in omega arith
+    let p = c .before .before .before .before .before .before .before .pre .0 in let h = c .before .before .before .before .before .before .before .pre .1 .0 (c .before .before .loop .i - 1) (omega arith) in omega arith
 
 mul-areas : tie.Need-mul-areas Inv-loop μ-loop
 mul-areas c =
-    let b10 = c .before .before .before .before .before .before .before .before .before .before in
-    let g = b10 .good .1 .1 .1 .0 in let i = c .before .before .before .before .before .loop .inv .0 in let l = c .before .before .before .before .before .loop .inv .1 in let p = b10 .pre .1 .1 in let t = c .before .before .before .before .loop-test .taken in scaled-fits (c .before .before .before .before .before .loop .i - 1) (length
-    (c .before .before .before .before .before .loop .areas)) 4 (omega arith) (omega (arith, b10 .good .1 .1 .1 .0 .0))
+    let g = c .before .before .before .before .before .before .before .before .before .before .good .1 .1 .1 .0 in let i = c .before .before .before .before .before .loop .inv .0 in let l = c .before .before .before .before .before .loop .inv .1 in let p = c .before .before .before .before .before .before .before .before .before .before .pre .1 .1 in let t = c .before
+    .before .before .before .loop-test .taken in scaled-fits (c .before .before .before .before .before .loop .i - 1) (length
+    (c .before .before .before .before .before .loop .areas)) 4 (omega arith) (omega (arith, c .before .before .before .before .before .before .before .before .before .before .good .1 .1 .1 .0 .0))
 
 loop-again : tie.Need-loop-again Inv-loop μ-loop
 loop-again c =
-    let b10 = c .before .before .before .before .before .before .before .before .before .before in
-    let b = aabbAtOf (b10 .args .extents .now) in
-    let xs = b10 .args .part .now in
+    let b = aabbAtOf (c .before .before .before .before .before .before .before .before .before .before .args .extents .now) in
+    let xs = c .before .before .before .before .before .before .before .before .before .before .args .part .now in
     let i = c .before .before .before .before .before .loop .i in
     let inv = c .before .before .before .before .before .loop .inv in
     let pos : 0 < i = c .before .before .before .before .loop-test .taken in

@@ -30,16 +30,15 @@ cast-t c = omega (arith, c .shared-slice-known4 .given (c .before .before .loop 
 aabb-at-requires : tie.Need-aabb-at-requires Inv-loop μ-loop
 unfolding Below
 aabb-at-requires c κs =
-    let b7 = c .before .before .before .before .before .before .before in
-    let p = b7 .pre .0 in let h = b7 .pre .1 .0 (c .before .before .loop .k) (omega arith) in omega arith
+    let p = c .before .before .before .before .before .before .before .pre .0 in let h = c .before .before .before .before .before .before .before .pre .1 .0 (c .before .before .loop .k) (omega arith) in omega arith
 
 add-k : tie.Need-add-k Inv-loop μ-loop
 add-k c = omega (arith, c .before .before .before .before .before .before .before .before .before .good .1 .1 .1 .0 .0, c .before .before .before .loop-test .taken)
 
 mul-cost : tie.Need-mul-cost Inv-loop μ-loop
 mul-cost c =
-    let b10 = c .before .before .before .before .before .before .before .before .before .before in
-    let g = b10 .good .1 .1 .1 .1 .0 in let i = c .before .before .before .before .before .loop .inv .0 in let p = b10 .pre .1 .1 .1 .0 in let t = c .before .before .before .before .loop-test .taken in scaled-fits (c .before .before .before .before .before .loop .k + 1) (length (b10 .args .areas .now)) 4 (omega arith) (omega (arith, b10 .good .1 .1 .1 .1 .0 .0))
+    let g = c .before .before .before .before .before .before .before .before .before .before .good .1 .1 .1 .1 .0 in let i = c .before .before .before .before .before .loop .inv .0 in let p = c .before .before .before .before .before .before .before .before .before .before .pre .1 .1 .1 .0 in let t = c .before .before .before .before .loop-test .taken in scaled-fits (c
+    .before .before .before .before .before .loop .k + 1) (length (c .before .before .before .before .before .before .before .before .before .before .args .areas .now)) 4 (omega arith) (omega (arith, c .before .before .before .before .before .before .before .before .before .before .good .1 .1 .1 .1 .0 .0))
 
 shared-slice-read-cost : tie.Need-shared-slice-read-cost Inv-loop μ-loop
 shared-slice-read-cost c = let p = c .before .before .before .before .before .before .before .before .before .before .before .pre .1 .1 .1 .0 in let t = c .before .before .before .before .before .loop-test .taken in omega arith
@@ -49,17 +48,15 @@ cost-requires c κs = let p = c .before .before .before .before .before .before 
 
 loop-again : tie.Need-loop-again Inv-loop μ-loop
 loop-again c =
-    let b8 = c .before .before .before .before .before .before .before .before in
-    let b13 = b8 .before .before .before .before .before in
-    let b = aabbAtOf (b13 .args .extents .now) in
-    let xs = b13 .args .part .now in
-    let k = b8 .loop .k in
-    let inv = b8 .loop .inv in
+    let b = aabbAtOf (c .before .before .before .before .before .before .before .before .before .before .before .before .before .args .extents .now) in
+    let xs = c .before .before .before .before .before .before .before .before .before .before .before .before .before .args .part .now in
+    let k = c .before .before .before .before .before .before .before .before .loop .k in
+    let inv = c .before .before .before .before .before .before .before .before .loop .inv in
     let e : c .before .before .before .before .union .result ≡ boundsOf b (take (k + 1) xs) = rw (c .before .before .before .before .union .ensures, c .before .before .before .before .before .aabb-at .ensures, inv .1) (sym (law.bounds-step b xs k (inv .0))) in (
       omega arith,
       e,
-      law.sweep-more b xs (b13 .args .axis) k (b13 .args .c) (inv .2) (c .better .ensures) (c .before .cost .ensures) (c .before .before .before .surface-area .ensures ∙ ap surfaceAreaOf e)
-          (b13 .pre .1 .1 .1 .1 (k + 1) (omega arith)),
+      law.sweep-more b xs (c .before .before .before .before .before .before .before .before .before .before .before .before .before .args .axis) k (c .before .before .before .before .before .before .before .before .before .before .before .before .before .args .c) (inv .2) (c .better .ensures) (c .before .cost .ensures) (c .before .before .before .surface-area .ensures ∙ ap surfaceAreaOf e)
+          (c .before .before .before .before .before .before .before .before .before .before .before .before .before .pre .1 .1 .1 .1 (k + 1) (omega arith)),
     )
 
 returns : tie.Need-returns Inv-loop μ-loop
