@@ -90,7 +90,7 @@ fn seed_keys(
     }
 }
 
-// `order`: the patches as seeds, the largest first. What keys, words and scratch hold afterwards is not said.
+// `order`: the patches as seeds, the largest first. What keys, words and scratch hold afterwards is open.
 fn seeds(
     rows: &[f32],
     np: usize,

@@ -96,7 +96,7 @@ fn row_starts(sorted: &[u32], rows: usize, offsets: &mut [u32])
     }
 }
 
-// The rows of a relation from its words. What words and scratch hold afterwards is not said.
+// The rows of a relation from its words. What words and scratch hold afterwards is open.
 fn sort_rows(
     words: &mut [u64],
     scratch: &mut [u64],
