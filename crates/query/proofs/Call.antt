@@ -32,7 +32,7 @@ use Rattle.paths.specs.Path.{pathOf}
 use Rattle.paths.specs.declared.Fate.{Fate}
 use Rattle.paths.specs.declared.Fate.the-variants.{TooFar, NotCrossed, OffSurface, TooLong, Faded, Blocked, Faint, Passed}
 use Rattle.paths.proofs.Bound.{path-rays}
-use Rattle.claim.specs.Answer.{Outcome, raysOf, raysFor, found, Answer, loadedOf as answerIs}
+use Rattle.claim.specs.Answer.{Outcome, raysOf, raysFor, found, Answer, answerOf}
 use Rattle.claim.specs.Complete.{Complete}
 use Rattle.claim.specs.Query.{Query, refused, given, queryOf}
 use Rattle.claim.proofs.Searching.{query-complete}
@@ -232,10 +232,10 @@ unfolding queryOf
 given-rays on order speed rate limit room path a e = go (ltb room (length (found path 1 (visited on order)))) e
   where
     go :
-        (b : Bool) → elim b as (λ _. Query) [ true ↦ refused 7 | false ↦ given (answerIs on order speed rate limit path) ] ≡ given a →
+        (b : Bool) → elim b as (λ _. Query) [ true ↦ refused 7 | false ↦ given (answerOf on order speed rate limit path) ] ≡ given a →
         a .rays ≡ raysFor path (visited on order)
     go true e = absurd (let z : _≡_ {A = ℕ} 0 1 = cc in omega arith)
-    go false e = let z : answerIs on order speed rate limit path ≡ a = cc in sym (ap (λ (x : Answer). x .rays) z)
+    go false e = let z : answerOf on order speed rate limit path ≡ a = cc in sym (ap (λ (x : Answer). x .rays) z)
 
 -- a call that answers as the definition and leaves the areas as it says is as it promises
 pub traced :
