@@ -8,8 +8,6 @@ use Rattle.mirror.specs.Rows.{trisOf}
 use Rattle.planes_links.proofs.Linking.{length-part}
 use Rattle.planes_ranked.proofs.bordered.Statement.{statement}
 use Rattle.planes_ranked.proofs.bordered.Tie as tie
-use Rattle.planes_ranked.proofs.bordered.Statement.{statement}
-use Rattle.planes_ranked.proofs.bordered.Tie as tie
 
 add-to : tie.Need-add-to
 add-to c = omega (arith, c .before .before .before .before .before .before .pre .1 .0 .0, c .before .before .before .before .before .before .good)

@@ -11,8 +11,6 @@ use Rattle.mirror.specs.Rows.{rowOf, trisOf}
 use Rattle.planes_ranked.proofs.Ranking.{Putting, putting-more, placed-is, all-held, sum-le, third, small-is, border-room}
 use Rattle.planes_ranked.proofs.put_ranked.Statement.{statement}
 use Rattle.planes_ranked.proofs.put_ranked.Tie as tie
-use Rattle.planes_ranked.proofs.put_ranked.Statement.{statement}
-use Rattle.planes_ranked.proofs.put_ranked.Tie as tie
 
 abbrev Inv-loop : tie.InvT-loop
 Inv-loop area n m gfloats gwords members index count first uses floats₀ words₀ edges₀ at₀ r₀ floats words edges at r =
