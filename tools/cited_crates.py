@@ -1,5 +1,7 @@
 #!/usr/bin/env python3
-"""cited_crates.py [--write]: the crates that a line of crates.txt lists and that no file of its crate cites; --write takes them out of crates.txt."""
+"""cited_crates.py [--write]: the crates that a line of crates.txt lists without need; --write takes them out.
+
+A crate is needed where a file cites it. Where there is code it is needed also if it declares a type, which a struct that is handed on may hold."""
 import pathlib
 import re
 import sys
@@ -14,9 +16,11 @@ def text_of(crate):
     return "".join(file.read_text(encoding="utf-8") for file in files if file.suffix in (".rt", ".antt"))
 
 
-def is_cited(name, text):
-    """Whether the text names the crate, in code or in a definition."""
-    return name in KIT or re.search(rf"Rattle.{name}[.·]|(?<![\w:.]){name}::", text) is not None
+def is_needed(name, text):
+    """Whether the text of a crate names the other, or may handle its types."""
+    if name in KIT or re.search(rf"Rattle.{name}[.·]|(?<![\w:.]){name}::", text):
+        return True
+    return re.search(r"\bfn \w+\(", text) is not None and re.search(r"(?m)^pub (struct|enum) ", text_of(name)) is not None
 
 
 def main():
@@ -27,10 +31,10 @@ def main():
         if line.startswith("#") or not colon:
             continue
         text = text_of(crate)
-        cited = [name for name in listed.split() if is_cited(name, text)]
-        if cited != listed.split():
-            print(f"{crate}: {' '.join(name for name in listed.split() if name not in cited)}")
-            lines[number] = " ".join([f"{crate}:", *cited])
+        needed = [name for name in listed.split() if is_needed(name, text)]
+        if needed != listed.split():
+            print(f"{crate}: {' '.join(name for name in listed.split() if name not in needed)}")
+            lines[number] = " ".join([f"{crate}:", *needed])
     if "--write" in sys.argv[1:]:
         (ROOT / "crates.txt").write_text("\n".join(lines), encoding="utf-8")
 
