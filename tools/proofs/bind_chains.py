@@ -13,7 +13,7 @@ WIDE = 400
 
 CHAIN = re.compile(r"(?<![\w′₁₂])c((?: \.before){%d,})" % (SHORT + 1))
 # what reads every record in reach stops at 128 of them: a place that is bound is one more, so such an answer keeps its chains
-LOOKS_ROUND = re.compile(r"omega arith(?!,)|\bsearch\b|\bcc\b")
+LOOKS_ROUND = re.compile(r"\b(?:omega|search|cc)\b")
 ANSWER = re.compile(r"^(\S+)((?: t)? c(?: κs)?) =(.*)$", re.S)
 
 

@@ -26,13 +26,12 @@ clear-from-requires c κs = let s = c .before .before .before .before .before .b
 
 find-requires : tie.Need-find-requires
 find-requires c κs =
-    let b21 = c .before .before .before .before .before .before .before .before .before .before .before .before .before .before .before .before .before .before .before .before .before in
     let s = c .before .before .before .before .before .before .before .before .before .before .before .before .before .before .before .before .before .before .before .before .before .before .before .before .before .before .before .before .before .before .before .before .before .before .before .before .before .before .before .before .before .before .before .before in let a = s .args in λ quiet.
     let h = s .pre .0 (unrefused (a .refusal) (a .m) (s .pre .1) (silent-some (a .separated) (a .source) (a .listener) (a .m) quiet)) in
     let t = h .lent in
     record {
-      held = record { scene = h .scene .scene; found = a .handles .now; loaded = h .scene .loaded; cleared = b21 .clear-from .ensures; same = h .scene .same };
-      lent = record { few = t .few; some = t .some; columns = t .columns; named = omega (arith, b21 .clear-from .kept .0, t .named) };
+      held = record { scene = h .scene .scene; found = a .handles .now; loaded = h .scene .loaded; cleared = c .before .before .before .before .before .before .before .before .before .before .before .before .before .before .before .before .before .before .before .before .before .clear-from .ensures; same = h .scene .same };
+      lent = record { few = t .few; some = t .some; columns = t .columns; named = omega (arith, c .before .before .before .before .before .before .before .before .before .before .before .before .before .before .before .before .before .before .before .before .before .clear-from .kept .0, t .named) };
       for-tree = h .for-tree;
       for-planes = h .for-planes;
       few = h .few;

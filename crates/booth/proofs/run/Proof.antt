@@ -51,30 +51,33 @@ slice-aggregate-answer-case-7 c = sym (c .before .before .before .before .before
     .before .before .before .before .before .before .before .fresh-case-rows .ensures)
 
 answer-case-requires : tie.Need-answer-case-requires
-answer-case-requires c κs =
-    let b16 = c .before .before .before .before .before .before .before .before .before .before .before .before .before .before .before .before in (
-      omega (arith, b16 .read-case .kept .1 .1 .1 .1 .0 ∙ c .before .before .before .before .before .before .before .before .before .before .before .before .before .before .before .before .before .before .before .before .before .before .before .before .before .before .before .fresh-case-meshes .ensures),
-      omega (
-        arith,
-        b16 .read-case .kept .1 .1 .1 .1 .1 .0 ∙ c .before
-            .before .before .before .before .before .before .before .before .before .before .before .before .before .before .before .before .before .before .before .before .before .before .before .before .before .fresh-case-rows2 .ensures,
-      ),
-      omega (
-        arith,
-        b16 .read-case .kept .1 .1 .1 .1 .1 .1 .0 ∙ c .before .before .before .before .before .before .before .before .before
-            .before .before .before .before .before .before .before .before .before .before .before .before .before .before .before .before .fresh-case-positions .ensures,
-      ),
-      omega (
-        arith,
-        b16 .read-case .kept .1 .1 .1 .1 .1 .1 .1 .0 ∙ c .before .before .before .before .before .before .before .before .before .before .before .before .before .before .before .before .before
-            .before .before .before .before .before .before .before .fresh-case-indices .ensures,
-      ),
-      omega (
-        arith,
-        b16 .read-case .kept .1 .1 .1 .0 ∙ c .before .before .before .before .before .before .before .before .before .before .before .before .before .before .before .before .before .before .before .before .before .before .before .before .before .before .before
-            .before .fresh-case-rows .ensures,
-      ),
-    )
+answer-case-requires c κs = (
+  omega (
+    arith,
+    c .before .before .before .before .before .before .before .before .before .before .before .before .before .before .before .before .read-case .kept .1 .1 .1 .1 .0 ∙ c .before .before .before .before .before .before .before .before .before .before .before .before .before .before .before .before .before .before .before .before .before .before .before
+        .before .before .before .before .fresh-case-meshes .ensures,
+  ),
+  omega (
+    arith,
+    c .before .before .before .before .before .before .before .before .before .before .before .before .before .before .before .before .read-case .kept .1 .1 .1 .1 .1 .0 ∙ c .before
+        .before .before .before .before .before .before .before .before .before .before .before .before .before .before .before .before .before .before .before .before .before .before .before .before .before .fresh-case-rows2 .ensures,
+  ),
+  omega (
+    arith,
+    c .before .before .before .before .before .before .before .before .before .before .before .before .before .before .before .before .read-case .kept .1 .1 .1 .1 .1 .1 .0 ∙ c .before .before .before .before .before .before .before .before .before
+        .before .before .before .before .before .before .before .before .before .before .before .before .before .before .before .before .fresh-case-positions .ensures,
+  ),
+  omega (
+    arith,
+    c .before .before .before .before .before .before .before .before .before .before .before .before .before .before .before .before .read-case .kept .1 .1 .1 .1 .1 .1 .1 .0 ∙ c .before .before .before .before .before .before .before .before .before .before .before .before .before .before .before .before .before
+        .before .before .before .before .before .before .before .fresh-case-indices .ensures,
+  ),
+  omega (
+    arith,
+    c .before .before .before .before .before .before .before .before .before .before .before .before .before .before .before .before .read-case .kept .1 .1 .1 .0 ∙ c .before .before .before .before .before .before .before .before .before .before .before .before .before .before .before .before .before .before .before .before .before .before .before .before .before .before .before
+        .before .fresh-case-rows .ensures,
+  ),
+)
 
 pub run-spec : {M : Type 1} → statement M
 run-spec =

@@ -54,8 +54,7 @@ returns c =
 
 add-i : tie.Need-add-i Inv-loop μ-loop
 add-i c =
-    let b12 = c .before .before .before .before .before .before .before .before .before .before .before .before in
-    let p = b12 .pre in let t = c .before .before .before .before .before .before .before .loop-test .taken in omega (arith, b12 .good .1 .0 .0)
+    let p = c .before .before .before .before .before .before .before .before .before .before .before .before .pre in let t = c .before .before .before .before .before .before .before .loop-test .taken in omega (arith, c .before .before .before .before .before .before .before .before .before .before .before .before .good .1 .0 .0)
 
 loop-less : tie.Need-loop-less Inv-loop μ-loop
 loop-less c = let t = c .before .before .before .before .before .before .before .loop-test .taken in omega arith

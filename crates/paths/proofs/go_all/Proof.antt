@@ -39,12 +39,11 @@ loop-less c = omega (arith, c .before .before .loop-test .taken)
 
 loop-again : tie.Need-loop-again Inv-loop μ-loop
 loop-again c =
-    let b11 = c .before .before .before .before .before .before .before .before .before .before .before in
-    let a = b11 .args in (
+    let a = c .before .before .before .before .before .before .before .before .before .before .before .args in (
       omega (arith, c .before .before .before .loop .inv .0),
       λ tri t h.
           rw (
-            go-step (softIn (a .crossing-limit) (a .probe-radius) tri t (a .materials .now)) (c .before .before .before .before .begin .result) (a .t10) (c .before .before .before .loop .k) (a .order) (c .before .before .loop-test .taken) (c .before .before .before .loop .inv .0) (omega (arith, b11 .pre .1)),
+            go-step (softIn (a .crossing-limit) (a .probe-radius) tri t (a .materials .now)) (c .before .before .before .before .begin .result) (a .t10) (c .before .before .before .loop .k) (a .order) (c .before .before .loop-test .taken) (c .before .before .before .loop .inv .0) (omega (arith, c .before .before .before .before .before .before .before .before .before .before .before .pre .1)),
             ← c .before .before .before .loop .inv .1 tri t h,
             ← c .go .ensures .0 tri t h,
           ),
@@ -62,10 +61,10 @@ go-requires-2 c κs =
 returns : tie.Need-returns Inv-loop μ-loop
 unfolding wayOf
 returns c =
-    let b10 = c .before .before .before .before .before .before .before .before .before .before in
     let end : c .before .before .loop .k ≡ 0 = omega (arith, c .before .loop-test .left) in (
       λ tri t h. rw (← c .before .before .before .begin .ensures .0, ← rw end at (c .before .before .loop .inv .1 tri t h), ← c .go2 .ensures .0 tri t h),
-      ways-all (18 * (b10 .args .crossing-limit + 1)) (b10 .args .order) (c .before .before .loop .k) (c .before .before .before .begin .result .rays) (c .before .before .loop .w .rays) (c .go2 .result .rays) (c .before .before .loop .inv .2) (c .before .before .before .begin .ensures .1) end (c .go2 .ensures .1),
+      ways-all (18 * (c .before .before .before .before .before .before .before .before .before .before .args .crossing-limit + 1)) (c .before .before .before .before .before .before .before .before .before .before .args .order) (c .before .before .loop .k) (c .before .before .before .begin .result .rays) (c .before .before .loop .w .rays) (c .go2 .result .rays) (c
+          .before .before .loop .inv .2) (c .before .before .before .begin .ensures .1) end (c .go2 .ensures .1),
     )
 
 pub go-all-spec : {M : Type 1} → statement M

@@ -46,27 +46,49 @@ slice-aggregate-duplicates-3 c =
 
 duplicates-requires : tie.Need-duplicates-requires
 duplicates-requires c κs =
-    let b25 = c .before .before .before .before .before .before .before .before .before .before .before .before .before .before .before .before .before .before .before .before .before .before .before .before .before in
-    let t = b25 .pre .0 in let f = b25 .pre .1 .0 in
-    (omega (arith, t .few), (t .columns, (length-take-le (3 * b25 .args .n) (b25 .args .keys .now) (b25 .pre .1 .0 .keys-room), (length-take-le (3 * b25 .args .n) (b25 .args .low-keys .now) (b25 .pre .1 .0 .low-keys-room), (length-take-le (3 * b25 .args .n) (b25 .args .index .now) (b25 .pre .1 .0 .index-room), (f .words-room, (f .scratch-room, (f .numbers-room, f .first-room))))))))
+    let t = c .before .before .before .before .before .before .before .before .before .before .before .before .before .before .before .before .before .before .before .before .before .before .before .before .before .pre .0 in let f = c .before .before .before .before .before .before .before .before .before .before .before .before .before .before .before .before .before
+    .before .before .before .before .before .before .before .before .pre .1 .0 in (
+      omega (arith, t .few),
+      (
+        t .columns,
+        (
+          length-take-le (3 * c .before .before .before .before .before .before .before .before .before .before .before .before .before .before .before .before .before .before .before .before .before .before .before .before .before .args .n) (c .before .before .before .before .before .before .before .before .before .before .before .before
+              .before .before .before .before .before .before .before .before .before .before .before .before .before .args .keys .now) (c .before .before .before .before .before .before .before .before .before .before .before .before .before .before .before .before .before .before .before .before .before .before .before .before .before .pre .1 .0 .keys-room),
+          (
+            length-take-le
+                (3 * c .before .before .before .before .before .before .before .before .before .before .before .before .before .before .before .before .before .before .before .before .before .before .before .before .before .args .n) (c .before .before .before .before .before .before .before .before .before .before .before .before .before .before .before .before .before
+                .before .before .before .before .before .before .before .before .args .low-keys .now) (c .before .before .before .before .before .before .before .before .before .before .before .before .before .before .before .before .before .before .before .before .before .before .before .before .before .pre .1 .0 .low-keys-room),
+            (
+              length-take-le (3 * c .before .before
+                  .before .before .before .before .before .before .before .before .before .before .before .before .before .before .before .before .before .before .before .before .before .before .before .args .n) (c .before .before .before .before .before .before .before .before .before .before .before .before .before .before .before .before .before .before .before
+                  .before .before .before .before .before .before .args .index .now) (c .before .before .before .before .before .before .before .before .before .before .before .before .before .before .before .before .before .before .before .before .before .before .before .before .before .pre .1 .0 .index-room),
+              (f .words-room, (f .scratch-room, (f .numbers-room, f .first-room))),
+            ),
+          ),
+        ),
+      ),
+    )
 
 slice-aggregate-coplanar-patches : tie.Need-slice-aggregate-coplanar-patches
 slice-aggregate-coplanar-patches c = sym (c .before .before .before .before .before .before .before .before .before .before .before .before .before .before .before .before .before .before .before .before .before .before .before .before .before .fresh-heads .ensures)
 
 coplanar-patches-requires : tie.Need-coplanar-patches-requires
 coplanar-patches-requires c κs =
-    let b20 = c .before .before .before .before .before .before .before .before .before .before .before .before .before .before .before .before .before .before .before .before in
-    let b46 = b20 .before .before .before .before .before .before .before .before .before .before .before .before .before .before .before .before .before .before .before .before .before .before .before .before .before .before in
-    let t = b46 .pre .0 in let f = b46 .pre .1 .0 in let d = b20 .duplicates in (
-      (t .columns, t .named, t .some, omega (arith, t .few, t .some), omega (arith, b20 .duplicates .kept .1 .1 .1 .1 .1 .1 .1 .1 .0, f .first-room, t .some)),
+    let t = c .before .before .before .before .before .before .before .before .before .before .before .before .before .before .before .before .before .before .before .before .before .before .before .before .before .before .before .before .before .before .before .before .before .before .before .before .before .before .before .before .before .before .before .before
+    .before .before .pre .0 in let f = c .before .before .before .before .before .before .before .before .before .before .before .before .before .before .before .before .before .before .before .before .before .before .before .before .before .before .before .before .before .before .before .before .before .before .before .before .before .before .before .before .before
+    .before .before .before .before .before .pre .1 .0 in let d = c .before .before .before .before .before .before .before .before .before .before .before .before .before .before .before .before .before .before .before .before .duplicates in (
+      (t .columns, t .named, t .some, omega (arith, t .few, t .some), omega (arith, c .before .before .before .before .before .before .before .before .before .before .before .before .before .before .before .before .before .before .before .before .duplicates .kept .1 .1 .1 .1 .1 .1 .1 .1 .0, f .first-room, t .some)),
       (
         (
           c .before .before .before .before .before .before .before .before .before .before .before .before .before .before .before .before .before .before .before .before .before .before .before .before .before .before .before .before .fresh-heads .ensures,
           omega (arith, f .plane-floats-room, t .some),
           omega (
             arith,
-            length-front (b46 .args .keys .now)
-                (b20 .duplicates .last .1 .1 .0) (3 * b46 .args .n) (b20 .duplicates .kept .1 .1 .0),
+            length-front (c .before .before .before .before .before .before .before .before .before .before .before .before .before .before .before .before .before .before .before .before .before .before .before .before .before .before .before .before .before .before .before .before .before .before .before .before .before .before .before .before .before .before .before
+                .before .before .before .args .keys .now)
+                (c .before .before .before .before .before .before .before .before .before .before .before .before .before .before .before .before .before .before .before .before .duplicates .last .1 .1 .0) (3 * c .before .before .before .before .before .before .before .before .before .before .before .before .before .before .before .before .before .before .before
+                .before .before .before .before .before .before .before .before .before .before .before .before .before .before .before .before .before .before .before .before .before .before .before .before .before .before .before .args .n) (c .before .before .before .before .before .before .before .before .before .before .before .before .before .before .before
+                .before .before .before .before .before .duplicates .kept .1 .1 .0),
             f .keys-room,
             t .some,
           ),
@@ -79,20 +101,29 @@ coplanar-patches-requires c κs =
 
 open-patches-requires : tie.Need-open-patches-requires
 open-patches-requires c κs =
-    let b14 = c .before .before .before .before .before .before .before .before .before .before .before .before .before .before in
-    let b61 = b14 .before .before .before .before .before .before .before .before .before .before .before .before .before .before .before .before .before .before .before .before .before .before .before .before .before .before .before .before .before .before .before .before .before .before .before .before .before .before .before .before .before .before .before .before .before .before .before in
-    let t = b61 .pre .0 in let p = b61 .pre .1 .0 in let r = b14 .coplanar-patches .ensures .1 .0 in (
-      (t .columns, t .named, t .some, omega (arith, t .few, t .some), omega (arith, b14 .coplanar-patches .kept .1 .1 .1 .1 .1 .1 .1 .1 .1 .0, p .of-room, t .some)),
+    let t = c .before .before .before .before .before .before .before .before .before .before .before .before .before .before .before .before .before .before .before .before .before .before .before .before .before .before .before .before .before .before .before .before .before .before .before .before .before .before .before .before .before .before .before .before
+    .before .before .before .before .before .before .before .before .before .before .before .before .before .before .before .before .before .pre .0 in let p = c .before .before .before .before .before .before .before .before .before .before .before .before .before .before .before .before .before .before .before .before .before .before .before .before .before .before
+    .before .before .before .before .before .before .before .before .before .before .before .before .before .before .before .before .before .before .before .before .before .before .before .before .before .before .before .before .before .before .before .before .before .before .before .pre .1 .0 in let r = c .before .before .before .before .before .before .before
+    .before .before .before .before .before .before .before .coplanar-patches .ensures .1 .0 in (
+      (t .columns, t .named, t .some, omega (arith, t .few, t .some), omega (arith, c .before .before .before .before .before .before .before .before .before .before .before .before .before .before .coplanar-patches .kept .1 .1 .1 .1 .1 .1 .1 .1 .1 .0, p .of-room, t .some)),
       (
         (
           r .0,
           omega (arith, r .0, p .areas-room, t .some),
-          omega (arith, r .0, b14 .coplanar-patches .kept .1 .1 .1 .1 .1 .1 .1 .0, p .next-room, t .some),
+          omega (arith, r .0, c .before .before .before .before .before .before .before .before .before .before .before .before .before .before .coplanar-patches .kept .1 .1 .1 .1 .1 .1 .1 .0, p .next-room, t .some),
           omega
               (arith, r .0, c .before .before .before .before .before .before .before .before .before .before .before .before .before .before .before .before .before .before .before .before .before .before .before .before .before .before .before .before .before .before .before .before .before .before .before .duplicates .kept .1 .1 .1 .1 .1 .1 .1 .1 .0, p .first-room, t .some),
-          omega (arith, r .0, b14 .coplanar-patches .kept .1 .1 .1 .1 .1 .1 .1 .1 .0, p .plane-floats-room, t .some),
+          omega (arith, r .0, c .before .before .before .before .before .before .before .before .before .before .before .before .before .before .coplanar-patches .kept .1 .1 .1 .1 .1 .1 .1 .1 .0, p .plane-floats-room, t .some),
         ),
-        (b61 .pre .1 .1 .0, (b61 .pre .1 .1 .1, r .1)),
+        (
+          c .before .before .before .before .before .before .before .before .before .before .before .before .before .before .before .before .before .before .before .before .before .before .before .before .before .before .before .before .before .before .before .before .before .before .before .before .before .before .before .before .before .before .before .before .before
+              .before .before .before .before .before .before .before .before .before .before .before .before .before .before .before .before .pre .1 .1 .0,
+          (
+            c .before .before .before .before .before .before .before .before .before .before .before .before .before .before .before .before .before .before .before .before .before .before .before .before .before .before
+                .before .before .before .before .before .before .before .before .before .before .before .before .before .before .before .before .before .before .before .before .before .before .before .before .before .before .before .before .before .before .before .before .before .before .before .pre .1 .1 .1,
+            r .1,
+          ),
+        ),
       ),
     )
 

@@ -46,14 +46,18 @@ loop-less c = let h = c .before .before .before .before .before .before .before 
 
 loop-again : tie.Need-loop-again Inv-loop μ-loop
 loop-again c =
-    let b8 = c .before .before .before .before .before .before .before .before in
-    let b14 = b8 .before .before .before .before .before .before in
-    let b22 = b14 .before .before .before .before .before .before .before .before in
-    let a = b22 .args in let l = c .before .before .before .before .before .before .before .before .before .loop in let ts = trianglesIn (a .triangles .now) (a .handles .now) (a .n) (a .m) in
-    let far : a .np ≤ noneOf = omega (arith, b22 .pre .0 .3, b22 .pre .1 .0 .0) in
-    meeting-more ts (a .of .now) (a .m) (a .np) (b14 .reset .last .0) (b14 .reset .last .1 .0) (l .areas) (l .largest) (l .t) (c .before .before .before .before .meet .last .1 .1 .1 .1 .1 .1 .0) (c .before .before .before .before .meet .last .1 .1 .1 .1 .1 .1 .1 .0) (l .inv) (b8 .loop-test .taken) (b22 .pre .0 .4)
+    let a = c .before .before .before .before .before .before .before .before .before .before .before .before .before .before .before .before .before .before .before .before .before .before .args in let l = c .before .before .before .before .before .before .before .before .before .loop in let ts = trianglesIn (a .triangles .now) (a .handles .now) (a .n) (a .m) in
+    let far : a .np ≤ noneOf = omega (
+      arith,
+      c .before .before .before .before .before .before .before .before .before .before .before .before .before .before .before .before .before .before .before .before .before .before .pre .0 .3,
+      c .before .before .before .before .before .before .before .before .before .before .before .before .before .before .before .before .before
+          .before .before .before .before .before .pre .1 .0 .0,
+    ) in
+    meeting-more ts (a .of .now) (a .m) (a .np) (c .before .before .before .before .before .before .before .before .before .before .before .before .before .before .reset .last .0) (c .before .before .before .before .before .before .before .before .before .before .before .before .before .before .reset .last .1 .0) (l .areas) (l .largest) (l .t) (c .before .before .before
+    .before .meet .last .1 .1 .1 .1 .1 .1 .0) (c .before .before .before .before .meet .last .1 .1 .1 .1 .1 .1 .1 .0) (l .inv) (c .before .before .before .before .before .before .before .before .loop-test .taken) (c .before .before .before .before .before .before .before .before .before .before .before .before .before .before .before .before .before .before .before
+    .before .before .before .pre .0 .4)
     (c .before .before .before .before .meet .kept .1 .1 .1 .1 .1 .1 .0) (c .before .before .before .before .meet .kept .1 .1 .1 .1 .1 .1 .1 .0)
-    (λ q h. c .before .before .before .before .meet .ensures ts (triangle-in (a .triangles .now) (a .handles .now) (a .n) (a .m) (l .t) (b8 .loop-test .taken)) q h far)
+    (λ q h. c .before .before .before .before .meet .ensures ts (triangle-in (a .triangles .now) (a .handles .now) (a .n) (a .m) (l .t) (c .before .before .before .before .before .before .before .before .loop-test .taken)) q h far)
 
 same-length : tie.Need-same-length Inv-loop μ-loop
 same-length c = c .before .loop .inv .len-areas ∙ c .before .before .before .before .before .before .reset .kept .0

@@ -19,9 +19,8 @@ triangle-at-requires c κs = let p = c .before .before .before .before .before .
 
 larger-requires : tie.Need-larger-requires
 larger-requires c κs =
-    let b9 = c .before .before .before .before .before .before .before .before .before in
-    let p = b9 .pre .0 in let q = b9 .pre .1 .0 in
-    let low : b9 .args .p < b9 .args .np = ⊎-elim (λ l. l) (λ e. absurd (c .before .before .before .before .if1 .left e)) (b9 .pre .1 .1) in (omega arith, omega arith, p .3)
+    let p = c .before .before .before .before .before .before .before .before .before .pre .0 in let q = c .before .before .before .before .before .before .before .before .before .pre .1 .0 in
+    let low : c .before .before .before .before .before .before .before .before .before .args .p < c .before .before .before .before .before .before .before .before .before .args .np = ⊎-elim (λ l. l) (λ e. absurd (c .before .before .before .before .if1 .left e)) (c .before .before .before .before .before .before .before .before .before .pre .1 .1) in (omega arith, omega arith, p .3)
 
 returns-2 : tie.Need-returns-2
 returns-2 c =

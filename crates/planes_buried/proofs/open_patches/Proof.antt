@@ -64,18 +64,24 @@ same-length-3 c = search needs
 
 returns-2 : tie.Need-returns-2
 returns-2 c =
-    let b9 = c .before .before .before .before .before .before .before .before .before in
-    let b15 = b9 .before .before .before .before .before .before in
-    let b22 = b15 .before .before .before .before .before .before .before in
-    let b38 = b22 .before .before .before .before .before .before .before .before .before .before .before .before .before .before .before .before in
-    let a = b38 .args in let q = b38 .pre .1 .0 in let f = b15 .mark-open .last .1 .1 .1 .1 .1 .1 .1 .1 .1 .1 .1 .0 in let old = b38 .pre .1 .1 .1 .1 in
-    let far : a .np ≤ noneOf = omega (arith, b38 .pre .0 .3, q .0) in
+    let a = c .before .before .before .before .before .before .before .before .before .before .before .before .before .before .before .before .before .before .before .before .before .before .before .before .before .before .before .before .before .before .before .before .before .before .before .before .before .before .args in let q = c .before .before .before .before
+    .before .before .before .before .before .before .before .before .before .before .before .before .before .before .before .before .before .before .before .before .before .before .before .before .before .before .before .before .before .before .before .before .before .before .pre .1 .0 in let f = c .before .before .before .before .before .before .before .before
+    .before .before .before .before .before .before .before .mark-open .last .1 .1 .1 .1 .1 .1 .1 .1 .1 .1 .1 .0 in let old = c .before .before .before .before .before .before .before .before .before .before .before .before .before .before .before .before .before .before .before .before .before .before .before .before .before .before .before .before .before
+    .before .before .before .before .before .before .before .before .before .pre .1 .1 .1 .1 in
+    let far : a .np ≤ noneOf = omega (arith, c .before .before .before .before .before .before .before .before .before .before .before .before .before .before .before .before .before .before .before .before .before .before .before .before .before .before .before .before .before .before .before .before .before .before .before .before .before .before .pre .0 .3, q .0) in
     let le = open-le f (a .np) in
-    let er = b9 .close-rows .ensures .0 in (
-      λ tri k h. opened-is (a .triangles .now) (a .handles .now) (a .n) (a .m) (a .of .now) (a .np) (b22 .largest-triangles .last .1 .1 .1 .1 .1 .1 .0) (b22 .largest-triangles .last .1 .1 .1 .1 .1 .1 .1 .0) (b38 .pre .0 .3) (b22 .largest-triangles .ensures) (probeOf tri k) (a .reach) (a .rows .now) (b9 .close-rows .last .1 .1 .0) (c .before .before .renumber .last .0) f
-          (b9 .close-rows .last .1 .1 .1 .0) (b9 .close-rows .result) (q .0) (c .before .before .before .before .before .before .before .before .before .before .before .before .before .before .before .before .before .before .before .before .before .before .before .before .before .before .if1 .taken) (λ p g. b15 .mark-open .ensures p g tri k h) er
-          (b9 .close-rows .ensures .1 .0) (b9 .close-rows .ensures .1 .1) old (c .before .before .renumber .ensures),
-      ((omega arith, rw er (numbered-new f (a .np) far (b9 .close-rows .last .1 .1 .1 .0) (b9 .close-rows .ensures .1 .0) (a .m) (a .of .now) (c .before .before .renumber .last .0) old (c .before .before .renumber .ensures))), (same-length c, same-length-2 c, same-length-3 c)),
+    let er = c .before .before .before .before .before .before .before .before .before .close-rows .ensures .0 in (
+      λ tri k h. opened-is (a .triangles .now) (a .handles .now) (a .n) (a .m) (a .of .now) (a .np) (c .before .before .before .before .before .before .before .before .before .before .before .before .before .before .before .before .before .before .before .before .before .before .largest-triangles .last .1 .1 .1 .1 .1 .1 .0) (c .before .before .before .before .before
+          .before .before .before .before .before .before .before .before .before .before .before .before .before .before .before .before .before .largest-triangles .last .1 .1 .1 .1 .1 .1 .1 .0) (c .before .before .before .before .before .before .before .before .before .before .before .before .before .before .before .before .before .before .before .before .before
+          .before .before .before .before .before .before .before .before .before .before .before .before .before .before .before .before .before .pre .0 .3) (c .before .before .before .before .before .before .before .before .before .before .before .before .before .before .before .before .before .before .before .before .before .before .largest-triangles .ensures)
+          (probeOf tri k) (a .reach) (a .rows .now) (c .before .before .before .before .before .before .before .before .before .close-rows .last .1 .1 .0) (c .before .before .renumber .last .0) f
+          (c .before .before .before .before .before .before .before .before .before .close-rows .last .1 .1 .1 .0) (c .before .before .before .before .before .before .before .before .before .close-rows .result) (q .0) (c .before .before .before .before .before .before .before .before .before .before .before .before .before .before .before .before .before .before
+          .before .before .before .before .before .before .before .before .if1 .taken) (λ p g. c .before .before .before .before .before .before .before .before .before .before .before .before .before .before .before .mark-open .ensures p g tri k h) er
+          (c .before .before .before .before .before .before .before .before .before .close-rows .ensures .1 .0) (c .before .before .before .before .before .before .before .before .before .close-rows .ensures .1 .1) old (c .before .before .renumber .ensures),
+      (
+        (omega arith, rw er (numbered-new f (a .np) far (c .before .before .before .before .before .before .before .before .before .close-rows .last .1 .1 .1 .0) (c .before .before .before .before .before .before .before .before .before .close-rows .ensures .1 .0) (a .m) (a .of .now) (c .before .before .renumber .last .0) old (c .before .before .renumber .ensures))),
+        (same-length c, same-length-2 c, same-length-3 c),
+      ),
     )
 
 pub open-patches-spec : {M : Type 1} → statement M

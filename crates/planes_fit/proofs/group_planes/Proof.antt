@@ -24,8 +24,7 @@ patch-rows-requires c κs =
 
 put-planes-requires : tie.Need-put-planes-requires
 put-planes-requires c κs =
-    let b45 = c .before .before .before .before .before .before .before .before .before .before .before .before .before .before .before .before .before .before .before .before .before .before .before .before .before .before .before .before .before .before .before .before .before .before .before .before .before .before .before .before .before .before .before .before .before in
-    let p = b45 .pre in
+    let p = c .before .before .before .before .before .before .before .before .before .before .before .before .before .before .before .before .before .before .before .before .before .before .before .before .before .before .before .before .before .before .before .before .before .before .before .before .before .before .before .before .before .before .before .before .before .pre in
     let r = c .before .before .before .before .before .before .before .before .before .before .before .before .before .before .before .before .patch-rows in
     let k = r .kept .1 .1 .1 .1 .1 in (
       p .0,
@@ -33,7 +32,10 @@ put-planes-requires c κs =
         p .1 .1 .0 .0,
         (
           runs-are (c .before .before .before .before .before .before .before .before .before .before .before .before .before .before .before .before .before .before .before .before .before .before .before .before .name-planes .last .1 .1 .1 .0) (r .last .1 .1 .1 .1 .1 .0) (r .last .1 .1 .1 .1 .1 .1 .0)
-              (c .before .before .before .before .before .before .unpack .last .0) (b45 .args .m) (b45 .args .n) (b45 .args .ng) (r .ensures .0) (r .ensures .1 .0) (c .before .before .before .before .before .before .unpack .ensures) (p .1 .0 .0) (omega (arith, p .1 .1 .1 .1 .1 .0 .1, k .1 .0)),
+              (c .before .before .before .before .before .before .unpack .last .0) (c .before .before .before .before .before .before .before .before .before .before .before .before .before .before .before .before .before .before .before .before .before .before .before .before .before .before .before .before .before .before .before .before .before .before .before
+              .before .before .before .before .before .before .before .before .before .before .args .m) (c .before .before .before .before .before .before .before .before .before .before .before .before .before .before .before .before .before .before .before .before .before .before .before .before .before .before .before .before .before .before .before .before
+              .before .before .before .before .before .before .before .before .before .before .before .before .before .args .n) (c .before .before .before .before .before .before .before .before .before .before .before .before .before .before .before .before .before .before .before .before .before .before .before .before .before .before .before .before .before
+              .before .before .before .before .before .before .before .before .before .before .before .before .before .before .before .before .args .ng) (r .ensures .0) (r .ensures .1 .0) (c .before .before .before .before .before .before .unpack .ensures) (p .1 .0 .0) (omega (arith, p .1 .1 .1 .1 .1 .0 .1, k .1 .0)),
           p .1 .1 .1 .1 .1 .1,
         ),
       ),
@@ -65,32 +67,37 @@ same-length-8 c = c .before .before .before .before .put-planes .kept .1 .1 .1 .
 
 returns : tie.Need-returns
 returns c =
-    let b11 = c .before .before .before .before .before .before .before .before .before .before .before in
-    let b29 = b11 .before .before .before .before .before .before .before .before .before .before .before .before .before .before .before .before .before .before in
-    let b34 = b29 .before .before .before .before .before in
-    let b50 = b34 .before .before .before .before .before .before .before .before .before .before .before .before .before .before .before .before in
-    let a = b50 .args in
-    let p = b50 .pre in
+    let a = c .before .before .before .before .before .before .before .before .before .before .before .before .before .before .before .before .before .before .before .before .before .before .before .before .before .before .before .before .before .before .before .before .before .before .before .before .before .before .before .before .before .before .before .before
+    .before .before .before .before .before .before .args in
+    let p = c .before .before .before .before .before .before .before .before .before .before .before .before .before .before .before .before .before .before .before .before .before .before .before .before .before .before .before .before .before .before .before .before .before .before .before .before .before .before .before .before .before .before .before .before
+    .before .before .before .before .before .before .pre in
     let r = c .before .before .before .before .before .before .before .before .before .before .before .before .before .before .before .before .before .before .before .before .before .patch-rows in
     let k = r .kept .1 .1 .1 .1 .1 in
-    let planes = b29 .name-planes .last .1 .1 .1 .0 in
+    let planes = c .before .before .before .before .before .before .before .before .before .before .before .before .before .before .before .before .before .before .before .before .before .before .before .before .before .before .before .before .before .name-planes .last .1 .1 .1 .0 in
     let sorted = r .last .1 .1 .1 .1 .1 .0 in
     let mstarts = r .last .1 .1 .1 .1 .1 .1 .0 in
-    let members = b11 .unpack .last .0 in
+    let members = c .before .before .before .before .before .before .before .before .before .before .before .unpack .last .0 in
     let floats = c .before .before .before .before .put-planes .last .1 .1 .1 .1 .1 .1 .1 .1 .1 .1 .0 in
     let words = c .before .before .before .before .put-planes .last .1 .1 .1 .1 .1 .1 .1 .1 .1 .1 .1 .0 in
-    let groups = b34 .name-groups .last .1 .1 .1 .1 .0 in
-    let runs = runs-are planes sorted mstarts members (a .m) (a .n) (a .ng) (r .ensures .0) (r .ensures .1 .0) (b11 .unpack .ensures) (p .1 .0 .0) (omega (arith, p .1 .1 .1 .1 .1 .0 .1, k .1 .0)) in
-    let run : (g : ℕ) → g < a .ng → groupIn members mstarts g ≡ trisIn planes (a .m) g = λ g l. run-is planes sorted mstarts members (a .m) (a .ng) g (r .ensures .1 .0) (b11 .unpack .ensures) l in (
-      planes-are (a .triangles .now) (a .handles .now) (a .n) (a .m) (a .rows .now) (a .of .now) (a .np) (a .queue .now) (a .offsets .now) (a .ng) groups planes members mstarts floats words (p .1 .1 .0 .0) (p .1 .1 .0 .1) (b34 .name-groups .ensures .0) (b29 .name-planes .ensures) runs run (c .before .before .before .before .put-planes .ensures),
+    let groups = c .before .before .before .before .before .before .before .before .before .before .before .before .before .before .before .before .before .before .before .before .before .before .before .before .before .before .before .before .before .before .before .before .before .before .name-groups .last .1 .1 .1 .1 .0 in
+    let runs = runs-are planes sorted mstarts members (a .m) (a .n) (a .ng) (r .ensures .0) (r .ensures .1 .0) (c .before .before .before .before .before .before .before .before .before .before .before .unpack .ensures) (p .1 .0 .0) (omega (arith, p .1 .1 .1 .1 .1 .0 .1, k .1 .0)) in
+    let run : (g : ℕ) → g < a .ng → groupIn members mstarts g ≡ trisIn planes (a .m) g = λ g l. run-is planes sorted mstarts members (a .m) (a .ng) g (r .ensures .1 .0) (c .before .before .before .before .before .before .before .before .before .before .before .unpack .ensures) l in (
+      planes-are (a .triangles .now) (a .handles .now) (a .n) (a .m) (a .rows .now) (a .of .now) (a .np) (a .queue .now) (a .offsets .now) (a .ng) groups planes members mstarts floats words (p .1 .1 .0 .0) (p .1 .1 .0 .1) (c .before .before .before .before .before .before .before .before .before .before .before .before .before .before .before .before .before .before
+          .before .before .before .before .before .before .before .before .before .before .before .before .before .before .before .before .name-groups .ensures .0) (c .before .before .before .before .before .before .before .before .before .before .before .before .before .before .before .before .before .before .before .before .before .before .before .before .before
+          .before .before .before .before .name-planes .ensures) runs run (c .before .before .before .before .put-planes .ensures),
       (
-        planes-held (a .triangles .now) (a .handles .now) (a .n) (a .m) (a .rows .now) (a .of .now) (a .np) (a .queue .now) (a .offsets .now) (a .ng) groups planes members mstarts floats words (p .1 .1 .0 .0) (p .1 .1 .0 .1) (b34 .name-groups .ensures .0) (b29 .name-planes .ensures) runs run (c .before .before .before .before .put-planes .ensures) (omega
+        planes-held (a .triangles .now) (a .handles .now) (a .n) (a .m) (a .rows .now) (a .of .now) (a .np) (a .queue .now) (a .offsets .now) (a .ng) groups planes members mstarts floats words (p .1 .1 .0 .0) (p .1 .1 .0 .1) (c .before .before .before .before .before .before .before .before .before .before .before .before .before .before .before .before .before .before
+            .before .before .before .before .before .before .before .before .before .before .before .before .before .before .before .before .name-groups .ensures .0) (c .before .before .before .before .before .before .before .before .before .before .before .before .before .before .before .before .before .before .before .before .before .before .before .before .before
+            .before .before .before .before .name-planes .ensures) runs run (c .before .before .before .before .put-planes .ensures) (omega
             (arith, p .1 .1 .1 .1 .1 .1 .0, c .before .before .before .before .put-planes .kept .1 .1 .1 .1 .1 .1 .1 .1 .1 .1 .0)) (omega (arith, p .1 .1 .1 .1 .1 .1 .1, c .before .before .before .before .put-planes .kept .1 .1 .1 .1 .1 .1 .1 .1 .1 .1 .1 .0)),
         (
-          tris-is (a .triangles .now) (a .handles .now) (a .n) (a .m) (a .rows .now) (a .of .now) (a .np) (a .queue .now) (a .offsets .now) (a .ng) groups planes members mstarts floats words (p .1 .1 .0 .0) (p .1 .1 .0 .1) (b34 .name-groups .ensures .0) (b29 .name-planes .ensures) runs run (c .before .before .before .before .put-planes .ensures),
+          tris-is (a .triangles .now) (a .handles .now) (a .n) (a .m) (a .rows .now) (a .of .now) (a .np) (a .queue .now) (a .offsets .now) (a .ng) groups planes members mstarts floats words (p .1 .1 .0 .0) (p .1 .1 .0 .1) (c .before .before .before .before .before .before .before .before .before .before .before .before .before .before .before .before .before .before
+              .before .before .before .before .before .before .before .before .before .before .before .before .before .before .before .before .name-groups .ensures .0) (c .before .before .before .before .before .before .before .before .before .before .before .before .before .before .before .before .before .before .before .before .before .before .before .before .before
+              .before .before .before .before .name-planes .ensures) runs run (c .before .before .before .before .put-planes .ensures),
           (
             planes-numbered
-                (a .of .now) groups planes (a .m) (a .ng) (b29 .name-planes .ensures) (b34 .name-groups .ensures .1),
+                (a .of .now) groups planes (a .m) (a .ng) (c .before .before .before .before .before .before .before .before .before .before .before .before .before .before .before .before .before .before .before .before .before .before .before .before .before .before .before .before .before .name-planes .ensures) (c .before .before .before .before .before .before
+                .before .before .before .before .before .before .before .before .before .before .before .before .before .before .before .before .before .before .before .before .before .before .before .before .before .before .before .before .name-groups .ensures .1),
             (same-length c, same-length-2 c, same-length-3 c, same-length-6 c),
           ),
         ),

@@ -19,8 +19,7 @@ loop-holds c = (omega arith, (refl, assigned-none _ _ _ (length (c .before .befo
 
 mul-from : tie.Need-mul-from Inv-loop μ-loop
 mul-from c =
-    let b9 = c .before .before .before .before .before .before .before .before .before in
-    omega (arith, b9 .good, b9 .pre .0 .long, c .loop-test .taken)
+    omega (arith, c .before .before .before .before .before .before .before .before .before .good, c .before .before .before .before .before .before .before .before .before .pre .0 .long, c .loop-test .taken)
 
 shared-slice-read-from : tie.Need-shared-slice-read-from Inv-loop μ-loop
 shared-slice-read-from c = omega (arith, c .before .before .before .before .before .before .before .before .before .before .pre .0 .long, c .before .loop-test .taken)
@@ -30,13 +29,11 @@ cast-from c = omega (arith, c .shared-slice-known3 .given (c .before .before .lo
 
 add-to : tie.Need-add-to Inv-loop μ-loop
 add-to c =
-    let b10 = c .before .before .before .before .before .before .before .before .before .before in
-    omega (arith, b10 .good, b10 .pre .0 .long, c .before .loop-test .taken)
+    omega (arith, c .before .before .before .before .before .before .before .before .before .before .good, c .before .before .before .before .before .before .before .before .before .before .pre .0 .long, c .before .loop-test .taken)
 
 mul-to : tie.Need-mul-to Inv-loop μ-loop
 mul-to c =
-    let b10 = c .before .before .before .before .before .before .before .before .before .before in
-    omega (arith, b10 .good, b10 .pre .0 .long, c .before .loop-test .taken)
+    omega (arith, c .before .before .before .before .before .before .before .before .before .before .good, c .before .before .before .before .before .before .before .before .before .before .pre .0 .long, c .before .loop-test .taken)
 
 shared-slice-read-to : tie.Need-shared-slice-read-to Inv-loop μ-loop
 shared-slice-read-to c = omega (arith, c .before .before .before .before .before .before .before .before .before .before .before .pre .0 .long, c .before .before .loop-test .taken)
@@ -46,13 +43,17 @@ cast-to c = omega (arith, c .shared-slice-known4 .given (c .before .before .befo
 
 add-g : tie.Need-add-g Inv-loop μ-loop
 add-g c =
-    let b11 = c .before .before .before .before .before .before .before .before .before .before .before in
-    omega (arith, b11 .good, b11 .pre .0 .long, c .before .before .loop-test .taken)
+    omega (arith, c .before .before .before .before .before .before .before .before .before .before .before .good, c .before .before .before .before .before .before .before .before .before .before .before .pre .0 .long, c .before .before .loop-test .taken)
 
 mul-name-group : tie.Need-mul-name-group Inv-loop μ-loop
 mul-name-group c =
-    let b11 = c .before .before .before .before .before .before .before .before .before .before .before in
-    omega (arith, b11 .good, b11 .pre .0 .rise _ (c .before .before .loop-test .taken), b11 .pre .0 .ends (c .before .before .before .loop .g + 1) (omega (arith, c .before .before .loop-test .taken)))
+    omega (
+      arith,
+      c .before .before .before .before .before .before .before .before .before .before .before .good,
+      c .before .before .before .before .before .before .before .before .before .before .before .pre .0 .rise _ (c .before .before .loop-test .taken),
+      c .before .before .before .before .before .before .before .before .before .before .before .pre .0 .ends (c
+          .before .before .before .loop .g + 1) (omega (arith, c .before .before .loop-test .taken)),
+    )
 
 sub-name-group : tie.Need-sub-name-group Inv-loop μ-loop
 sub-name-group c = omega (arith, c .before .before .before .before .before .before .before .before .before .before .before .pre .0 .rise _ (c .before .before .loop-test .taken))
@@ -68,17 +69,21 @@ cast-name-group c = omega (arith, c .before .before .before .before .before .bef
 
 name-group-requires : tie.Need-name-group-requires Inv-loop μ-loop
 name-group-requires c κs =
-    let b13 = c .before .before .before .before .before .before .before .before .before .before .before .before .before in
-    below-more _ _ _ (omega (arith, b13 .pre .1 .0, c .before .before .before .before .before .loop .inv .1 .0, c .before .before .before .before .before .before .before .before .clear-u32 .kept .0)) (b13 .pre .0 .below _ (c .before .before .before .before .loop-test .taken))
+    below-more _ _ _ (omega (arith, c .before .before .before .before .before .before .before .before .before .before .before .before .before .pre .1 .0, c .before .before .before .before .before .loop .inv .1 .0, c .before .before .before .before .before .before .before .before .clear-u32 .kept .0)) (c .before .before .before .before .before .before .before .before
+    .before .before .before .before .before .pre .0 .below _ (c .before .before .before .before .loop-test .taken))
 
 loop-less : tie.Need-loop-less Inv-loop μ-loop
 loop-less c = omega (arith, c .before .before .before .before .before .before .before .loop-test .taken)
 
 loop-again : tie.Need-loop-again Inv-loop μ-loop
-loop-again c =
-    let b7 = c .before .before .before .before .before .before .before in
-    let b8 = b7 .before in
-    (omega (arith, b7 .loop-test .taken), (c .before .before .name-group .kept .1 .1 .0 ∙ b8 .loop .inv .1 .0, assigned-more _ _ _ _ _ _ _ (c .before .before .before .before .before .before .before .before .before .before .before .before .before .before .before .before .pre .0) (b7 .loop-test .taken) (b8 .loop .inv .1 .1) (c .before .before .name-group .ensures)))
+loop-again c = (
+  omega (arith, c .before .before .before .before .before .before .before .loop-test .taken),
+  (
+    c .before .before .name-group .kept .1 .1 .0 ∙ c .before .before .before .before .before .before .before .before .loop .inv .1 .0,
+    assigned-more _ _ _ _ _ _ _ (c .before .before .before .before .before .before .before .before .before .before .before .before .before .before
+        .before .before .pre .0) (c .before .before .before .before .before .before .before .loop-test .taken) (c .before .before .before .before .before .before .before .before .loop .inv .1 .1) (c .before .before .name-group .ensures),
+  ),
+)
 
 same-length : tie.Need-same-length Inv-loop μ-loop
 same-length c = c .before .loop .inv .1 .0 ∙ c .before .before .before .before .clear-u32 .kept .0

@@ -22,24 +22,27 @@ shared-slice-read-plane-number c = omega (arith, c .before .before .before .befo
 
 mul-plane-of : tie.Need-mul-plane-of Inv-loop μ-loop
 mul-plane-of c =
-    let b7 = c .before .before .before .before .before .before .before in
-    omega (arith, b7 .good, b7 .pre, c .before .before .loop-test .taken)
+    omega (arith, c .before .before .before .before .before .before .before .good, c .before .before .before .before .before .before .before .pre, c .before .before .loop-test .taken)
 
 slice-write-plane-of : tie.Need-slice-write-plane-of Inv-loop μ-loop
 slice-write-plane-of c = omega (arith, c .before .before .before .before .before .before .before .pre, c .before .before .loop-test .taken, c .before .before .before .loop .inv .len)
 
 add-t : tie.Need-add-t Inv-loop μ-loop
 add-t c =
-    let b7 = c .before .before .before .before .before .before .before in
-    omega (arith, b7 .good, b7 .pre, c .before .before .loop-test .taken)
+    omega (arith, c .before .before .before .before .before .before .before .good, c .before .before .before .before .before .before .before .pre, c .before .before .loop-test .taken)
 
 loop-less : tie.Need-loop-less Inv-loop μ-loop
 loop-less c = omega (arith, c .before .before .loop-test .taken)
 
 loop-again : tie.Need-loop-again Inv-loop μ-loop
 loop-again c =
-    let b7 = c .before .before .before .before .before .before .before in
-    planed-more _ _ _ _ _ _ _ (c .before .before .before .loop .inv) (c .before .before .loop-test .taken) (omega (arith, b7 .pre, c .before .before .loop-test .taken)) (omega (arith, b7 .pre, c .before .before .loop-test .taken, c .before .before .before .loop .inv .len)) (c .plane-number .ensures)
+    planed-more _ _ _ _ _ _ _ (c .before .before .before .loop .inv) (c .before .before .loop-test .taken) (omega (arith, c .before .before .before .before .before .before .before .pre, c .before .before .loop-test .taken)) (omega (
+      arith,
+      c .before .before .before .before .before .before .before .pre,
+      c .before .before .loop-test .taken,
+      c .before .before
+          .before .loop .inv .len,
+    )) (c .plane-number .ensures)
 
 same-length : tie.Need-same-length Inv-loop μ-loop
 same-length c = c .before .loop .inv .len

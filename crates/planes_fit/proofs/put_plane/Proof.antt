@@ -16,8 +16,7 @@ copy-f32-requires c κs = rw (c .before .before .before .floats-of .ensures) (c 
 
 mul-copy-u32 : tie.Need-mul-copy-u32
 mul-copy-u32 c =
-    let b11 = c .before .before .before .before .before .before .before .before .before .before .before in
-    omega (arith, b11 .good, b11 .pre .1 .0)
+    omega (arith, c .before .before .before .before .before .before .before .before .before .before .before .good, c .before .before .before .before .before .before .before .before .before .before .before .pre .1 .0)
 
 copy-u32-requires : tie.Need-copy-u32-requires
 copy-u32-requires c κs = rw (c .before .before .before .before .before .before .before .words-of .ensures) (c .before .before .before .before .before .before .before .before .before .before .before .pre .1 .0)

@@ -21,8 +21,7 @@ loop-holds c = placed-none _ _ _ _
 
 mul-from : tie.Need-mul-from Inv-loop μ-loop
 mul-from c =
-    let b11 = c .before .before .before .before .before .before .before .before .before .before .before in
-    omega (arith, b11 .good, b11 .pre .1 .0 .long, c .loop-test .taken)
+    omega (arith, c .before .before .before .before .before .before .before .before .before .before .before .good, c .before .before .before .before .before .before .before .before .before .before .before .pre .1 .0 .long, c .loop-test .taken)
 
 shared-slice-read-from : tie.Need-shared-slice-read-from Inv-loop μ-loop
 shared-slice-read-from c = omega (arith, c .before .before .before .before .before .before .before .before .before .before .before .before .pre .1 .0 .long, c .before .loop-test .taken)
@@ -32,13 +31,11 @@ cast-from c = omega (arith, c .shared-slice-known8 .given (c .before .before .lo
 
 add-to : tie.Need-add-to Inv-loop μ-loop
 add-to c =
-    let b12 = c .before .before .before .before .before .before .before .before .before .before .before .before in
-    omega (arith, b12 .good, b12 .pre .1 .0 .long, c .before .loop-test .taken)
+    omega (arith, c .before .before .before .before .before .before .before .before .before .before .before .before .good, c .before .before .before .before .before .before .before .before .before .before .before .before .pre .1 .0 .long, c .before .loop-test .taken)
 
 mul-to : tie.Need-mul-to Inv-loop μ-loop
 mul-to c =
-    let b12 = c .before .before .before .before .before .before .before .before .before .before .before .before in
-    omega (arith, b12 .good, b12 .pre .1 .0 .long, c .before .loop-test .taken)
+    omega (arith, c .before .before .before .before .before .before .before .before .before .before .before .before .good, c .before .before .before .before .before .before .before .before .before .before .before .before .pre .1 .0 .long, c .before .loop-test .taken)
 
 shared-slice-read-to : tie.Need-shared-slice-read-to Inv-loop μ-loop
 shared-slice-read-to c = omega (arith, c .before .before .before .before .before .before .before .before .before .before .before .before .before .pre .1 .0 .long, c .before .before .loop-test .taken)
@@ -48,8 +45,7 @@ cast-to c = omega (arith, c .shared-slice-known9 .given (c .before .before .befo
 
 mul-first : tie.Need-mul-first Inv-loop μ-loop
 mul-first c =
-    let b13 = c .before .before .before .before .before .before .before .before .before .before .before .before .before in
-    omega (arith, b13 .good, b13 .pre .1 .1 .0 .long, c .before .before .loop-test .taken)
+    omega (arith, c .before .before .before .before .before .before .before .before .before .before .before .before .before .good, c .before .before .before .before .before .before .before .before .before .before .before .before .before .pre .1 .1 .0 .long, c .before .before .loop-test .taken)
 
 shared-slice-read-first : tie.Need-shared-slice-read-first Inv-loop μ-loop
 shared-slice-read-first c = omega (arith, c .before .before .before .before .before .before .before .before .before .before .before .before .before .before .pre .1 .1 .0 .long, c .before .before .before .loop-test .taken)
@@ -59,13 +55,11 @@ cast-first c = omega (arith, c .shared-slice-known10 .given (c .before .before .
 
 add-end : tie.Need-add-end Inv-loop μ-loop
 add-end c =
-    let b14 = c .before .before .before .before .before .before .before .before .before .before .before .before .before .before in
-    omega (arith, b14 .good, b14 .pre .1 .1 .0 .long, c .before .before .before .loop-test .taken)
+    omega (arith, c .before .before .before .before .before .before .before .before .before .before .before .before .before .before .good, c .before .before .before .before .before .before .before .before .before .before .before .before .before .before .pre .1 .1 .0 .long, c .before .before .before .loop-test .taken)
 
 mul-end : tie.Need-mul-end Inv-loop μ-loop
 mul-end c =
-    let b14 = c .before .before .before .before .before .before .before .before .before .before .before .before .before .before in
-    omega (arith, b14 .good, b14 .pre .1 .1 .0 .long, c .before .before .before .loop-test .taken)
+    omega (arith, c .before .before .before .before .before .before .before .before .before .before .before .before .before .before .good, c .before .before .before .before .before .before .before .before .before .before .before .before .before .before .pre .1 .1 .0 .long, c .before .before .before .loop-test .taken)
 
 shared-slice-read-end : tie.Need-shared-slice-read-end Inv-loop μ-loop
 shared-slice-read-end c = omega (arith, c .before .before .before .before .before .before .before .before .before .before .before .before .before .before .before .pre .1 .1 .0 .long, c .before .before .before .before .loop-test .taken)
@@ -75,8 +69,13 @@ cast-end c = omega (arith, c .shared-slice-known11 .given (c .before .before .be
 
 mul-group : tie.Need-mul-group Inv-loop μ-loop
 mul-group c =
-    let b15 = c .before .before .before .before .before .before .before .before .before .before .before .before .before .before .before in
-    omega (arith, b15 .good, b15 .pre .1 .0 .rise _ (c .before .before .before .before .loop-test .taken), b15 .pre .1 .0 .ends (c .before .before .before .before .before .loop .g + 1) (omega (arith, c .before .before .before .before .loop-test .taken)))
+    omega (
+      arith,
+      c .before .before .before .before .before .before .before .before .before .before .before .before .before .before .before .good,
+      c .before .before .before .before .before .before .before .before .before .before .before .before .before .before .before .pre .1 .0 .rise _ (c .before .before .before .before .loop-test .taken),
+      c .before .before .before
+          .before .before .before .before .before .before .before .before .before .before .before .before .pre .1 .0 .ends (c .before .before .before .before .before .loop .g + 1) (omega (arith, c .before .before .before .before .loop-test .taken)),
+    )
 
 sub-group : tie.Need-sub-group Inv-loop μ-loop
 sub-group c = omega (arith, c .before .before .before .before .before .before .before .before .before .before .before .before .before .before .before .pre .1 .0 .rise _ (c .before .before .before .before .loop-test .taken))
@@ -89,8 +88,13 @@ part-group-end c = c .before .before .before .before .before .before .before .be
 
 mul-tris : tie.Need-mul-tris Inv-loop μ-loop
 mul-tris c =
-    let b16 = c .before .before .before .before .before .before .before .before .before .before .before .before .before .before .before .before in
-    omega (arith, b16 .good, b16 .pre .1 .1 .0 .fenced .rise _ (c .before .before .before .before .before .loop-test .taken), b16 .pre .1 .1 .0 .fenced .ends (c .before .before .before .before .before .before .loop .g + 1) (omega (arith, c .before .before .before .before .before .loop-test .taken)))
+    omega (
+      arith,
+      c .before .before .before .before .before .before .before .before .before .before .before .before .before .before .before .before .good,
+      c .before .before .before .before .before .before .before .before .before .before .before .before .before .before .before .before .pre .1 .1 .0 .fenced .rise _ (c .before .before .before .before
+          .before .loop-test .taken),
+      c .before .before .before .before .before .before .before .before .before .before .before .before .before .before .before .before .pre .1 .1 .0 .fenced .ends (c .before .before .before .before .before .before .loop .g + 1) (omega (arith, c .before .before .before .before .before .loop-test .taken)),
+    )
 
 sub-tris : tie.Need-sub-tris Inv-loop μ-loop
 sub-tris c = omega (arith, c .before .before .before .before .before .before .before .before .before .before .before .before .before .before .before .before .pre .1 .1 .0 .fenced .rise _ (c .before .before .before .before .before .loop-test .taken))
@@ -103,13 +107,12 @@ part-tris-end c = c .before .before .before .before .before .before .before .bef
 
 plane-row-requires : tie.Need-plane-row-requires Inv-loop μ-loop
 plane-row-requires c κs =
-    let b7 = c .before .before .before .before .before .before .before in
-    let b17 = b7 .before .before .before .before .before .before .before .before .before .before in
-    let p = b17 .pre in
+    let p = c .before .before .before .before .before .before .before .before .before .before .before .before .before .before .before .before .before .pre in
     let t = c .before .before .before .before .before .before .loop-test .taken in
     let rise = p .1 .0 .rise _ t in
-    let ends = p .1 .0 .ends (b7 .loop .g + 1) (omega (arith, t)) in
-    let long = part-length (b17 .args .queue .now) (getD (b17 .args .offsets .now) (b7 .loop .g) 0) (getD (b17 .args .offsets .now) (b7 .loop .g + 1) 0) ends in
+    let ends = p .1 .0 .ends (c .before .before .before .before .before .before .before .loop .g + 1) (omega (arith, t)) in
+    let long = part-length (c .before .before .before .before .before .before .before .before .before .before .before .before .before .before .before .before .before .args .queue .now) (getD (c .before .before .before .before .before .before .before .before .before .before .before .before .before .before .before .before .before .args .offsets .now) (c .before .before
+    .before .before .before .before .before .loop .g) 0) (getD (c .before .before .before .before .before .before .before .before .before .before .before .before .before .before .before .before .before .args .offsets .now) (c .before .before .before .before .before .before .before .loop .g + 1) 0) ends in
     (p .0 .0, (p .0 .1, (p .0 .2, (p .1 .0 .below _ t, (omega arith, p .1 .1 .0 .below _ t)))))
 
 put-plane-requires : tie.Need-put-plane-requires Inv-loop μ-loop
@@ -137,8 +140,13 @@ put-plane-requires c κs =
 
 add-g : tie.Need-add-g Inv-loop μ-loop
 add-g c =
-    let b25 = c .before .before .before .before .before .before .before .before .before .before .before .before .before .before .before .before .before .before .before .before .before .before .before .before .before in
-    omega (arith, b25 .good, b25 .pre .1 .0 .long, c .before .before .before .before .before .before .before .before .before .before .before .before .before .before .loop-test .taken)
+    omega (
+      arith,
+      c .before .before .before .before .before .before .before .before .before .before .before .before .before .before .before .before .before .before .before .before .before .before .before .before .before .good,
+      c .before .before .before .before .before .before .before .before .before .before .before .before .before .before .before .before .before .before
+          .before .before .before .before .before .before .before .pre .1 .0 .long,
+      c .before .before .before .before .before .before .before .before .before .before .before .before .before .before .loop-test .taken,
+    )
 
 loop-less : tie.Need-loop-less Inv-loop μ-loop
 loop-less c = omega (arith, c .before .before .before .before .before .before .before .before .before .before .before .before .before .before .loop-test .taken)

@@ -39,14 +39,13 @@ plane-at-requires c κs = let p = c .before .before .before .before .before .bef
 bordered-requires : tie.Need-bordered-requires Inv-loop μ-loop
 unfolding Below
 bordered-requires c κs =
-    let b15 = c .before .before .before .before .before .before .before .before .before .before .before .before .before .before .before in
-    let p = b15 .pre .0 in let a = b15 .args in let l = c .before .before .before .before .loop in
+    let p = c .before .before .before .before .before .before .before .before .before .before .before .before .before .before .before .pre .0 in let a = c .before .before .before .before .before .before .before .before .before .before .before .before .before .before .before .args in let l = c .before .before .before .before .loop in
     let b = p .below (l .r) (c .before .before .before .loop-test .taken) in
     let runs = p .held .runs (getD (a .index .now) (l .r) 0) b in
     let room = border-room _ _ _ _ _ _ _ (c .before .before .before .loop-test .taken) (l .inv .bound) (p .total) (ap (λ (q : PlaneRow). q .count) (c .before .plane-at .ensures)) in
     let three = third _ _ (p .first-room) in (
       (p .area-room, omega (arith, p .first-room, p .few), p .first-below),
-      ((rw (c .before .plane-at .ensures) (runs .members-room), rw (three, c .before .plane-at .ensures) (runs .below)), omega (arith, room, b15 .pre .1 .edges-room, l .inv .edges-long)),
+      ((rw (c .before .plane-at .ensures) (runs .members-room), rw (three, c .before .plane-at .ensures) (runs .below)), omega (arith, room, c .before .before .before .before .before .before .before .before .before .before .before .before .before .before .before .pre .1 .edges-room, l .inv .edges-long)),
     )
 
 add-at : tie.Need-add-at Inv-loop μ-loop
@@ -57,19 +56,17 @@ add-at c = let p = c .before .before .before .before .before .before .before .be
 put-plane-requires : tie.Need-put-plane-requires Inv-loop μ-loop
 unfolding Below rowOf
 put-plane-requires c κs =
-    let b7 = c .before .before .before .before .before .before .before in
-    let b9 = b7 .before .before in
-    let b21 = b9 .before .before .before .before .before .before .before .before .before .before .before .before in
-    let p = b21 .pre .0 in let q = b21 .pre .1 in let a = b21 .args in let l = c .before .before .before .before .before .before .before .before .before .before .loop in
-    let b = p .below (l .r) (b9 .loop-test .taken) in
+    let p = c .before .before .before .before .before .before .before .before .before .before .before .before .before .before .before .before .before .before .before .before .before .pre .0 in let q = c .before .before .before .before .before .before .before .before .before .before .before .before .before .before .before .before .before .before .before .before .before .pre
+    .1 in let a = c .before .before .before .before .before .before .before .before .before .before .before .before .before .before .before .before .before .before .before .before .before .args in let l = c .before .before .before .before .before .before .before .before .before .before .loop in
+    let b = p .below (l .r) (c .before .before .before .before .before .before .before .before .before .loop-test .taken) in
     let words = c .before .before .before .before .before .before .before .before .before .before .before .before .before .before .before .before .before .before .shared-slice-known3 .given in
     let starts : getD (a .group-words .now) (5 * (getD (a .index .now) (l .r) 0)) 0 < 4294967296 = omega (arith, words (5 * (getD (a .index .now) (l .r) 0))) in
     let counts : getD (a .group-words .now) (5 * (getD (a .index .now) (l .r) 0) + 1) 0 < 4294967296 = omega (arith, words (5 * (getD (a .index .now) (l .r) 0) + 1)) in
-    let room = border-room _ _ _ _ _ _ _ (b9 .loop-test .taken) (l .inv .bound) (p .total) (ap (λ (q : PlaneRow). q .count) (b7 .plane-at .ensures)) in (
-      omega (arith, q .floats-room, l .inv .floats-long, b9 .loop-test .taken),
+    let room = border-room _ _ _ _ _ _ _ (c .before .before .before .before .before .before .before .before .before .loop-test .taken) (l .inv .bound) (p .total) (ap (λ (q : PlaneRow). q .count) (c .before .before .before .before .before .before .before .plane-at .ensures)) in (
+      omega (arith, q .floats-room, l .inv .floats-long, c .before .before .before .before .before .before .before .before .before .loop-test .taken),
       (
-        omega (arith, q .words-room, l .inv .words-long, b9 .loop-test .taken),
-        small-is (b7 .plane-at .result) _ _ _ (c .before .before .before .before .before .bordered .ensures .0 .0) (rw (b7 .plane-at .ensures) starts) (rw (b7 .plane-at .ensures) counts) room (p .short)
+        omega (arith, q .words-room, l .inv .words-long, c .before .before .before .before .before .before .before .before .before .loop-test .taken),
+        small-is (c .before .before .before .before .before .before .before .plane-at .result) _ _ _ (c .before .before .before .before .before .bordered .ensures .0 .0) (rw (c .before .before .before .before .before .before .before .plane-at .ensures) starts) (rw (c .before .before .before .before .before .before .before .plane-at .ensures) counts) room (p .short)
             (c .before .before .before .before .before .bordered .ensures .0 .1),
       ),
     )
@@ -99,11 +96,10 @@ same-length-3 c = c .before .loop .inv .edges-long
 
 returns : tie.Need-returns Inv-loop μ-loop
 returns c =
-    let b12 = c .before .before .before .before .before .before .before .before .before .before .before .before in
-    let p = b12 .pre .0 in
-    let q = b12 .pre .1 in
+    let p = c .before .before .before .before .before .before .before .before .before .before .before .before .pre .0 in
+    let q = c .before .before .before .before .before .before .before .before .before .before .before .before .pre .1 in
     let l = c .before .loop in
-    let a = b12 .args in
+    let a = c .before .before .before .before .before .before .before .before .before .before .before .before .args in
     let few = sum-le (a .group-floats .now) (a .group-words .now) (a .index .now) (l .r) in (
       λ r h. placed-is _ _ _ _ _ _ _ _ _ _ _ _ r (l .inv .each r (omega (arith, h, c .loop-test .left))),
       all-held _ _ _ _ _ _ _ _ _ _ _ _ _ _ (p .held) (p .below) (λ r h. l .inv .each r (omega (arith, h, c .loop-test .left))) (omega (arith, l .inv .bound, few, p .total)) (omega (arith, q .edges-room, l .inv .edges-long)) (omega (arith, q .floats-room, l .inv .floats-long)) (omega (arith, q .words-room, l .inv .words-long)),

@@ -16,9 +16,8 @@ slice-aggregate-build-flat-bvh c =
 
 build-flat-bvh-requires : tie.Need-build-flat-bvh-requires
 build-flat-bvh-requires c κs =
-    let b20 = c .before .before .before .before .before .before .before .before .before .before .before .before .before .before .before .before .before .before .before .before in
-    let a = b20 .args in
-    let R = b20 .pre in (
+    let a = c .before .before .before .before .before .before .before .before .before .before .before .before .before .before .before .before .before .before .before .before .args in
+    let R = c .before .before .before .before .before .before .before .before .before .before .before .before .before .before .before .before .before .before .before .before .pre in (
       lent (a .triangles .now) (a .handles .now) (a .n) (a .m) (a .extents .now) (a .keys .now) (a .leaf-order .now) (a .words .now) (a .scratch .now) (a .areas .now) (a .boxes .now) (a .nodes .now) (a .tree .now) R _ (omega (arith, R .fewer)) (omega (arith, R .fewer)),
       room (a .triangles .now) (a .handles .now) (a .n) (a .m) (a .extents .now) (a .keys .now)
           (a .leaf-order .now) (a .words .now) (a .scratch .now) (a .areas .now) (a .boxes .now) (a .nodes .now) (a .tree .now) R,

@@ -57,9 +57,10 @@ slice-reshare-prefix-build-planes c = let h = c .before .before .before .before 
 
 slice-aggregate-build-planes : tie.Need-slice-aggregate-build-planes
 slice-aggregate-build-planes c =
-    let b22 = c .before .before .before .before .before .before .before .before .before .before .before .before .before .before .before .before .before .before .before .before .before .before in
-    let b51 = b22 .before .before .before .before .before .before .before .before .before .before .before .before .before .before .before .before .before .before .before .before .before .before .before .before .before .before .before .before .before in
-    let h = b51 .pre in sym (length-take-le (b51 .args .m) (b22 .scene-bvh .last .1 .1 .1 .1 .1 .1 .0) (omega (arith, b22 .scene-bvh .kept .1 .1 .1 .1 .1 .1 .0, h .for-tree .leaf-order-room, h .lent .some)))
+    let h = c .before .before .before .before .before .before .before .before .before .before .before .before .before .before .before .before .before .before .before .before .before .before .before .before .before .before .before .before .before .before .before .before .before .before .before .before .before .before .before .before .before .before .before .before
+    .before .before .before .before .before .before .before .pre in sym (length-take-le (c .before .before .before .before .before .before .before .before .before .before .before .before .before .before .before .before .before .before .before .before .before .before .before .before .before .before .before .before .before .before .before .before .before .before
+    .before .before .before .before .before .before .before .before .before .before .before .before .before .before .before .before .before .args .m) (c .before .before .before .before .before .before .before .before .before .before .before .before .before .before .before .before .before .before .before .before .before .before .scene-bvh .last .1 .1 .1 .1 .1 .1 .0)
+    (omega (arith, c .before .before .before .before .before .before .before .before .before .before .before .before .before .before .before .before .before .before .before .before .before .before .scene-bvh .kept .1 .1 .1 .1 .1 .1 .0, h .for-tree .leaf-order-room, h .lent .some)))
 
 mul-build-planes : tie.Need-mul-build-planes
 mul-build-planes c = let t = c .before .before .before .before .before .before .before .before .before .before .before .before .before .before .before .before .before .before .before .before .before .before .before .before .before .before .before .before .before .before .before .before .before .before .before .before .before .before .before .before .before .before
@@ -82,9 +83,10 @@ part-build-planes-end-2 c = let h = c .before .before .before .before .before .b
 
 build-planes-requires : tie.Need-build-planes-requires
 build-planes-requires c κs =
-    let b66 = c .before .before .before .before .before .before .before .before .before .before .before .before .before .before .before .before .before .before .before .before .before .before .before .before .before .before .before .before .before .before .before .before .before .before .before .before .before .before .before .before .before .before .before .before
-    .before .before .before .before .before .before .before .before .before .before .before .before .before .before .before .before .before .before .before .before .before .before in
-    let h = b66 .pre in let t = h .lent in let p = h .for-planes in let a = b66 .args in let b = c .before .before .before .before .before .before .before .before .before .before .before .before .before .before .before .before .before .before .before .before .before .before .before .before .before .before .before .before .before .before .before .before .before .before
+    let h = c .before .before .before .before .before .before .before .before .before .before .before .before .before .before .before .before .before .before .before .before .before .before .before .before .before .before .before .before .before .before .before .before .before .before .before .before .before .before .before .before .before .before .before .before
+    .before .before .before .before .before .before .before .before .before .before .before .before .before .before .before .before .before .before .before .before .before .before .pre in let t = h .lent in let p = h .for-planes in let a = c .before .before .before .before .before .before .before .before .before .before .before .before .before .before .before
+    .before .before .before .before .before .before .before .before .before .before .before .before .before .before .before .before .before .before .before .before .before .before .before .before .before .before .before .before .before .before .before .before .before .before .before .before .before .before .before .before .before .before .before .before .before
+    .before .before .before .before .before .before .args in let b = c .before .before .before .before .before .before .before .before .before .before .before .before .before .before .before .before .before .before .before .before .before .before .before .before .before .before .before .before .before .before .before .before .before .before
     .before .before .before .scene-bvh in
     let w = scene-tree-from-zero (h .scene) (a .triangles .now) (a .handles .now) (a .n) (a .m) (b .last .1 .1 .1 .1 .1 .1 .1 .1 .1 .1 .1 .0) (take (a .m) (b .last .1 .1 .1 .1 .1 .1 .0)) (b .last .1 .1 .1 .1 .1 .1 .1 .1 .1 .1 .1 .1 .0) (b .result) (b .ensures .0 (h .scene) (h .found) (h .loaded) (h .cleared)) in (
       t,

@@ -72,15 +72,14 @@ joined t c =
 loop-holds : (t : ℕ) → lts.Need-loop-holds (may.Asked, may.Learnt, push.Asked, push.Learnt, too-far.Asked, too-far.Learnt, passed.Asked, passed.Learnt, visit.Asked, visit.Learnt, last.Asked, last.Learnt, expand-below t, expand.Post) (expand-at t) expand.Post Inv-loop μ-loop
 unfolding upto
 loop-holds t c =
-    let b15 = c .before .before .before .before .before .before .before .before .before .before .before .before .before .before .before in
-    let a = b15 .args in (
+    let a = c .before .before .before .before .before .before .before .before .before .before .before .before .before .before .before .args in (
       omega arith,
       refl,
       refl,
       refl,
       refl,
       law.walked-none (searchAreas (a .padded .now) (a .nodes .now) (a .leaf-order .now) (a .leaves .now) (a .handles .now) (a .materials .now) (a .triangles .now) (a .plane-floats .now) (a .plane-words .now) (a .plane-triangles .now) (a .plane-edges .now)) (a .q) (a .depth) (state (a .seq .now) (a .images .now) (a .t))
-          (a .candidate-floats .now) (a .candidate-words .now) (b15 .pre .1 .sound),
+          (a .candidate-floats .now) (a .candidate-words .now) (c .before .before .before .before .before .before .before .before .before .before .before .before .before .before .before .pre .1 .sound),
     )
 
 add-p : (t : ℕ) → lts.Need-add-p (may.Asked, may.Learnt, push.Asked, push.Learnt, too-far.Asked, too-far.Learnt, passed.Asked, passed.Learnt, visit.Asked, visit.Learnt, last.Asked, last.Learnt, expand-below t, expand.Post) (expand-at t) expand.Post Inv-loop μ-loop
@@ -93,9 +92,8 @@ loop-less t c =
 
 loop-again : (t : ℕ) → lts.Need-loop-again (may.Asked, may.Learnt, push.Asked, push.Learnt, too-far.Asked, too-far.Learnt, passed.Asked, passed.Learnt, visit.Asked, visit.Learnt, last.Asked, last.Learnt, expand-below t, expand.Post) (expand-at t) expand.Post Inv-loop μ-loop
 loop-again t c =
-    let b21 = c .before .before .before .before .before .before .before .before .before .before .before .before .before .before .before .before .before .before .before .before .before in
-    let a = b21 .args in
-    let pre = b21 .pre .1 in
+    let a = c .before .before .before .before .before .before .before .before .before .before .before .before .before .before .before .before .before .before .before .before .before .args in
+    let pre = c .before .before .before .before .before .before .before .before .before .before .before .before .before .before .before .before .before .before .before .before .before .pre .1 in
     let l = c .before .before .before .before .before .loop in
     let S : SearchAreas = (searchAreas (a .padded .now) (a .nodes .now) (a .leaf-order .now) (a .leaves .now) (a .handles .now) (a .materials .now) (a .triangles .now) (a .plane-floats .now) (a .plane-words .now) (a .plane-triangles .now) (a .plane-edges .now)) in (
       omega (arith, c .before .before .before .if1 .taken),
@@ -109,9 +107,8 @@ loop-again t c =
 
 may-requires : (t : ℕ) → lts.Need-may-requires (may.Asked, may.Learnt, push.Asked, push.Learnt, too-far.Asked, too-far.Learnt, passed.Asked, passed.Learnt, visit.Asked, visit.Learnt, last.Asked, last.Learnt, expand-below t, expand.Post) (expand-at t) expand.Post Inv-loop μ-loop
 may-requires t c κs =
-    let b22 = c .before .before .before .before .before .before .before .before .before .before .before .before .before .before .before .before .before .before .before .before .before .before in
-    let a = b22 .args in
-    let pre = b22 .pre .1 in
+    let a = c .before .before .before .before .before .before .before .before .before .before .before .before .before .before .before .before .before .before .before .before .before .before .args in
+    let pre = c .before .before .before .before .before .before .before .before .before .before .before .before .before .before .before .before .before .before .before .before .before .before .pre .1 in
     let l = c .before .before .before .before .before .before .loop in
     let S : SearchAreas = (searchAreas (a .padded .now) (a .nodes .now) (a .leaf-order .now) (a .leaves .now) (a .handles .now) (a .materials .now) (a .triangles .now) (a .plane-floats .now) (a .plane-words .now) (a .plane-triangles .now) (a .plane-edges .now)) in
     let h = pre .lent .planes .held in
@@ -119,9 +116,8 @@ may-requires t c κs =
 
 push-requires : (t : ℕ) → lts.Need-push-requires (may.Asked, may.Learnt, push.Asked, push.Learnt, too-far.Asked, too-far.Learnt, passed.Asked, passed.Learnt, visit.Asked, visit.Learnt, last.Asked, last.Learnt, expand-below t, expand.Post) (expand-at t) expand.Post Inv-loop μ-loop
 push-requires t c κs =
-    let b26 = c .before .before .before .before .before .before .before .before .before .before .before .before .before .before .before .before .before .before .before .before .before .before .before .before .before .before in
-    let a = b26 .args in
-    let pre = b26 .pre .1 in
+    let a = c .before .before .before .before .before .before .before .before .before .before .before .before .before .before .before .before .before .before .before .before .before .before .before .before .before .before .args in
+    let pre = c .before .before .before .before .before .before .before .before .before .before .before .before .before .before .before .before .before .before .before .before .before .before .before .before .before .before .pre .1 in
     let l = c .before .before .before .before .before .before .before .before .before .before .loop in
     let S : SearchAreas = (searchAreas (a .padded .now) (a .nodes .now) (a .leaf-order .now) (a .leaves .now) (a .handles .now) (a .materials .now) (a .triangles .now) (a .plane-floats .now) (a .plane-words .now) (a .plane-triangles .now) (a .plane-edges .now)) in
     let h = pre .lent .planes .held in
@@ -129,8 +125,12 @@ push-requires t c κs =
 
 add-too-far : (t : ℕ) → lts.Need-add-too-far (may.Asked, may.Learnt, push.Asked, push.Learnt, too-far.Asked, too-far.Learnt, passed.Asked, passed.Learnt, visit.Asked, visit.Learnt, last.Asked, last.Learnt, expand-below t, expand.Post) (expand-at t) expand.Post Inv-loop μ-loop
 add-too-far t c =
-    let b32 = c .before .before .before .before .before .before .before .before .before .before .before .before .before .before .before .before .before .before .before .before .before .before .before .before .before .before .before .before .before .before .before .before in
-    omega (arith, b32 .pre .1 .deep, b32 .pre .1 .within)
+    omega (
+      arith,
+      c .before .before .before .before .before .before .before .before .before .before .before .before .before .before .before .before .before .before .before .before .before .before .before .before .before .before .before .before .before .before .before .before .pre .1 .deep,
+      c .before .before .before .before .before .before .before .before .before .before
+          .before .before .before .before .before .before .before .before .before .before .before .before .before .before .before .before .before .before .before .before .before .before .pre .1 .within,
+    )
 
 too-far-requires : (t : ℕ) → lts.Need-too-far-requires (may.Asked, may.Learnt, push.Asked, push.Learnt, too-far.Asked, too-far.Learnt, passed.Asked, passed.Learnt, visit.Asked, visit.Learnt, last.Asked, last.Learnt, expand-below t, expand.Post) (expand-at t) expand.Post Inv-loop μ-loop
 too-far-requires t c κs =
@@ -148,8 +148,12 @@ passed-over-requires t c κs =
 
 add-visit : (t : ℕ) → lts.Need-add-visit (may.Asked, may.Learnt, push.Asked, push.Learnt, too-far.Asked, too-far.Learnt, passed.Asked, passed.Learnt, visit.Asked, visit.Learnt, last.Asked, last.Learnt, expand-below t, expand.Post) (expand-at t) expand.Post Inv-loop μ-loop
 add-visit t c =
-    let b34 = c .before .before .before .before .before .before .before .before .before .before .before .before .before .before .before .before .before .before .before .before .before .before .before .before .before .before .before .before .before .before .before .before .before .before in
-    omega (arith, b34 .pre .1 .deep, b34 .pre .1 .within)
+    omega (
+      arith,
+      c .before .before .before .before .before .before .before .before .before .before .before .before .before .before .before .before .before .before .before .before .before .before .before .before .before .before .before .before .before .before .before .before .before .before .pre .1 .deep,
+      c .before .before .before .before .before .before .before .before
+          .before .before .before .before .before .before .before .before .before .before .before .before .before .before .before .before .before .before .before .before .before .before .before .before .before .before .pre .1 .within,
+    )
 
 visit-requires : (t : ℕ) → lts.Need-visit-requires (may.Asked, may.Learnt, push.Asked, push.Learnt, too-far.Asked, too-far.Learnt, passed.Asked, passed.Learnt, visit.Asked, visit.Learnt, last.Asked, last.Learnt, expand-below t, expand.Post) (expand-at t) expand.Post Inv-loop μ-loop
 visit-requires t c κs =
@@ -166,8 +170,12 @@ visit-requires t c κs =
 
 add-if5 : (t : ℕ) → lts.Need-add-if5 (may.Asked, may.Learnt, push.Asked, push.Learnt, too-far.Asked, too-far.Learnt, passed.Asked, passed.Learnt, visit.Asked, visit.Learnt, last.Asked, last.Learnt, expand-below t, expand.Post) (expand-at t) expand.Post Inv-loop μ-loop
 add-if5 t c =
-    let b34 = c .before .before .before .before .before .before .before .before .before .before .before .before .before .before .before .before .before .before .before .before .before .before .before .before .before .before .before .before .before .before .before .before .before .before in
-    omega (arith, b34 .pre .1 .deep, b34 .pre .1 .within)
+    omega (
+      arith,
+      c .before .before .before .before .before .before .before .before .before .before .before .before .before .before .before .before .before .before .before .before .before .before .before .before .before .before .before .before .before .before .before .before .before .before .pre .1 .deep,
+      c .before .before .before .before .before .before .before .before
+          .before .before .before .before .before .before .before .before .before .before .before .before .before .before .before .before .before .before .before .before .before .before .before .before .before .before .pre .1 .within,
+    )
 
 loop-less-2 : (t : ℕ) → lts.Need-loop-less-2 (may.Asked, may.Learnt, push.Asked, push.Learnt, too-far.Asked, too-far.Learnt, passed.Asked, passed.Learnt, visit.Asked, visit.Learnt, last.Asked, last.Learnt, expand-below t, expand.Post) (expand-at t) expand.Post Inv-loop μ-loop
 loop-less-2 t c =
@@ -175,61 +183,72 @@ loop-less-2 t c =
 
 loop-again-2 : (t : ℕ) → lts.Need-loop-again-2 (may.Asked, may.Learnt, push.Asked, push.Learnt, too-far.Asked, too-far.Learnt, passed.Asked, passed.Learnt, visit.Asked, visit.Learnt, last.Asked, last.Learnt, expand-below t, expand.Post) (expand-at t) expand.Post Inv-loop μ-loop
 loop-again-2 t c =
-    let b9 = c .before .before .before .before .before .before .before .before .before in
-    let b15 = b9 .before .before .before .before .before .before in
-    let b18 = b15 .before .before .before in
-    let b36 = b18 .before .before .before .before .before .before .before .before .before .before .before .before .before .before .before .before .before .before in
-    let a = b36 .args in
-    let pre = b36 .pre .1 in
+    let a = c .before .before .before .before .before .before .before .before .before .before .before .before .before .before .before .before .before .before .before .before .before .before .before .before .before .before .before .before .before .before .before .before .before .before .before .before .args in
+    let pre = c .before .before .before .before .before .before .before .before .before .before .before .before .before .before .before .before .before .before .before .before .before .before .before .before .before .before .before .before .before .before .before .before .before .before .before .before .pre .1 in
     let l = c .before .before .before .before .before .before .before .before .before .before .before .before .before .before .before .before .before .before .before .before .loop in
     let S : SearchAreas = (searchAreas (a .padded .now) (a .nodes .now) (a .leaf-order .now) (a .leaves .now) (a .handles .now) (a .materials .now) (a .triangles .now) (a .plane-floats .now) (a .plane-words .now) (a .plane-triangles .now) (a .plane-edges .now)) in
     let r : SearchReady S (a .q) (a .depth) (state (l .seq) (l .images) (l .s)) (l .candidate-floats) (l .candidate-words) =
     law.ready-same S (a .q) (a .depth) (a .depth) (state (a .seq .now) (a .images .now) (a .t)) (state (l .seq) (l .images) (l .s)) (a .candidate-floats .now) (l .candidate-floats) (a .candidate-words .now) (l .candidate-words) pre (pre .deep) (l .inv .3) (l .inv .4) (l .inv .5 .sound) in
-    let v : Visitable S (a .q) (a .depth + 1) (state (b9 .push .last .1 .1 .1 .1 .1 .0) (b9 .push .last .1 .1 .1 .1 .1 .1 .0) (l .s)) (l .candidate-floats) (l .candidate-words) = law.visitable-push S (a .q) (a .depth) (l .p) (l .seq) (b9 .push .last .1 .1 .1 .1 .1 .0) (l .images) (b9 .push .last .1 .1 .1 .1 .1 .1 .0) (l .s) (b9 .push .ensures .0) (b9 .push .ensures .1
-    (a .plane-triangles .now) (a .plane-edges .now)) (l .candidate-floats) (l .candidate-words) r (b18 .if1 .taken) (b15 .if2 .left) in
+    let v : Visitable S (a .q) (a .depth + 1) (state (c .before .before .before .before .before .before .before .before .before .push .last .1 .1 .1 .1 .1 .0) (c .before .before .before .before .before .before .before .before .before .push .last .1 .1 .1 .1 .1 .1 .0) (l .s)) (l .candidate-floats) (l .candidate-words) = law.visitable-push S (a .q) (a .depth) (l .p) (l .seq)
+    (c .before .before .before .before .before .before .before .before .before .push .last .1 .1 .1 .1 .1 .0) (l .images) (c .before .before .before .before .before .before .before .before .before .push .last .1 .1 .1 .1 .1 .1 .0) (l .s) (c .before .before .before .before .before .before .before .before .before .push .ensures .0) (c .before .before .before .before
+    .before .before .before .before .before .push .ensures .1
+    (a .plane-triangles .now) (a .plane-edges .now)) (l .candidate-floats) (l .candidate-words) r (c .before .before .before .before .before .before .before .before .before .before .before .before .before .before .before .before .before .before .if1 .taken) (c .before .before .before .before .before .before .before .before .before .before .before .before .before .before .before .if2 .left) in
     let j = joined t (c .before .before) in
-    let sound : Sound S (a .q) (a .depth + 1) (state (b9 .push .last .1 .1 .1 .1 .1 .0) (b9 .push .last .1 .1 .1 .1 .1 .1 .0) (c .before .before .if4 .s)) =
-    law.sound-visit S (a .q) (a .depth + 1) (b9 .push .last .1 .1 .1 .1 .1 .0) (b9 .push .last .1 .1 .1 .1 .1 .1 .0) (l .s) (c .before .before .if4 .s) (l .candidate-floats) (c .before .before .if4 .candidate-floats) (l .candidate-words) (c .before .before .if4 .candidate-words) (j .0) (v .sound) in (
-      omega (arith, b18 .if1 .taken),
-      b9 .push .kept .1 .1 .1 .1 .1 .0 ∙ l .inv .1,
-      b9 .push .kept .1 .1 .1 .1 .1 .1 .0 ∙ l .inv .2,
+    let sound : Sound S (a .q) (a .depth + 1) (state (c .before .before .before .before .before .before .before .before .before .push .last .1 .1 .1 .1 .1 .0) (c .before .before .before .before .before .before .before .before .before .push .last .1 .1 .1 .1 .1 .1 .0) (c .before .before .if4 .s)) =
+    law.sound-visit S (a .q) (a .depth + 1) (c .before .before .before .before .before .before .before .before .before .push .last .1 .1 .1 .1 .1 .0) (c .before .before .before .before .before .before .before .before .before .push .last .1 .1 .1 .1 .1 .1 .0) (l .s) (c .before .before .if4 .s) (l .candidate-floats) (c .before .before .if4 .candidate-floats)
+    (l .candidate-words) (c .before .before .if4 .candidate-words) (j .0) (v .sound) in (
+      omega (arith, c .before .before .before .before .before .before .before .before .before .before .before .before .before .before .before .before .before .before .if1 .taken),
+      c .before .before .before .before .before .before .before .before .before .push .kept .1 .1 .1 .1 .1 .0 ∙ l .inv .1,
+      c .before .before .before .before .before .before .before .before .before .push .kept .1 .1 .1 .1 .1 .1 .0 ∙ l .inv .2,
       j .1 ∙ l .inv .3,
       j .2 ∙ l .inv .4,
       law.walked-more S (a .q) (a .depth) (a .q .order - (a .depth + 1)) (l .p) (l .inv .5)
-          (law.walked-last S (a .q) (a .depth) (a .q .order - (a .depth + 1)) (l .p) (l .seq) (b9 .push .last .1 .1 .1 .1 .1 .0) (l .images) (b9 .push .last .1 .1 .1 .1 .1 .1 .0) (l .s) (c .before .before .if4 .s) (l .candidate-floats) (c .before .before .if4 .candidate-floats) (l .candidate-words) (c .before .before .if4 .candidate-words) (b15 .if2 .left) (omega
-          (arith, pre .deep, pre .within)) (r .sound .seq-room) (sym (c .before .before .before .before .before .before .before .before .before .before .before .before .before .may .ensures (a .plane-triangles .now) (a .plane-edges .now)) ∙ c .before .before .before .before .before .before .before .before .before .before .before .before .if3 .taken) (b9 .push .ensures .0)
+          (law.walked-last S (a .q) (a .depth) (a .q .order - (a .depth + 1)) (l .p) (l .seq) (c .before .before .before .before .before .before .before .before .before .push .last .1 .1 .1 .1 .1 .0) (l .images) (c .before .before .before .before .before .before .before .before .before .push .last .1 .1 .1 .1 .1 .1 .0) (l .s) (c .before .before .if4 .s) (l .candidate-floats)
+          (c .before .before .if4 .candidate-floats) (l .candidate-words) (c .before .before .if4 .candidate-words) (c .before .before .before .before .before .before .before .before .before .before .before .before .before .before .before .if2 .left) (omega
+          (arith, pre .deep, pre .within)) (r .sound .seq-room) (sym (c .before .before .before .before .before .before .before .before .before .before .before .before .before .may .ensures (a .plane-triangles .now) (a .plane-edges .now)) ∙ c .before .before .before .before .before .before .before .before .before .before .before .before .if3 .taken) (c .before .before
+          .before .before .before .before .before .before .before .push .ensures .0)
           (j .0) sound (omega (arith, c .if5 .taken))),
     )
 
 add-if6 : (t : ℕ) → lts.Need-add-if6 (may.Asked, may.Learnt, push.Asked, push.Learnt, too-far.Asked, too-far.Learnt, passed.Asked, passed.Learnt, visit.Asked, visit.Learnt, last.Asked, last.Learnt, expand-below t, expand.Post) (expand-at t) expand.Post Inv-loop μ-loop
 add-if6 t c =
-    let b36 = c .before .before .before .before .before .before .before .before .before .before .before .before .before .before .before .before .before .before .before .before .before .before .before .before .before .before .before .before .before .before .before .before .before .before .before .before in
-    omega (arith, b36 .pre .1 .deep, b36 .pre .1 .within)
+    omega (
+      arith,
+      c .before .before .before .before .before .before .before .before .before .before .before .before .before .before .before .before .before .before .before .before .before .before .before .before .before .before .before .before .before .before .before .before .before .before .before .before .pre .1 .deep,
+      c .before .before .before .before .before .before
+          .before .before .before .before .before .before .before .before .before .before .before .before .before .before .before .before .before .before .before .before .before .before .before .before .before .before .before .before .before .before .pre .1 .within,
+    )
 
 add-last-planes : (t : ℕ) → lts.Need-add-last-planes (may.Asked, may.Learnt, push.Asked, push.Learnt, too-far.Asked, too-far.Learnt, passed.Asked, passed.Learnt, visit.Asked, visit.Learnt, last.Asked, last.Learnt, expand-below t, expand.Post) (expand-at t) expand.Post Inv-loop μ-loop
 add-last-planes t c =
-    let b38 = c .before .before .before .before .before .before .before .before .before .before .before .before .before .before .before .before .before .before .before .before .before .before .before .before .before .before .before .before .before .before .before .before .before .before .before .before .before .before in
-    omega (arith, b38 .pre .1 .deep, b38 .pre .1 .within)
+    omega (
+      arith,
+      c .before .before .before .before .before .before .before .before .before .before .before .before .before .before .before .before .before .before .before .before .before .before .before .before .before .before .before .before .before .before .before .before .before .before .before .before .before .before .pre .1 .deep,
+      c .before .before .before .before
+          .before .before .before .before .before .before .before .before .before .before .before .before .before .before .before .before .before .before .before .before .before .before .before .before .before .before .before .before .before .before .before .before .before .before .pre .1 .within,
+    )
 
 last-planes-requires : (t : ℕ) → lts.Need-last-planes-requires (may.Asked, may.Learnt, push.Asked, push.Learnt, too-far.Asked, too-far.Learnt, passed.Asked, passed.Learnt, visit.Asked, visit.Learnt, last.Asked, last.Learnt, expand-below t, expand.Post) (expand-at t) expand.Post Inv-loop μ-loop
 last-planes-requires t c κs =
-    let b8 = c .before .before .before .before .before .before .before .before in
-    let b15 = b8 .before .before .before .before .before .before .before in
-    let b42 = b15 .before .before .before .before .before .before .before .before .before .before .before .before .before .before .before .before .before .before .before .before .before .before .before .before .before .before .before in
-    let a = b42 .args in
-    let pre = b42 .pre .1 in
+    let a = c .before .before .before .before .before .before .before .before .before .before .before .before .before .before .before .before .before .before .before .before .before .before .before .before .before .before .before .before .before .before .before .before .before .before .before .before .before .before .before .before .before .before .args in
+    let pre = c .before .before .before .before .before .before .before .before .before .before .before .before .before .before .before .before .before .before .before .before .before .before .before .before .before .before .before .before .before .before .before .before .before .before .before .before .before .before .before .before .before .before .pre .1 in
     let l = c .before .before .before .before .before .before .before .before .before .before .before .before .before .before .before .before .before .before .before .before .before .before .before .before .before .before .loop in
     let S : SearchAreas = (searchAreas (a .padded .now) (a .nodes .now) (a .leaf-order .now) (a .leaves .now) (a .handles .now) (a .materials .now) (a .triangles .now) (a .plane-floats .now) (a .plane-words .now) (a .plane-triangles .now) (a .plane-edges .now)) in
     let r : SearchReady S (a .q) (a .depth) (state (l .seq) (l .images) (l .s)) (l .candidate-floats) (l .candidate-words) =
     law.ready-same S (a .q) (a .depth) (a .depth) (state (a .seq .now) (a .images .now) (a .t)) (state (l .seq) (l .images) (l .s)) (a .candidate-floats .now) (l .candidate-floats) (a .candidate-words .now) (l .candidate-words) pre (pre .deep) (l .inv .3) (l .inv .4) (l .inv .5 .sound) in
-    let v : Visitable S (a .q) (a .depth + 1) (state (b15 .push .last .1 .1 .1 .1 .1 .0) (b15 .push .last .1 .1 .1 .1 .1 .1 .0) (l .s)) (l .candidate-floats) (l .candidate-words) = law.visitable-push S (a .q) (a .depth) (l .p) (l .seq) (b15 .push .last .1 .1 .1 .1 .1 .0) (l .images) (b15 .push .last .1 .1 .1 .1 .1 .1 .0) (l .s) (b15 .push .ensures .0) (b15 .push .ensures .1
+    let v : Visitable S (a .q) (a .depth + 1) (state (c .before .before .before .before .before .before .before .before .before .before .before .before .before .before .before .push .last .1 .1 .1 .1 .1 .0) (c .before .before .before .before .before .before .before .before .before .before .before .before .before .before .before .push .last .1 .1 .1 .1 .1 .1 .0) (l .s))
+    (l .candidate-floats) (l .candidate-words) = law.visitable-push S (a .q) (a .depth) (l .p) (l .seq) (c .before .before .before .before .before .before .before .before .before .before .before .before .before .before .before .push .last .1 .1 .1 .1 .1 .0) (l .images) (c .before .before .before .before .before .before .before .before .before .before .before .before
+    .before .before .before .push .last .1 .1 .1 .1 .1 .1 .0) (l .s) (c .before .before .before .before .before .before .before .before .before .before .before .before .before .before .before .push .ensures .0) (c .before .before .before .before .before .before .before .before .before .before .before .before .before .before .before .push .ensures .1
     (a .plane-triangles .now) (a .plane-edges .now)) (l .candidate-floats) (l .candidate-words) r (c .before .before .before .before .before .before .before .before .before .before .before .before .before .before .before .before .before .before .before .before .before .before .before .before .if1 .taken)
     (c .before .before .before .before .before .before .before .before .before .before .before .before .before .before .before .before .before .before .before .before .before .if2 .left) in
-    let j = joined t (b8) in
-    let sound : Sound S (a .q) (a .depth + 1) (state (b15 .push .last .1 .1 .1 .1 .1 .0) (b15 .push .last .1 .1 .1 .1 .1 .1 .0) (b8 .if4 .s)) =
-    law.sound-visit S (a .q) (a .depth + 1) (b15 .push .last .1 .1 .1 .1 .1 .0) (b15 .push .last .1 .1 .1 .1 .1 .1 .0) (l .s) (b8 .if4 .s) (l .candidate-floats) (b8 .if4 .candidate-floats) (l .candidate-words) (b8 .if4 .candidate-words) (j .0) (v .sound) in (
+    let j = joined t (c .before .before .before .before .before .before .before .before) in
+    let sound : Sound S (a .q) (a .depth + 1) (state (c .before .before .before .before .before .before .before .before .before .before .before .before .before .before .before .push .last .1 .1 .1 .1 .1 .0) (c .before .before .before .before .before .before .before .before .before .before .before .before .before .before .before .push .last .1 .1 .1 .1 .1 .1 .0) (c
+    .before .before .before .before .before .before .before .before .if4 .s)) =
+    law.sound-visit S (a .q) (a .depth + 1) (c .before .before .before .before .before .before .before .before .before .before .before .before .before .before .before .push .last .1 .1 .1 .1 .1 .0) (c .before .before .before .before .before .before .before .before .before .before .before .before .before .before .before .push .last .1 .1 .1 .1 .1 .1 .0) (l .s) (c .before
+    .before .before .before .before .before .before .before .if4 .s) (l .candidate-floats) (c .before .before .before .before .before .before .before .before .if4 .candidate-floats) (l .candidate-words) (c .before .before .before .before .before .before .before .before .if4 .candidate-words) (j .0) (v .sound) in (
       omega (arith, c .before .before .before .before .if6 .taken),
-      law.ready-same S (a .q) (a .depth) (a .depth + 1) (state (l .seq) (l .images) (l .s)) (state (b15 .push .last .1 .1 .1 .1 .1 .0) (b15 .push .last .1 .1 .1 .1 .1 .1 .0) (b8 .if4 .s)) (l .candidate-floats) (b8 .if4 .candidate-floats) (l .candidate-words) (b8 .if4 .candidate-words) r (omega
+      law.ready-same S (a .q) (a .depth) (a .depth + 1) (state (l .seq) (l .images) (l .s)) (state (c .before .before .before .before .before .before .before .before .before .before .before .before .before .before .before .push .last .1 .1 .1 .1 .1 .0) (c .before .before .before .before .before .before .before .before .before .before .before .before .before .before
+          .before .push .last .1 .1 .1 .1 .1 .1 .0) (c .before .before .before .before .before .before .before .before .if4 .s)) (l .candidate-floats) (c .before .before .before .before .before .before .before .before .if4 .candidate-floats) (l .candidate-words) (c .before .before .before .before .before .before .before .before .if4 .candidate-words) r (omega
           (arith, c .before .before .before .before .if6 .taken)) (j .1) (j .2) sound,
     )
 
@@ -239,54 +258,62 @@ loop-less-3 t c =
 
 loop-again-3 : (t : ℕ) → lts.Need-loop-again-3 (may.Asked, may.Learnt, push.Asked, push.Learnt, too-far.Asked, too-far.Learnt, passed.Asked, passed.Learnt, visit.Asked, visit.Learnt, last.Asked, last.Learnt, expand-below t, expand.Post) (expand-at t) expand.Post Inv-loop μ-loop
 loop-again-3 t c =
-    let b8 = c .before .before .before .before .before .before .before .before in
-    let b17 = b8 .before .before .before .before .before .before .before .before .before in
-    let b24 = b17 .before .before .before .before .before .before .before in
-    let b51 = b24 .before .before .before .before .before .before .before .before .before .before .before .before .before .before .before .before .before .before .before .before .before .before .before .before .before .before .before in
-    let a = b51 .args in
-    let pre = b51 .pre .1 in
+    let a = c .before .before .before .before .before .before .before .before .before .before .before .before .before .before .before .before .before .before .before .before .before .before .before .before .before .before .before .before .before .before .before .before .before .before .before .before .before .before .before .before .before .before .before .before
+    .before .before .before .before .before .before .before .args in
+    let pre = c .before .before .before .before .before .before .before .before .before .before .before .before .before .before .before .before .before .before .before .before .before .before .before .before .before .before .before .before .before .before .before .before .before .before .before .before .before .before .before .before .before .before .before .before
+    .before .before .before .before .before .before .before .pre .1 in
     let l = c .before .before .before .before .before .before .before .before .before .before .before .before .before .before .before .before .before .before .before .before .before .before .before .before .before .before .before .before .before .before .before .before .before .before .before .loop in
     let S : SearchAreas = (searchAreas (a .padded .now) (a .nodes .now) (a .leaf-order .now) (a .leaves .now) (a .handles .now) (a .materials .now) (a .triangles .now) (a .plane-floats .now) (a .plane-words .now) (a .plane-triangles .now) (a .plane-edges .now)) in
     let r : SearchReady S (a .q) (a .depth) (state (l .seq) (l .images) (l .s)) (l .candidate-floats) (l .candidate-words) =
     law.ready-same S (a .q) (a .depth) (a .depth) (state (a .seq .now) (a .images .now) (a .t)) (state (l .seq) (l .images) (l .s)) (a .candidate-floats .now) (l .candidate-floats) (a .candidate-words .now) (l .candidate-words) pre (pre .deep) (l .inv .3) (l .inv .4) (l .inv .5 .sound) in
-    let j = joined t (b17) in (
+    let j = joined t (c .before .before .before .before .before .before .before .before .before .before .before .before .before .before .before .before .before) in (
       omega (arith, c .before .before .before .before .before .before .before .before .before .before .before .before .before .before .before .before .before .before .before .before .before .before .before .before .before .before .before .before .before .before .before .before .before .if1 .taken),
-      b8 .last-planes .kept .1 .1 .1 .1 .1 .1 .1 .1 .1 .1 .1 .1 .1 .1 .0 ∙ b24 .push .kept .1 .1 .1 .1 .1 .0 ∙ l .inv .1,
-      b8 .last-planes .kept .1 .1 .1 .1 .1 .1 .1 .1 .1 .1 .1 .1 .1 .1 .1 .0 ∙ b24 .push .kept .1 .1 .1 .1 .1 .1 .0 ∙ l .inv .2,
-      b8 .last-planes .kept .1 .1 .1 .1 .1 .1 .1 .1 .1 .1 .1 .1 .1 .1 .1 .1 .0 ∙ j .1 ∙ l .inv .3,
-      b8 .last-planes .kept .1 .1 .1 .1 .1 .1 .1 .1 .1 .1 .1 .1 .1 .1 .1 .1 .1 .0 ∙ j .2 ∙ l .inv .4,
+      c .before .before .before .before .before .before .before .before .last-planes .kept .1 .1 .1 .1 .1 .1 .1 .1 .1 .1 .1 .1 .1 .1 .0 ∙ c .before .before .before .before .before .before .before .before .before .before .before .before .before .before .before .before .before .before .before .before .before .before .before .before .push .kept .1 .1 .1 .1 .1 .0 ∙ l .inv .1,
+      c .before .before .before .before .before .before .before .before .last-planes .kept .1 .1 .1 .1 .1 .1 .1 .1 .1 .1 .1 .1 .1 .1 .1 .0 ∙ c .before .before .before .before .before .before .before .before .before .before .before .before .before .before .before .before .before .before .before .before .before .before .before .before .push .kept .1 .1 .1 .1 .1 .1 .0 ∙ l .inv .2,
+      c .before .before .before .before .before .before .before .before .last-planes .kept .1 .1 .1 .1 .1 .1 .1 .1 .1 .1 .1 .1 .1 .1 .1 .1 .0 ∙ j .1 ∙ l .inv .3,
+      c .before .before .before .before .before .before .before .before .last-planes .kept .1 .1 .1 .1 .1 .1 .1 .1 .1 .1 .1 .1 .1 .1 .1 .1 .1 .0 ∙ j .2 ∙ l .inv .4,
       law.walked-more S (a .q) (a .depth) (a .q .order - (a .depth + 1)) (l .p) (l .inv .5)
-          (law.walked-visit S (a .q) (a .depth) (a .q .order - (a .depth + 1)) (l .p) (l .seq) (b24 .push .last .1 .1 .1 .1 .1 .0) (l .images) (b24 .push .last .1 .1 .1 .1 .1 .1 .0) (l .s) (b17 .if4 .s) (state (b8 .last-planes .last .1 .1 .1 .1 .1 .1 .1 .1 .1 .1 .1 .1 .1 .1 .0) (b8 .last-planes .last .1 .1 .1 .1 .1 .1 .1 .1 .1 .1 .1 .1 .1 .1 .1 .0) (b8 .last-planes .result))
-          (l .candidate-floats) (b17 .if4 .candidate-floats) (b8 .last-planes .last .1 .1 .1 .1 .1 .1 .1 .1 .1 .1 .1 .1 .1 .1 .1 .1 .0) (l .candidate-words) (b17 .if4 .candidate-words) (b8 .last-planes .last .1 .1 .1 .1 .1 .1 .1 .1 .1 .1 .1 .1 .1 .1 .1 .1 .1 .0)
+          (law.walked-visit S (a .q) (a .depth) (a .q .order - (a .depth + 1)) (l .p) (l .seq) (c .before .before .before .before .before .before .before .before .before .before .before .before .before .before .before .before .before .before .before .before .before .before .before .before .push .last .1 .1 .1 .1 .1 .0) (l .images) (c .before .before .before .before
+          .before .before .before .before .before .before .before .before .before .before .before .before .before .before .before .before .before .before .before .before .push .last .1 .1 .1 .1 .1 .1 .0) (l .s) (c .before .before .before .before .before .before .before .before .before .before .before .before .before .before .before .before .before .if4 .s) (state (c
+          .before .before .before .before .before .before .before .before .last-planes .last .1 .1 .1 .1 .1 .1 .1 .1 .1 .1 .1 .1 .1 .1 .0) (c .before .before .before .before .before .before .before .before .last-planes .last .1 .1 .1 .1 .1 .1 .1 .1 .1 .1 .1 .1 .1 .1 .1 .0) (c .before .before .before .before .before .before .before .before .last-planes .result))
+          (l .candidate-floats) (c .before .before .before .before .before .before .before .before .before .before .before .before .before .before .before .before .before .if4 .candidate-floats) (c .before .before .before .before .before .before .before .before .last-planes .last .1 .1 .1 .1 .1 .1 .1 .1 .1 .1 .1 .1 .1 .1 .1 .1 .0) (l .candidate-words) (c .before .before
+          .before .before .before .before .before .before .before .before .before .before .before .before .before .before .before .if4 .candidate-words) (c .before .before .before .before .before .before .before .before .last-planes .last .1 .1 .1 .1 .1 .1 .1 .1 .1 .1 .1 .1 .1 .1 .1 .1 .1 .0)
           (c .before .before .before .before .before .before .before .before .before .before .before .before .before .before .before .before .before .before .before .before .before .before .before .before .before .before .before .before .before .before .if2 .left) (omega (arith, pre .deep, pre .within)) (r .sound .seq-room) (sym
           (c .before .before .before .before .before .before .before .before .before .before .before .before .before .before .before .before .before .before .before .before .before .before .before .before .before .before .before .before .may .ensures (a .plane-triangles .now) (a .plane-edges .now))
-          ∙ c .before .before .before .before .before .before .before .before .before .before .before .before .before .before .before .before .before .before .before .before .before .before .before .before .before .before .before .if3 .taken) (b24 .push .ensures .0) (j .0) (b8 .last-planes .ensures)),
+          ∙ c .before .before .before .before .before .before .before .before .before .before .before .before .before .before .before .before .before .before .before .before .before .before .before .before .before .before .before .if3 .taken) (c .before .before .before .before .before .before .before .before .before .before .before .before .before .before .before
+          .before .before .before .before .before .before .before .before .before .push .ensures .0) (j .0) (c .before .before .before .before .before .before .before .before .last-planes .ensures)),
     )
 
 add-expand-images : (t : ℕ) → lts.Need-add-expand-images (may.Asked, may.Learnt, push.Asked, push.Learnt, too-far.Asked, too-far.Learnt, passed.Asked, passed.Learnt, visit.Asked, visit.Learnt, last.Asked, last.Learnt, expand-below t, expand.Post) (expand-at t) expand.Post Inv-loop μ-loop
 add-expand-images t c =
-    let b38 = c .before .before .before .before .before .before .before .before .before .before .before .before .before .before .before .before .before .before .before .before .before .before .before .before .before .before .before .before .before .before .before .before .before .before .before .before .before .before in
-    omega (arith, b38 .pre .1 .deep, b38 .pre .1 .within)
+    omega (
+      arith,
+      c .before .before .before .before .before .before .before .before .before .before .before .before .before .before .before .before .before .before .before .before .before .before .before .before .before .before .before .before .before .before .before .before .before .before .before .before .before .before .pre .1 .deep,
+      c .before .before .before .before
+          .before .before .before .before .before .before .before .before .before .before .before .before .before .before .before .before .before .before .before .before .before .before .before .before .before .before .before .before .before .before .before .before .before .before .pre .1 .within,
+    )
 
 expand-images-requires : (t : ℕ) → lts.Need-expand-images-requires (may.Asked, may.Learnt, push.Asked, push.Learnt, too-far.Asked, too-far.Learnt, passed.Asked, passed.Learnt, visit.Asked, visit.Learnt, last.Asked, last.Learnt, expand-below t, expand.Post) (expand-at t) expand.Post Inv-loop μ-loop
 expand-images-requires t c κs =
-    let b8 = c .before .before .before .before .before .before .before .before in
-    let b15 = b8 .before .before .before .before .before .before .before in
-    let b42 = b15 .before .before .before .before .before .before .before .before .before .before .before .before .before .before .before .before .before .before .before .before .before .before .before .before .before .before .before in
-    let a = b42 .args in
-    let pre = b42 .pre .1 in
+    let a = c .before .before .before .before .before .before .before .before .before .before .before .before .before .before .before .before .before .before .before .before .before .before .before .before .before .before .before .before .before .before .before .before .before .before .before .before .before .before .before .before .before .before .args in
+    let pre = c .before .before .before .before .before .before .before .before .before .before .before .before .before .before .before .before .before .before .before .before .before .before .before .before .before .before .before .before .before .before .before .before .before .before .before .before .before .before .before .before .before .before .pre .1 in
     let l = c .before .before .before .before .before .before .before .before .before .before .before .before .before .before .before .before .before .before .before .before .before .before .before .before .before .before .loop in
     let S : SearchAreas = (searchAreas (a .padded .now) (a .nodes .now) (a .leaf-order .now) (a .leaves .now) (a .handles .now) (a .materials .now) (a .triangles .now) (a .plane-floats .now) (a .plane-words .now) (a .plane-triangles .now) (a .plane-edges .now)) in
     let r : SearchReady S (a .q) (a .depth) (state (l .seq) (l .images) (l .s)) (l .candidate-floats) (l .candidate-words) =
     law.ready-same S (a .q) (a .depth) (a .depth) (state (a .seq .now) (a .images .now) (a .t)) (state (l .seq) (l .images) (l .s)) (a .candidate-floats .now) (l .candidate-floats) (a .candidate-words .now) (l .candidate-words) pre (pre .deep) (l .inv .3) (l .inv .4) (l .inv .5 .sound) in
-    let v : Visitable S (a .q) (a .depth + 1) (state (b15 .push .last .1 .1 .1 .1 .1 .0) (b15 .push .last .1 .1 .1 .1 .1 .1 .0) (l .s)) (l .candidate-floats) (l .candidate-words) = law.visitable-push S (a .q) (a .depth) (l .p) (l .seq) (b15 .push .last .1 .1 .1 .1 .1 .0) (l .images) (b15 .push .last .1 .1 .1 .1 .1 .1 .0) (l .s) (b15 .push .ensures .0) (b15 .push .ensures .1
+    let v : Visitable S (a .q) (a .depth + 1) (state (c .before .before .before .before .before .before .before .before .before .before .before .before .before .before .before .push .last .1 .1 .1 .1 .1 .0) (c .before .before .before .before .before .before .before .before .before .before .before .before .before .before .before .push .last .1 .1 .1 .1 .1 .1 .0) (l .s))
+    (l .candidate-floats) (l .candidate-words) = law.visitable-push S (a .q) (a .depth) (l .p) (l .seq) (c .before .before .before .before .before .before .before .before .before .before .before .before .before .before .before .push .last .1 .1 .1 .1 .1 .0) (l .images) (c .before .before .before .before .before .before .before .before .before .before .before .before
+    .before .before .before .push .last .1 .1 .1 .1 .1 .1 .0) (l .s) (c .before .before .before .before .before .before .before .before .before .before .before .before .before .before .before .push .ensures .0) (c .before .before .before .before .before .before .before .before .before .before .before .before .before .before .before .push .ensures .1
     (a .plane-triangles .now) (a .plane-edges .now)) (l .candidate-floats) (l .candidate-words) r (c .before .before .before .before .before .before .before .before .before .before .before .before .before .before .before .before .before .before .before .before .before .before .before .before .if1 .taken)
     (c .before .before .before .before .before .before .before .before .before .before .before .before .before .before .before .before .before .before .before .before .before .if2 .left) in
-    let j = joined t (b8) in
-    let sound : Sound S (a .q) (a .depth + 1) (state (b15 .push .last .1 .1 .1 .1 .1 .0) (b15 .push .last .1 .1 .1 .1 .1 .1 .0) (b8 .if4 .s)) =
-    law.sound-visit S (a .q) (a .depth + 1) (b15 .push .last .1 .1 .1 .1 .1 .0) (b15 .push .last .1 .1 .1 .1 .1 .1 .0) (l .s) (b8 .if4 .s) (l .candidate-floats) (b8 .if4 .candidate-floats) (l .candidate-words) (b8 .if4 .candidate-words) (j .0) (v .sound) in (
-      omega (arith, b42 .pre .0, pre .deep),
-      law.ready-same S (a .q) (a .depth) (a .depth + 1) (state (l .seq) (l .images) (l .s)) (state (b15 .push .last .1 .1 .1 .1 .1 .0) (b15 .push .last .1 .1 .1 .1 .1 .1 .0) (b8 .if4 .s)) (l .candidate-floats) (b8 .if4 .candidate-floats) (l .candidate-words) (b8 .if4 .candidate-words) r (omega
+    let j = joined t (c .before .before .before .before .before .before .before .before) in
+    let sound : Sound S (a .q) (a .depth + 1) (state (c .before .before .before .before .before .before .before .before .before .before .before .before .before .before .before .push .last .1 .1 .1 .1 .1 .0) (c .before .before .before .before .before .before .before .before .before .before .before .before .before .before .before .push .last .1 .1 .1 .1 .1 .1 .0) (c
+    .before .before .before .before .before .before .before .before .if4 .s)) =
+    law.sound-visit S (a .q) (a .depth + 1) (c .before .before .before .before .before .before .before .before .before .before .before .before .before .before .before .push .last .1 .1 .1 .1 .1 .0) (c .before .before .before .before .before .before .before .before .before .before .before .before .before .before .before .push .last .1 .1 .1 .1 .1 .1 .0) (l .s) (c .before
+    .before .before .before .before .before .before .before .if4 .s) (l .candidate-floats) (c .before .before .before .before .before .before .before .before .if4 .candidate-floats) (l .candidate-words) (c .before .before .before .before .before .before .before .before .if4 .candidate-words) (j .0) (v .sound) in (
+      omega (arith, c .before .before .before .before .before .before .before .before .before .before .before .before .before .before .before .before .before .before .before .before .before .before .before .before .before .before .before .before .before .before .before .before .before .before .before .before .before .before .before .before .before .before .pre .0, pre .deep),
+      law.ready-same S (a .q) (a .depth) (a .depth + 1) (state (l .seq) (l .images) (l .s)) (state (c .before .before .before .before .before .before .before .before .before .before .before .before .before .before .before .push .last .1 .1 .1 .1 .1 .0) (c .before .before .before .before .before .before .before .before .before .before .before .before .before .before
+          .before .push .last .1 .1 .1 .1 .1 .1 .0) (c .before .before .before .before .before .before .before .before .if4 .s)) (l .candidate-floats) (c .before .before .before .before .before .before .before .before .if4 .candidate-floats) (l .candidate-words) (c .before .before .before .before .before .before .before .before .if4 .candidate-words) r (omega
           (arith, pre .deep, c .before .before .before .before .before .before .if5 .left)) (j .1) (j .2) sound,
     )
 
@@ -296,28 +323,30 @@ loop-less-4 t c =
 
 loop-again-4 : (t : ℕ) → lts.Need-loop-again-4 (may.Asked, may.Learnt, push.Asked, push.Learnt, too-far.Asked, too-far.Learnt, passed.Asked, passed.Learnt, visit.Asked, visit.Learnt, last.Asked, last.Learnt, expand-below t, expand.Post) (expand-at t) expand.Post Inv-loop μ-loop
 loop-again-4 t c =
-    let b8 = c .before .before .before .before .before .before .before .before in
-    let b17 = b8 .before .before .before .before .before .before .before .before .before in
-    let b24 = b17 .before .before .before .before .before .before .before in
-    let b51 = b24 .before .before .before .before .before .before .before .before .before .before .before .before .before .before .before .before .before .before .before .before .before .before .before .before .before .before .before in
-    let a = b51 .args in
-    let pre = b51 .pre .1 in
+    let a = c .before .before .before .before .before .before .before .before .before .before .before .before .before .before .before .before .before .before .before .before .before .before .before .before .before .before .before .before .before .before .before .before .before .before .before .before .before .before .before .before .before .before .before .before
+    .before .before .before .before .before .before .before .args in
+    let pre = c .before .before .before .before .before .before .before .before .before .before .before .before .before .before .before .before .before .before .before .before .before .before .before .before .before .before .before .before .before .before .before .before .before .before .before .before .before .before .before .before .before .before .before .before
+    .before .before .before .before .before .before .before .pre .1 in
     let l = c .before .before .before .before .before .before .before .before .before .before .before .before .before .before .before .before .before .before .before .before .before .before .before .before .before .before .before .before .before .before .before .before .before .before .before .loop in
     let S : SearchAreas = (searchAreas (a .padded .now) (a .nodes .now) (a .leaf-order .now) (a .leaves .now) (a .handles .now) (a .materials .now) (a .triangles .now) (a .plane-floats .now) (a .plane-words .now) (a .plane-triangles .now) (a .plane-edges .now)) in
     let r : SearchReady S (a .q) (a .depth) (state (l .seq) (l .images) (l .s)) (l .candidate-floats) (l .candidate-words) =
     law.ready-same S (a .q) (a .depth) (a .depth) (state (a .seq .now) (a .images .now) (a .t)) (state (l .seq) (l .images) (l .s)) (a .candidate-floats .now) (l .candidate-floats) (a .candidate-words .now) (l .candidate-words) pre (pre .deep) (l .inv .3) (l .inv .4) (l .inv .5 .sound) in
-    let j = joined t (b17) in (
+    let j = joined t (c .before .before .before .before .before .before .before .before .before .before .before .before .before .before .before .before .before) in (
       omega (arith, c .before .before .before .before .before .before .before .before .before .before .before .before .before .before .before .before .before .before .before .before .before .before .before .before .before .before .before .before .before .before .before .before .before .if1 .taken),
-      b8 .expand-images .kept .1 .1 .1 .1 .1 .1 .1 .1 .1 .1 .1 .1 .1 .1 .0 ∙ b24 .push .kept .1 .1 .1 .1 .1 .0 ∙ l .inv .1,
-      b8 .expand-images .kept .1 .1 .1 .1 .1 .1 .1 .1 .1 .1 .1 .1 .1 .1 .1 .0 ∙ b24 .push .kept .1 .1 .1 .1 .1 .1 .0 ∙ l .inv .2,
-      b8 .expand-images .kept .1 .1 .1 .1 .1 .1 .1 .1 .1 .1 .1 .1 .1 .1 .1 .1 .0 ∙ j .1 ∙ l .inv .3,
-      b8 .expand-images .kept .1 .1 .1 .1 .1 .1 .1 .1 .1 .1 .1 .1 .1 .1 .1 .1 .1 .0 ∙ j .2 ∙ l .inv .4,
+      c .before .before .before .before .before .before .before .before .expand-images .kept .1 .1 .1 .1 .1 .1 .1 .1 .1 .1 .1 .1 .1 .1 .0 ∙ c .before .before .before .before .before .before .before .before .before .before .before .before .before .before .before .before .before .before .before .before .before .before .before .before .push .kept .1 .1 .1 .1 .1 .0 ∙ l .inv .1,
+      c .before .before .before .before .before .before .before .before .expand-images .kept .1 .1 .1 .1 .1 .1 .1 .1 .1 .1 .1 .1 .1 .1 .1 .0 ∙ c .before .before .before .before .before .before .before .before .before .before .before .before .before .before .before .before .before .before .before .before .before .before .before .before .push .kept .1 .1 .1 .1 .1 .1 .0 ∙ l .inv .2,
+      c .before .before .before .before .before .before .before .before .expand-images .kept .1 .1 .1 .1 .1 .1 .1 .1 .1 .1 .1 .1 .1 .1 .1 .1 .0 ∙ j .1 ∙ l .inv .3,
+      c .before .before .before .before .before .before .before .before .expand-images .kept .1 .1 .1 .1 .1 .1 .1 .1 .1 .1 .1 .1 .1 .1 .1 .1 .1 .0 ∙ j .2 ∙ l .inv .4,
       law.walked-more S (a .q) (a .depth) (a .q .order - (a .depth + 1)) (l .p) (l .inv .5)
-          (law.walked-visit S (a .q) (a .depth) (a .q .order - (a .depth + 1)) (l .p) (l .seq) (b24 .push .last .1 .1 .1 .1 .1 .0) (l .images) (b24 .push .last .1 .1 .1 .1 .1 .1 .0) (l .s) (b17 .if4 .s) (state (b8 .expand-images .last .1 .1 .1 .1 .1 .1 .1 .1 .1 .1 .1 .1 .1 .1 .0) (b8 .expand-images .last .1 .1 .1 .1 .1 .1 .1 .1 .1 .1 .1 .1 .1 .1 .1 .0)
-          (b8 .expand-images .result)) (l .candidate-floats) (b17 .if4 .candidate-floats) (b8 .expand-images .last .1 .1 .1 .1 .1 .1 .1 .1 .1 .1 .1 .1 .1 .1 .1 .1 .0) (l .candidate-words) (b17 .if4 .candidate-words) (b8 .expand-images .last .1 .1 .1 .1 .1 .1 .1 .1 .1 .1 .1 .1 .1 .1 .1 .1 .1 .0)
+          (law.walked-visit S (a .q) (a .depth) (a .q .order - (a .depth + 1)) (l .p) (l .seq) (c .before .before .before .before .before .before .before .before .before .before .before .before .before .before .before .before .before .before .before .before .before .before .before .before .push .last .1 .1 .1 .1 .1 .0) (l .images) (c .before .before .before .before
+          .before .before .before .before .before .before .before .before .before .before .before .before .before .before .before .before .before .before .before .before .push .last .1 .1 .1 .1 .1 .1 .0) (l .s) (c .before .before .before .before .before .before .before .before .before .before .before .before .before .before .before .before .before .if4 .s) (state (c
+          .before .before .before .before .before .before .before .before .expand-images .last .1 .1 .1 .1 .1 .1 .1 .1 .1 .1 .1 .1 .1 .1 .0) (c .before .before .before .before .before .before .before .before .expand-images .last .1 .1 .1 .1 .1 .1 .1 .1 .1 .1 .1 .1 .1 .1 .1 .0)
+          (c .before .before .before .before .before .before .before .before .expand-images .result)) (l .candidate-floats) (c .before .before .before .before .before .before .before .before .before .before .before .before .before .before .before .before .before .if4 .candidate-floats) (c .before .before .before .before .before .before .before .before .expand-images .last .1
+          .1 .1 .1 .1 .1 .1 .1 .1 .1 .1 .1 .1 .1 .1 .1 .0) (l .candidate-words) (c .before .before .before .before .before .before .before .before .before .before .before .before .before .before .before .before .before .if4 .candidate-words) (c .before .before .before .before .before .before .before .before .expand-images .last .1 .1 .1 .1 .1 .1 .1 .1 .1 .1 .1 .1 .1 .1 .1 .1 .1 .0)
           (c .before .before .before .before .before .before .before .before .before .before .before .before .before .before .before .before .before .before .before .before .before .before .before .before .before .before .before .before .before .before .if2 .left) (omega (arith, pre .deep, pre .within)) (r .sound .seq-room) (sym
           (c .before .before .before .before .before .before .before .before .before .before .before .before .before .before .before .before .before .before .before .before .before .before .before .before .before .before .before .before .may .ensures (a .plane-triangles .now) (a .plane-edges .now))
-          ∙ c .before .before .before .before .before .before .before .before .before .before .before .before .before .before .before .before .before .before .before .before .before .before .before .before .before .before .before .if3 .taken) (b24 .push .ensures .0) (j .0) (b8 .expand-images .ensures)),
+          ∙ c .before .before .before .before .before .before .before .before .before .before .before .before .before .before .before .before .before .before .before .before .before .before .before .before .before .before .before .if3 .taken) (c .before .before .before .before .before .before .before .before .before .before .before .before .before .before .before
+          .before .before .before .before .before .before .before .before .before .push .ensures .0) (j .0) (c .before .before .before .before .before .before .before .before .expand-images .ensures)),
     )
 
 loop-less-5 : (t : ℕ) → lts.Need-loop-less-5 (may.Asked, may.Learnt, push.Asked, push.Learnt, too-far.Asked, too-far.Learnt, passed.Asked, passed.Learnt, visit.Asked, visit.Learnt, last.Asked, last.Learnt, expand-below t, expand.Post) (expand-at t) expand.Post Inv-loop μ-loop
@@ -326,9 +355,8 @@ loop-less-5 t c =
 
 loop-again-5 : (t : ℕ) → lts.Need-loop-again-5 (may.Asked, may.Learnt, push.Asked, push.Learnt, too-far.Asked, too-far.Learnt, passed.Asked, passed.Learnt, visit.Asked, visit.Learnt, last.Asked, last.Learnt, expand-below t, expand.Post) (expand-at t) expand.Post Inv-loop μ-loop
 loop-again-5 t c =
-    let b24 = c .before .before .before .before .before .before .before .before .before .before .before .before .before .before .before .before .before .before .before .before .before .before .before .before in
-    let a = b24 .args in
-    let pre = b24 .pre .1 in
+    let a = c .before .before .before .before .before .before .before .before .before .before .before .before .before .before .before .before .before .before .before .before .before .before .before .before .args in
+    let pre = c .before .before .before .before .before .before .before .before .before .before .before .before .before .before .before .before .before .before .before .before .before .before .before .before .pre .1 in
     let l = c .before .before .before .before .before .before .before .before .loop in
     let S : SearchAreas = (searchAreas (a .padded .now) (a .nodes .now) (a .leaf-order .now) (a .leaves .now) (a .handles .now) (a .materials .now) (a .triangles .now) (a .plane-floats .now) (a .plane-words .now) (a .plane-triangles .now) (a .plane-edges .now)) in (
       omega (arith, c .before .before .before .before .before .before .if1 .taken),
@@ -358,9 +386,8 @@ same-length-4 t c =
 
 returns : (t : ℕ) → lts.Need-returns (may.Asked, may.Learnt, push.Asked, push.Learnt, too-far.Asked, too-far.Learnt, passed.Asked, passed.Learnt, visit.Asked, visit.Learnt, last.Asked, last.Learnt, expand-below t, expand.Post) (expand-at t) expand.Post Inv-loop μ-loop
 returns t c =
-    let b18 = c .before .before .before .before .before .before .before .before .before .before .before .before .before .before .before .before .before .before in
-    let a = b18 .args in
-    let pre = b18 .pre .1 in
+    let a = c .before .before .before .before .before .before .before .before .before .before .before .before .before .before .before .before .before .before .args in
+    let pre = c .before .before .before .before .before .before .before .before .before .before .before .before .before .before .before .before .before .before .pre .1 in
     let l = c .before .before .loop in
     let S : SearchAreas = (searchAreas (a .padded .now) (a .nodes .now) (a .leaf-order .now) (a .leaves .now) (a .handles .now) (a .materials .now) (a .triangles .now) (a .plane-floats .now) (a .plane-words .now) (a .plane-triangles .now) (a .plane-edges .now)) in
     let e : l .p ≡ a .q .count = omega (arith, c .if1 .left, l .inv .0) in

@@ -24,15 +24,14 @@ abbrev μ-loop : tie.MeasureT-loop
 loop-holds : tie.Need-loop-holds Inv-loop μ-loop
 unfolding upto
 loop-holds c =
-    let b15 = c .before .before .before .before .before .before .before .before .before .before .before .before .before .before .before in
-    let a = b15 .args in (
+    let a = c .before .before .before .before .before .before .before .before .before .before .before .before .before .before .before .args in (
       omega arith,
       refl,
       refl,
       refl,
       refl,
       law.walked-none (searchAreas (a .padded .now) (a .nodes .now) (a .leaf-order .now) (a .leaves .now) (a .handles .now) (a .materials .now) (a .triangles .now) (a .plane-floats .now) (a .plane-words .now) (a .plane-triangles .now) (a .plane-edges .now)) (a .q) (a .depth) (state (a .seq .now) (a .images .now) (a .t))
-          (a .candidate-floats .now) (a .candidate-words .now) (b15 .pre .1 .sound),
+          (a .candidate-floats .now) (a .candidate-words .now) (c .before .before .before .before .before .before .before .before .before .before .before .before .before .before .before .pre .1 .sound),
     )
 
 next-near-requires : tie.Need-next-near-requires Inv-loop μ-loop
@@ -71,9 +70,8 @@ returns c =
 
 add-p : tie.Need-add-p Inv-loop μ-loop
 add-p c =
-    let b24 = c .before .before .before .before .before .before .before .before .before .before .before .before .before .before .before .before .before .before .before .before .before .before .before .before in
-    let a = b24 .args in
-    let pre = b24 .pre in
+    let a = c .before .before .before .before .before .before .before .before .before .before .before .before .before .before .before .before .before .before .before .before .before .before .before .before .args in
+    let pre = c .before .before .before .before .before .before .before .before .before .before .before .before .before .before .before .before .before .before .before .before .before .before .before .before .pre in
     let l = c .before .before .before .before .before .before .before .before .loop in
     let S : SearchAreas = (searchAreas (a .padded .now) (a .nodes .now) (a .leaf-order .now) (a .leaves .now) (a .handles .now) (a .materials .now) (a .triangles .now) (a .plane-floats .now) (a .plane-words .now) (a .plane-triangles .now) (a .plane-edges .now)) in
     let k : Skipped S (a .q) (a .depth) (l .seq) (l .images) (l .p) (l .s) (c .before .before .before .next-near .result .plane) (c .before .before .before .next-near .result .tally) =
@@ -82,9 +80,8 @@ add-p c =
 
 push-requires : tie.Need-push-requires Inv-loop μ-loop
 push-requires c κs =
-    let b26 = c .before .before .before .before .before .before .before .before .before .before .before .before .before .before .before .before .before .before .before .before .before .before .before .before .before .before in
-    let a = b26 .args in
-    let pre = b26 .pre in
+    let a = c .before .before .before .before .before .before .before .before .before .before .before .before .before .before .before .before .before .before .before .before .before .before .before .before .before .before .args in
+    let pre = c .before .before .before .before .before .before .before .before .before .before .before .before .before .before .before .before .before .before .before .before .before .before .before .before .before .before .pre in
     let l = c .before .before .before .before .before .before .before .before .before .before .loop in
     let S : SearchAreas = (searchAreas (a .padded .now) (a .nodes .now) (a .leaf-order .now) (a .leaves .now) (a .handles .now) (a .materials .now) (a .triangles .now) (a .plane-floats .now) (a .plane-words .now) (a .plane-triangles .now) (a .plane-edges .now)) in
     let k : Skipped S (a .q) (a .depth) (l .seq) (l .images) (l .p) (l .s) (c .before .before .before .before .before .next-near .result .plane) (c .before .before .before .before .before .next-near .result .tally) =
@@ -96,66 +93,75 @@ push-requires c κs =
 
 add-made : tie.Need-add-made Inv-loop μ-loop
 add-made c =
-    let b33 = c .before .before .before .before .before .before .before .before .before .before .before .before .before .before .before .before .before .before .before .before .before .before .before .before .before .before .before .before .before .before .before .before .before in
-    omega (arith, b33 .pre .1 .deep, b33 .pre .1 .within)
+    omega (
+      arith,
+      c .before .before .before .before .before .before .before .before .before .before .before .before .before .before .before .before .before .before .before .before .before .before .before .before .before .before .before .before .before .before .before .before .before .pre .1 .deep,
+      c .before .before .before .before .before .before .before .before .before
+          .before .before .before .before .before .before .before .before .before .before .before .before .before .before .before .before .before .before .before .before .before .before .before .before .pre .1 .within,
+    )
 
 made-requires : tie.Need-made-requires Inv-loop μ-loop
 made-requires c κs =
-    let b12 = c .before .before .before .before .before .before .before .before .before .before .before .before in
-    let b33 = b12 .before .before .before .before .before .before .before .before .before .before .before .before .before .before .before .before .before .before .before .before .before in
-    let a = b33 .args in
-    let pre = b33 .pre in
+    let a = c .before .before .before .before .before .before .before .before .before .before .before .before .before .before .before .before .before .before .before .before .before .before .before .before .before .before .before .before .before .before .before .before .before .args in
+    let pre = c .before .before .before .before .before .before .before .before .before .before .before .before .before .before .before .before .before .before .before .before .before .before .before .before .before .before .before .before .before .before .before .before .before .pre in
     let l = c .before .before .before .before .before .before .before .before .before .before .before .before .before .before .before .before .before .loop in
     let S : SearchAreas = (searchAreas (a .padded .now) (a .nodes .now) (a .leaf-order .now) (a .leaves .now) (a .handles .now) (a .materials .now) (a .triangles .now) (a .plane-floats .now) (a .plane-words .now) (a .plane-triangles .now) (a .plane-edges .now)) in
     let r : SearchReady S (a .q) (a .depth) (state (l .seq) (l .images) (l .s)) (l .candidate-floats) (l .candidate-words) =
     law.ready-same S (a .q) (a .depth) (a .depth) (state (a .seq .now) (a .images .now) (a .t)) (state (l .seq) (l .images) (l .s)) (a .candidate-floats .now) (l .candidate-floats) (a .candidate-words .now) (l .candidate-words) (pre .1) (pre .1 .deep) (l .inv .3) (l .inv .4) (l .inv .5 .sound) in
-    let k : Skipped S (a .q) (a .depth) (l .seq) (l .images) (l .p) (l .s) (b12 .next-near .result .plane) (b12 .next-near .result .tally) =
-    b12 .next-near .ensures (a .padded .now) (a .nodes .now) (a .leaf-order .now) (a .leaves .now) (a .handles .now) (a .materials .now) (a .triangles .now) (a .plane-triangles .now) (a .plane-edges .now) in
-    let w : Walked S (a .q) (a .depth) (upto (at (firstsOf S (a .q)) (a .q .order - (a .depth + 1)) (take (a .depth) (a .seq .now))) (b12 .next-near .result .plane)) (state (a .seq .now) (a .images .now) (a .t)) (a .candidate-floats .now) (a .candidate-words .now) (state (l .seq) (l .images) (b12 .next-near .result .tally)) (l .candidate-floats) (l .candidate-words) =
+    let k : Skipped S (a .q) (a .depth) (l .seq) (l .images) (l .p) (l .s) (c .before .before .before .before .before .before .before .before .before .before .before .before .next-near .result .plane) (c .before .before .before .before .before .before .before .before .before .before .before .before .next-near .result .tally) =
+    c .before .before .before .before .before .before .before .before .before .before .before .before .next-near .ensures (a .padded .now) (a .nodes .now) (a .leaf-order .now) (a .leaves .now) (a .handles .now) (a .materials .now) (a .triangles .now) (a .plane-triangles .now) (a .plane-edges .now) in
+    let w : Walked S (a .q) (a .depth) (upto (at (firstsOf S (a .q)) (a .q .order - (a .depth + 1)) (take (a .depth) (a .seq .now))) (c .before .before .before .before .before .before .before .before .before .before .before .before .next-near .result .plane)) (state (a .seq .now) (a .images .now) (a .t)) (a .candidate-floats .now) (a .candidate-words .now) (state (l .seq)
+    (l .images) (c .before .before .before .before .before .before .before .before .before .before .before .before .next-near .result .tally)) (l .candidate-floats) (l .candidate-words) =
     k .skips .walked (state (a .seq .now) (a .images .now) (a .t)) (a .candidate-floats .now) (a .candidate-words .now) (l .candidate-floats) (l .candidate-words) r (pre .0) (l .inv .5) in
-    let r₁ : SearchReady S (a .q) (a .depth) (state (l .seq) (l .images) (b12 .next-near .result .tally)) (l .candidate-floats) (l .candidate-words) =
-    law.ready-same S (a .q) (a .depth) (a .depth) (state (l .seq) (l .images) (l .s)) (state (l .seq) (l .images) (b12 .next-near .result .tally)) (l .candidate-floats) (l .candidate-floats) (l .candidate-words) (l .candidate-words) r (r .deep) refl refl (w .sound) in
-    let h : b12 .next-near .result .plane < a .q .count = omega (arith, k .within, c .before .before .before .before .before .before .before .before .before .if2 .left) in
-    let v : Visitable S (a .q) (a .depth + 1) (state (c .before .before .before .before .before .before .push .last .1 .1 .1 .1 .1 .0) (c .before .before .before .before .before .before .push .last .1 .1 .1 .1 .1 .1 .0) (b12 .next-near .result .tally)) (l .candidate-floats) (l .candidate-words) =
-    law.visitable-push S (a .q) (a .depth) (b12 .next-near .result .plane) (l .seq) (c .before .before .before .before .before .before .push .last .1 .1 .1 .1 .1 .0) (l .images) (c .before .before .before .before .before .before .push .last .1 .1 .1 .1 .1 .1 .0) (b12 .next-near .result .tally) (c .before .before .before .before .before .before .push .ensures .0)
+    let r₁ : SearchReady S (a .q) (a .depth) (state (l .seq) (l .images) (c .before .before .before .before .before .before .before .before .before .before .before .before .next-near .result .tally)) (l .candidate-floats) (l .candidate-words) =
+    law.ready-same S (a .q) (a .depth) (a .depth) (state (l .seq) (l .images) (l .s)) (state (l .seq) (l .images) (c .before .before .before .before .before .before .before .before .before .before .before .before .next-near .result .tally)) (l .candidate-floats) (l .candidate-floats) (l .candidate-words) (l .candidate-words) r (r .deep) refl refl (w .sound) in
+    let h : c .before .before .before .before .before .before .before .before .before .before .before .before .next-near .result .plane < a .q .count = omega (arith, k .within, c .before .before .before .before .before .before .before .before .before .if2 .left) in
+    let v : Visitable S (a .q) (a .depth + 1) (state (c .before .before .before .before .before .before .push .last .1 .1 .1 .1 .1 .0) (c .before .before .before .before .before .before .push .last .1 .1 .1 .1 .1 .1 .0) (c .before .before .before .before .before .before .before .before .before .before .before .before .next-near .result .tally)) (l .candidate-floats) (l .candidate-words) =
+    law.visitable-push S (a .q) (a .depth) (c .before .before .before .before .before .before .before .before .before .before .before .before .next-near .result .plane) (l .seq) (c .before .before .before .before .before .before .push .last .1 .1 .1 .1 .1 .0) (l .images) (c .before .before .before .before .before .before .push .last .1 .1 .1 .1 .1 .1 .0) (c .before
+    .before .before .before .before .before .before .before .before .before .before .before .next-near .result .tally) (c .before .before .before .before .before .before .push .ensures .0)
     (c .before .before .before .before .before .before .push .ensures .1 (a .plane-triangles .now) (a .plane-edges .now)) (l .candidate-floats) (l .candidate-words) r₁ h (k .next h .0) in
     (v .lent .planes, ((omega (arith, v .within, v .sound .seq-room), omega (arith, v .within, v .sound .images-room)), v .sound .planes))
 
 add-judge : tie.Need-add-judge Inv-loop μ-loop
 add-judge c =
-    let b35 = c .before .before .before .before .before .before .before .before .before .before .before .before .before .before .before .before .before .before .before .before .before .before .before .before .before .before .before .before .before .before .before .before .before .before .before in
-    omega (arith, b35 .pre .1 .deep, b35 .pre .1 .within)
+    omega (
+      arith,
+      c .before .before .before .before .before .before .before .before .before .before .before .before .before .before .before .before .before .before .before .before .before .before .before .before .before .before .before .before .before .before .before .before .before .before .before .pre .1 .deep,
+      c .before .before .before .before .before .before .before
+          .before .before .before .before .before .before .before .before .before .before .before .before .before .before .before .before .before .before .before .before .before .before .before .before .before .before .before .before .pre .1 .within,
+    )
 
 judge-requires : tie.Need-judge-requires Inv-loop μ-loop
 judge-requires c κs =
-    let b12 = c .before .before .before .before .before .before .before .before .before .before .before .before in
-    let b18 = b12 .before .before .before .before .before .before in
-    let b39 = b18 .before .before .before .before .before .before .before .before .before .before .before .before .before .before .before .before .before .before .before .before .before in
-    let a = b39 .args in
-    let pre = b39 .pre in
+    let a = c .before .before .before .before .before .before .before .before .before .before .before .before .before .before .before .before .before .before .before .before .before .before .before .before .before .before .before .before .before .before .before .before .before .before .before .before .before .before .before .args in
+    let pre = c .before .before .before .before .before .before .before .before .before .before .before .before .before .before .before .before .before .before .before .before .before .before .before .before .before .before .before .before .before .before .before .before .before .before .before .before .before .before .before .pre in
     let l = c .before .before .before .before .before .before .before .before .before .before .before .before .before .before .before .before .before .before .before .before .before .before .before .loop in
     let S : SearchAreas = (searchAreas (a .padded .now) (a .nodes .now) (a .leaf-order .now) (a .leaves .now) (a .handles .now) (a .materials .now) (a .triangles .now) (a .plane-floats .now) (a .plane-words .now) (a .plane-triangles .now) (a .plane-edges .now)) in
     let r : SearchReady S (a .q) (a .depth) (state (l .seq) (l .images) (l .s)) (l .candidate-floats) (l .candidate-words) =
     law.ready-same S (a .q) (a .depth) (a .depth) (state (a .seq .now) (a .images .now) (a .t)) (state (l .seq) (l .images) (l .s)) (a .candidate-floats .now) (l .candidate-floats) (a .candidate-words .now) (l .candidate-words) (pre .1) (pre .1 .deep) (l .inv .3) (l .inv .4) (l .inv .5 .sound) in
-    let k : Skipped S (a .q) (a .depth) (l .seq) (l .images) (l .p) (l .s) (b18 .next-near .result .plane) (b18 .next-near .result .tally) =
-    b18 .next-near .ensures (a .padded .now) (a .nodes .now) (a .leaf-order .now) (a .leaves .now) (a .handles .now) (a .materials .now) (a .triangles .now) (a .plane-triangles .now) (a .plane-edges .now) in
-    let w : Walked S (a .q) (a .depth) (upto (at (firstsOf S (a .q)) (a .q .order - (a .depth + 1)) (take (a .depth) (a .seq .now))) (b18 .next-near .result .plane)) (state (a .seq .now) (a .images .now) (a .t)) (a .candidate-floats .now) (a .candidate-words .now) (state (l .seq) (l .images) (b18 .next-near .result .tally)) (l .candidate-floats) (l .candidate-words) =
+    let k : Skipped S (a .q) (a .depth) (l .seq) (l .images) (l .p) (l .s) (c .before .before .before .before .before .before .before .before .before .before .before .before .before .before .before .before .before .before .next-near .result .plane) (c .before .before .before .before .before .before .before .before .before .before .before .before .before .before .before
+    .before .before .before .next-near .result .tally) =
+    c .before .before .before .before .before .before .before .before .before .before .before .before .before .before .before .before .before .before .next-near .ensures (a .padded .now) (a .nodes .now) (a .leaf-order .now) (a .leaves .now) (a .handles .now) (a .materials .now) (a .triangles .now) (a .plane-triangles .now) (a .plane-edges .now) in
+    let w : Walked S (a .q) (a .depth) (upto (at (firstsOf S (a .q)) (a .q .order - (a .depth + 1)) (take (a .depth) (a .seq .now))) (c .before .before .before .before .before .before .before .before .before .before .before .before .before .before .before .before .before .before .next-near .result .plane)) (state (a .seq .now) (a .images .now) (a .t))
+    (a .candidate-floats .now) (a .candidate-words .now) (state (l .seq) (l .images) (c .before .before .before .before .before .before .before .before .before .before .before .before .before .before .before .before .before .before .next-near .result .tally)) (l .candidate-floats) (l .candidate-words) =
     k .skips .walked (state (a .seq .now) (a .images .now) (a .t)) (a .candidate-floats .now) (a .candidate-words .now) (l .candidate-floats) (l .candidate-words) r (pre .0) (l .inv .5) in
-    let r₁ : SearchReady S (a .q) (a .depth) (state (l .seq) (l .images) (b18 .next-near .result .tally)) (l .candidate-floats) (l .candidate-words) =
-    law.ready-same S (a .q) (a .depth) (a .depth) (state (l .seq) (l .images) (l .s)) (state (l .seq) (l .images) (b18 .next-near .result .tally)) (l .candidate-floats) (l .candidate-floats) (l .candidate-words) (l .candidate-words) r (r .deep) refl refl (w .sound) in
-    let h : b18 .next-near .result .plane < a .q .count = omega (arith, k .within, c .before .before .before .before .before .before .before .before .before .before .before .before .before .before .before .if2 .left) in
-    law.visitable-push S (a .q) (a .depth) (b18 .next-near .result .plane) (l .seq) (b12 .push .last .1 .1 .1 .1 .1 .0) (l .images) (b12 .push .last .1 .1 .1 .1 .1 .1 .0) (b18 .next-near .result .tally) (b12 .push .ensures .0) (b12 .push .ensures .1 (a .plane-triangles .now) (a .plane-edges .now)) (l .candidate-floats) (l .candidate-words) r₁ h (k .next h .0)
+    let r₁ : SearchReady S (a .q) (a .depth) (state (l .seq) (l .images) (c .before .before .before .before .before .before .before .before .before .before .before .before .before .before .before .before .before .before .next-near .result .tally)) (l .candidate-floats) (l .candidate-words) =
+    law.ready-same S (a .q) (a .depth) (a .depth) (state (l .seq) (l .images) (l .s)) (state (l .seq) (l .images) (c .before .before .before .before .before .before .before .before .before .before .before .before .before .before .before .before .before .before .next-near .result .tally)) (l .candidate-floats) (l .candidate-floats) (l .candidate-words) (l .candidate-words) r
+    (r .deep) refl refl (w .sound) in
+    let h : c .before .before .before .before .before .before .before .before .before .before .before .before .before .before .before .before .before .before .next-near .result .plane < a .q .count = omega (arith, k .within, c .before .before .before .before .before .before .before .before .before .before .before .before .before .before .before .if2 .left) in
+    law.visitable-push S (a .q) (a .depth) (c .before .before .before .before .before .before .before .before .before .before .before .before .before .before .before .before .before .before .next-near .result .plane) (l .seq) (c .before .before .before .before .before .before .before .before .before .before .before .before .push .last .1 .1 .1 .1 .1 .0) (l .images) (c
+    .before .before .before .before .before .before .before .before .before .before .before .before .push .last .1 .1 .1 .1 .1 .1 .0) (c .before .before .before .before .before .before .before .before .before .before .before .before .before .before .before .before .before .before .next-near .result .tally) (c .before .before .before .before .before .before .before
+    .before .before .before .before .before .push .ensures .0) (c .before .before .before .before .before .before .before .before .before .before .before .before .push .ensures .1 (a .plane-triangles .now) (a .plane-edges .now)) (l .candidate-floats) (l .candidate-words) r₁ h (k .next h .0)
 
 loop-less : tie.Need-loop-less Inv-loop μ-loop
 loop-less c =
-    let b23 = c .before .before .before .before .before .before .before .before .before .before .before .before .before .before .before .before .before .before .before .before .before .before .before in
-    let b44 = b23 .before .before .before .before .before .before .before .before .before .before .before .before .before .before .before .before .before .before .before .before .before in
-    let a = b44 .args in
-    let pre = b44 .pre in
+    let a = c .before .before .before .before .before .before .before .before .before .before .before .before .before .before .before .before .before .before .before .before .before .before .before .before .before .before .before .before .before .before .before .before .before .before .before .before .before .before .before .before .before .before .before .before .args in
+    let pre = c .before .before .before .before .before .before .before .before .before .before .before .before .before .before .before .before .before .before .before .before .before .before .before .before .before .before .before .before .before .before .before .before .before .before .before .before .before .before .before .before .before .before .before .before .pre in
     let l = c .before .before .before .before .before .before .before .before .before .before .before .before .before .before .before .before .before .before .before .before .before .before .before .before .before .before .before .before .loop in
     let S : SearchAreas = (searchAreas (a .padded .now) (a .nodes .now) (a .leaf-order .now) (a .leaves .now) (a .handles .now) (a .materials .now) (a .triangles .now) (a .plane-floats .now) (a .plane-words .now) (a .plane-triangles .now) (a .plane-edges .now)) in
-    let k : Skipped S (a .q) (a .depth) (l .seq) (l .images) (l .p) (l .s) (b23 .next-near .result .plane) (b23 .next-near .result .tally) =
-    b23 .next-near .ensures (a .padded .now) (a .nodes .now) (a .leaf-order .now) (a .leaves .now) (a .handles .now) (a .materials .now) (a .triangles .now) (a .plane-triangles .now) (a .plane-edges .now) in
+    let k : Skipped S (a .q) (a .depth) (l .seq) (l .images) (l .p) (l .s) (c .before .before .before .before .before .before .before .before .before .before .before .before .before .before .before .before .before .before .before .before .before .before .before .next-near .result .plane) (c .before .before .before .before .before .before .before .before .before .before
+    .before .before .before .before .before .before .before .before .before .before .before .before .before .next-near .result .tally) =
+    c .before .before .before .before .before .before .before .before .before .before .before .before .before .before .before .before .before .before .before .before .before .before .before .next-near .ensures (a .padded .now) (a .nodes .now) (a .leaf-order .now) (a .leaves .now) (a .handles .now) (a .materials .now) (a .triangles .now) (a .plane-triangles .now) (a .plane-edges .now) in
     omega (
       arith,
       k .within,
@@ -167,92 +173,107 @@ loop-less c =
 
 loop-again : tie.Need-loop-again Inv-loop μ-loop
 loop-again c =
-    let b17 = c .before .before .before .before .before .before .before .before .before .before .before .before .before .before .before .before .before in
-    let b23 = b17 .before .before .before .before .before .before in
-    let b44 = b23 .before .before .before .before .before .before .before .before .before .before .before .before .before .before .before .before .before .before .before .before .before in
-    let a = b44 .args in
-    let pre = b44 .pre in
+    let a = c .before .before .before .before .before .before .before .before .before .before .before .before .before .before .before .before .before .before .before .before .before .before .before .before .before .before .before .before .before .before .before .before .before .before .before .before .before .before .before .before .before .before .before .before .args in
+    let pre = c .before .before .before .before .before .before .before .before .before .before .before .before .before .before .before .before .before .before .before .before .before .before .before .before .before .before .before .before .before .before .before .before .before .before .before .before .before .before .before .before .before .before .before .before .pre in
     let l = c .before .before .before .before .before .before .before .before .before .before .before .before .before .before .before .before .before .before .before .before .before .before .before .before .before .before .before .before .loop in
     let S : SearchAreas = (searchAreas (a .padded .now) (a .nodes .now) (a .leaf-order .now) (a .leaves .now) (a .handles .now) (a .materials .now) (a .triangles .now) (a .plane-floats .now) (a .plane-words .now) (a .plane-triangles .now) (a .plane-edges .now)) in
     let r : SearchReady S (a .q) (a .depth) (state (l .seq) (l .images) (l .s)) (l .candidate-floats) (l .candidate-words) =
     law.ready-same S (a .q) (a .depth) (a .depth) (state (a .seq .now) (a .images .now) (a .t)) (state (l .seq) (l .images) (l .s)) (a .candidate-floats .now) (l .candidate-floats) (a .candidate-words .now) (l .candidate-words) (pre .1) (pre .1 .deep) (l .inv .3) (l .inv .4) (l .inv .5 .sound) in
-    let k : Skipped S (a .q) (a .depth) (l .seq) (l .images) (l .p) (l .s) (b23 .next-near .result .plane) (b23 .next-near .result .tally) =
-    b23 .next-near .ensures (a .padded .now) (a .nodes .now) (a .leaf-order .now) (a .leaves .now) (a .handles .now) (a .materials .now) (a .triangles .now) (a .plane-triangles .now) (a .plane-edges .now) in
-    let w : Walked S (a .q) (a .depth) (upto (at (firstsOf S (a .q)) (a .q .order - (a .depth + 1)) (take (a .depth) (a .seq .now))) (b23 .next-near .result .plane)) (state (a .seq .now) (a .images .now) (a .t)) (a .candidate-floats .now) (a .candidate-words .now) (state (l .seq) (l .images) (b23 .next-near .result .tally)) (l .candidate-floats) (l .candidate-words) =
+    let k : Skipped S (a .q) (a .depth) (l .seq) (l .images) (l .p) (l .s) (c .before .before .before .before .before .before .before .before .before .before .before .before .before .before .before .before .before .before .before .before .before .before .before .next-near .result .plane) (c .before .before .before .before .before .before .before .before .before .before
+    .before .before .before .before .before .before .before .before .before .before .before .before .before .next-near .result .tally) =
+    c .before .before .before .before .before .before .before .before .before .before .before .before .before .before .before .before .before .before .before .before .before .before .before .next-near .ensures (a .padded .now) (a .nodes .now) (a .leaf-order .now) (a .leaves .now) (a .handles .now) (a .materials .now) (a .triangles .now) (a .plane-triangles .now) (a .plane-edges .now) in
+    let w : Walked S (a .q) (a .depth) (upto (at (firstsOf S (a .q)) (a .q .order - (a .depth + 1)) (take (a .depth) (a .seq .now))) (c .before .before .before .before .before .before .before .before .before .before .before .before .before .before .before .before .before .before .before .before .before .before .before .next-near .result .plane)) (state (a .seq .now)
+    (a .images .now) (a .t)) (a .candidate-floats .now) (a .candidate-words .now) (state (l .seq) (l .images) (c .before .before .before .before .before .before .before .before .before .before .before .before .before .before .before .before .before .before .before .before .before .before .before .next-near .result .tally)) (l .candidate-floats) (l .candidate-words) =
     k .skips .walked (state (a .seq .now) (a .images .now) (a .t)) (a .candidate-floats .now) (a .candidate-words .now) (l .candidate-floats) (l .candidate-words) r (pre .0) (l .inv .5) in
-    let r₁ : SearchReady S (a .q) (a .depth) (state (l .seq) (l .images) (b23 .next-near .result .tally)) (l .candidate-floats) (l .candidate-words) =
-    law.ready-same S (a .q) (a .depth) (a .depth) (state (l .seq) (l .images) (l .s)) (state (l .seq) (l .images) (b23 .next-near .result .tally)) (l .candidate-floats) (l .candidate-floats) (l .candidate-words) (l .candidate-words) r (r .deep) refl refl (w .sound) in
-    let h : b23 .next-near .result .plane < a .q .count = omega (arith, k .within, c .before .before .before .before .before .before .before .before .before .before .before .before .before .before .before .before .before .before .before .before .if2 .left) in
-    let v : Visitable S (a .q) (a .depth + 1) (state (b17 .push .last .1 .1 .1 .1 .1 .0) (b17 .push .last .1 .1 .1 .1 .1 .1 .0) (b23 .next-near .result .tally)) (l .candidate-floats) (l .candidate-words) =
-    law.visitable-push S (a .q) (a .depth) (b23 .next-near .result .plane) (l .seq) (b17 .push .last .1 .1 .1 .1 .1 .0) (l .images) (b17 .push .last .1 .1 .1 .1 .1 .1 .0) (b23 .next-near .result .tally) (b17 .push .ensures .0) (b17 .push .ensures .1 (a .plane-triangles .now) (a .plane-edges .now)) (l .candidate-floats) (l .candidate-words) r₁ h (k .next h .0) in (
+    let r₁ : SearchReady S (a .q) (a .depth) (state (l .seq) (l .images) (c .before .before .before .before .before .before .before .before .before .before .before .before .before .before .before .before .before .before .before .before .before .before .before .next-near .result .tally)) (l .candidate-floats) (l .candidate-words) =
+    law.ready-same S (a .q) (a .depth) (a .depth) (state (l .seq) (l .images) (l .s)) (state (l .seq) (l .images) (c .before .before .before .before .before .before .before .before .before .before .before .before .before .before .before .before .before .before .before .before .before .before .before .next-near .result .tally)) (l .candidate-floats) (l .candidate-floats)
+    (l .candidate-words) (l .candidate-words) r (r .deep) refl refl (w .sound) in
+    let h : c .before .before .before .before .before .before .before .before .before .before .before .before .before .before .before .before .before .before .before .before .before .before .before .next-near .result .plane < a .q .count = omega (
+      arith,
+      k .within,
+      c .before .before .before .before .before .before .before .before .before .before .before .before .before
+          .before .before .before .before .before .before .before .if2 .left,
+    ) in
+    let v : Visitable S (a .q) (a .depth + 1) (state (c .before .before .before .before .before .before .before .before .before .before .before .before .before .before .before .before .before .push .last .1 .1 .1 .1 .1 .0) (c .before .before .before .before .before .before .before .before .before .before .before .before .before .before .before .before .before .push .last .1
+    .1 .1 .1 .1 .1 .0) (c .before .before .before .before .before .before .before .before .before .before .before .before .before .before .before .before .before .before .before .before .before .before .before .next-near .result .tally)) (l .candidate-floats) (l .candidate-words) =
+    law.visitable-push S (a .q) (a .depth) (c .before .before .before .before .before .before .before .before .before .before .before .before .before .before .before .before .before .before .before .before .before .before .before .next-near .result .plane) (l .seq) (c .before .before .before .before .before .before .before .before .before .before .before .before .before
+    .before .before .before .before .push .last .1 .1 .1 .1 .1 .0) (l .images) (c .before .before .before .before .before .before .before .before .before .before .before .before .before .before .before .before .before .push .last .1 .1 .1 .1 .1 .1 .0) (c .before .before .before .before .before .before .before .before .before .before .before .before .before .before
+    .before .before .before .before .before .before .before .before .before .next-near .result .tally) (c .before .before .before .before .before .before .before .before .before .before .before .before .before .before .before .before .before .push .ensures .0) (c .before .before .before .before .before .before .before .before .before .before .before .before
+    .before .before .before .before .before .push .ensures .1 (a .plane-triangles .now) (a .plane-edges .now)) (l .candidate-floats) (l .candidate-words) r₁ h (k .next h .0) in (
       omega (arith, h),
-      b17 .push .kept .1 .1 .1 .1 .1 .0 ∙ l .inv .1,
-      b17 .push .kept .1 .1 .1 .1 .1 .1 .0 ∙ l .inv .2,
+      c .before .before .before .before .before .before .before .before .before .before .before .before .before .before .before .before .before .push .kept .1 .1 .1 .1 .1 .0 ∙ l .inv .1,
+      c .before .before .before .before .before .before .before .before .before .before .before .before .before .before .before .before .before .push .kept .1 .1 .1 .1 .1 .1 .0 ∙ l .inv .2,
       c .before .before .before .before .judge .kept .1 .1 .1 .1 .1 .1 .1 .1 .1 .1 .1 .1 .1 .1 .1 .1 .0 ∙ l .inv .3,
       c .before .before .before .before .judge .kept .1 .1 .1 .1 .1 .1 .1 .1 .1 .1 .1 .1 .1 .1 .1 .1 .1 .0 ∙ l .inv .4,
-      law.walked-more S (a .q) (a .depth) (a .q .order - (a .depth + 1)) (b23 .next-near .result .plane) w
-          (law.walked-last S (a .q) (a .depth) (a .q .order - (a .depth + 1)) (b23 .next-near .result .plane) (l .seq) (b17 .push .last .1 .1 .1 .1 .1 .0) (l .images) (b17 .push .last .1 .1 .1 .1 .1 .1 .0) (b23 .next-near .result .tally) (c .before .before .before .before .judge .result) (l .candidate-floats)
-          (c .before .before .before .before .judge .last .1 .1 .1 .1 .1 .1 .1 .1 .1 .1 .1 .1 .1 .1 .1 .1 .0) (l .candidate-words) (c .before .before .before .before .judge .last .1 .1 .1 .1 .1 .1 .1 .1 .1 .1 .1 .1 .1 .1 .1 .1 .1 .0) (k .next h .0) (omega (arith, r .deep, r .within)) (r .sound .seq-room) (k .next h .1) (b17 .push .ensures .0) (c .before .before .before .before .judge .ensures)
-          (law.sound-visit S (a .q) (a .depth + 1) (b17 .push .last .1 .1 .1 .1 .1 .0) (b17 .push .last .1 .1 .1 .1 .1 .1 .0) (b23 .next-near .result .tally) (c .before .before .before .before .judge .result) (l .candidate-floats) (c .before .before .before .before .judge .last .1 .1 .1 .1 .1 .1 .1 .1 .1 .1 .1 .1 .1 .1 .1 .1 .0) (l .candidate-words)
+      law.walked-more S (a .q) (a .depth) (a .q .order - (a .depth + 1)) (c .before .before .before .before .before .before .before .before .before .before .before .before .before .before .before .before .before .before .before .before .before .before .before .next-near .result .plane) w
+          (law.walked-last S (a .q) (a .depth) (a .q .order - (a .depth + 1)) (c .before .before .before .before .before .before .before .before .before .before .before .before .before .before .before .before .before .before .before .before .before .before .before .next-near .result .plane) (l .seq) (c .before .before .before .before .before .before .before .before
+          .before .before .before .before .before .before .before .before .before .push .last .1 .1 .1 .1 .1 .0) (l .images) (c .before .before .before .before .before .before .before .before .before .before .before .before .before .before .before .before .before .push .last .1 .1 .1 .1 .1 .1 .0) (c .before .before .before .before .before .before .before .before
+          .before .before .before .before .before .before .before .before .before .before .before .before .before .before .before .next-near .result .tally) (c .before .before .before .before .judge .result) (l .candidate-floats)
+          (c .before .before .before .before .judge .last .1 .1 .1 .1 .1 .1 .1 .1 .1 .1 .1 .1 .1 .1 .1 .1 .0) (l .candidate-words) (c .before .before .before .before .judge .last .1 .1 .1 .1 .1 .1 .1 .1 .1 .1 .1 .1 .1 .1 .1 .1 .1 .0) (k .next h .0) (omega (arith, r .deep, r .within)) (r .sound .seq-room) (k .next h .1) (c .before .before .before .before .before .before
+          .before .before .before .before .before .before .before .before .before .before .before .push .ensures .0) (c .before .before .before .before .judge .ensures)
+          (law.sound-visit S (a .q) (a .depth + 1) (c .before .before .before .before .before .before .before .before .before .before .before .before .before .before .before .before .before .push .last .1 .1 .1 .1 .1 .0) (c .before .before .before .before .before .before .before .before .before .before .before .before .before .before .before .before .before .push .last .1 .1
+          .1 .1 .1 .1 .0) (c .before .before .before .before .before .before .before .before .before .before .before .before .before .before .before .before .before .before .before .before .before .before .before .next-near .result .tally) (c .before .before .before .before .judge .result) (l .candidate-floats) (c .before .before .before .before .judge .last .1 .1 .1 .1
+          .1 .1 .1 .1 .1 .1 .1 .1 .1 .1 .1 .1 .0) (l .candidate-words)
           (c .before .before .before .before .judge .last .1 .1 .1 .1 .1 .1 .1 .1 .1 .1 .1 .1 .1 .1 .1 .1 .1 .0) (c .before .before .before .before .judge .ensures) (v .sound)) (omega (arith, pre .0))),
     )
 
 passed-over-requires : tie.Need-passed-over-requires Inv-loop μ-loop
 passed-over-requires c κs =
-    let b14 = c .before .before .before .before .before .before .before .before .before .before .before .before .before .before in
-    let b35 = b14 .before .before .before .before .before .before .before .before .before .before .before .before .before .before .before .before .before .before .before .before .before in
-    let a = b35 .args in
-    let pre = b35 .pre in
+    let a = c .before .before .before .before .before .before .before .before .before .before .before .before .before .before .before .before .before .before .before .before .before .before .before .before .before .before .before .before .before .before .before .before .before .before .before .args in
+    let pre = c .before .before .before .before .before .before .before .before .before .before .before .before .before .before .before .before .before .before .before .before .before .before .before .before .before .before .before .before .before .before .before .before .before .before .before .pre in
     let l = c .before .before .before .before .before .before .before .before .before .before .before .before .before .before .before .before .before .before .before .loop in
     let S : SearchAreas = (searchAreas (a .padded .now) (a .nodes .now) (a .leaf-order .now) (a .leaves .now) (a .handles .now) (a .materials .now) (a .triangles .now) (a .plane-floats .now) (a .plane-words .now) (a .plane-triangles .now) (a .plane-edges .now)) in
-    let k : Skipped S (a .q) (a .depth) (l .seq) (l .images) (l .p) (l .s) (b14 .next-near .result .plane) (b14 .next-near .result .tally) =
-    b14 .next-near .ensures (a .padded .now) (a .nodes .now) (a .leaf-order .now) (a .leaves .now) (a .handles .now) (a .materials .now) (a .triangles .now) (a .plane-triangles .now) (a .plane-edges .now) in
-    let h : b14 .next-near .result .plane < a .q .count = omega (arith, k .within, c .before .before .before .before .before .before .before .before .before .before .before .if2 .left) in
+    let k : Skipped S (a .q) (a .depth) (l .seq) (l .images) (l .p) (l .s) (c .before .before .before .before .before .before .before .before .before .before .before .before .before .before .next-near .result .plane) (c .before .before .before .before .before .before .before .before .before .before .before .before .before .before .next-near .result .tally) =
+    c .before .before .before .before .before .before .before .before .before .before .before .before .before .before .next-near .ensures (a .padded .now) (a .nodes .now) (a .leaf-order .now) (a .leaves .now) (a .handles .now) (a .materials .now) (a .triangles .now) (a .plane-triangles .now) (a .plane-edges .now) in
+    let h : c .before .before .before .before .before .before .before .before .before .before .before .before .before .before .next-near .result .plane < a .q .count = omega (arith, k .within, c .before .before .before .before .before .before .before .before .before .before .before .if2 .left) in
     omega (arith, k .next h .0, pre .1 .bound)
 
 loop-less-2 : tie.Need-loop-less-2 Inv-loop μ-loop
 loop-less-2 c =
-    let b15 = c .before .before .before .before .before .before .before .before .before .before .before .before .before .before .before in
-    let b36 = b15 .before .before .before .before .before .before .before .before .before .before .before .before .before .before .before .before .before .before .before .before .before in
-    let a = b36 .args in
-    let pre = b36 .pre in
+    let a = c .before .before .before .before .before .before .before .before .before .before .before .before .before .before .before .before .before .before .before .before .before .before .before .before .before .before .before .before .before .before .before .before .before .before .before .before .args in
+    let pre = c .before .before .before .before .before .before .before .before .before .before .before .before .before .before .before .before .before .before .before .before .before .before .before .before .before .before .before .before .before .before .before .before .before .before .before .before .pre in
     let l = c .before .before .before .before .before .before .before .before .before .before .before .before .before .before .before .before .before .before .before .before .loop in
     let S : SearchAreas = (searchAreas (a .padded .now) (a .nodes .now) (a .leaf-order .now) (a .leaves .now) (a .handles .now) (a .materials .now) (a .triangles .now) (a .plane-floats .now) (a .plane-words .now) (a .plane-triangles .now) (a .plane-edges .now)) in
-    let k : Skipped S (a .q) (a .depth) (l .seq) (l .images) (l .p) (l .s) (b15 .next-near .result .plane) (b15 .next-near .result .tally) =
-    b15 .next-near .ensures (a .padded .now) (a .nodes .now) (a .leaf-order .now) (a .leaves .now) (a .handles .now) (a .materials .now) (a .triangles .now) (a .plane-triangles .now) (a .plane-edges .now) in
+    let k : Skipped S (a .q) (a .depth) (l .seq) (l .images) (l .p) (l .s) (c .before .before .before .before .before .before .before .before .before .before .before .before .before .before .before .next-near .result .plane) (c .before .before .before .before .before .before .before .before .before .before .before .before .before .before .before .next-near .result .tally) =
+    c .before .before .before .before .before .before .before .before .before .before .before .before .before .before .before .next-near .ensures (a .padded .now) (a .nodes .now) (a .leaf-order .now) (a .leaves .now) (a .handles .now) (a .materials .now) (a .triangles .now) (a .plane-triangles .now) (a .plane-edges .now) in
     omega (arith, k .within, c .before .before .before .before .before .before .before .before .before .before .before .before .if2 .left, c .before .before .before .before .before .before .before .before .before .before .before .before .before .before .before .before .before .before .if1 .taken, k .from)
 
 loop-again-2 : tie.Need-loop-again-2 Inv-loop μ-loop
 loop-again-2 c =
-    let b9 = c .before .before .before .before .before .before .before .before .before in
-    let b15 = b9 .before .before .before .before .before .before in
-    let b36 = b15 .before .before .before .before .before .before .before .before .before .before .before .before .before .before .before .before .before .before .before .before .before in
-    let a = b36 .args in
-    let pre = b36 .pre in
+    let a = c .before .before .before .before .before .before .before .before .before .before .before .before .before .before .before .before .before .before .before .before .before .before .before .before .before .before .before .before .before .before .before .before .before .before .before .before .args in
+    let pre = c .before .before .before .before .before .before .before .before .before .before .before .before .before .before .before .before .before .before .before .before .before .before .before .before .before .before .before .before .before .before .before .before .before .before .before .before .pre in
     let l = c .before .before .before .before .before .before .before .before .before .before .before .before .before .before .before .before .before .before .before .before .loop in
     let S : SearchAreas = (searchAreas (a .padded .now) (a .nodes .now) (a .leaf-order .now) (a .leaves .now) (a .handles .now) (a .materials .now) (a .triangles .now) (a .plane-floats .now) (a .plane-words .now) (a .plane-triangles .now) (a .plane-edges .now)) in
     let r : SearchReady S (a .q) (a .depth) (state (l .seq) (l .images) (l .s)) (l .candidate-floats) (l .candidate-words) =
     law.ready-same S (a .q) (a .depth) (a .depth) (state (a .seq .now) (a .images .now) (a .t)) (state (l .seq) (l .images) (l .s)) (a .candidate-floats .now) (l .candidate-floats) (a .candidate-words .now) (l .candidate-words) (pre .1) (pre .1 .deep) (l .inv .3) (l .inv .4) (l .inv .5 .sound) in
-    let k : Skipped S (a .q) (a .depth) (l .seq) (l .images) (l .p) (l .s) (b15 .next-near .result .plane) (b15 .next-near .result .tally) =
-    b15 .next-near .ensures (a .padded .now) (a .nodes .now) (a .leaf-order .now) (a .leaves .now) (a .handles .now) (a .materials .now) (a .triangles .now) (a .plane-triangles .now) (a .plane-edges .now) in
-    let w : Walked S (a .q) (a .depth) (upto (at (firstsOf S (a .q)) (a .q .order - (a .depth + 1)) (take (a .depth) (a .seq .now))) (b15 .next-near .result .plane)) (state (a .seq .now) (a .images .now) (a .t)) (a .candidate-floats .now) (a .candidate-words .now) (state (l .seq) (l .images) (b15 .next-near .result .tally)) (l .candidate-floats) (l .candidate-words) =
+    let k : Skipped S (a .q) (a .depth) (l .seq) (l .images) (l .p) (l .s) (c .before .before .before .before .before .before .before .before .before .before .before .before .before .before .before .next-near .result .plane) (c .before .before .before .before .before .before .before .before .before .before .before .before .before .before .before .next-near .result .tally) =
+    c .before .before .before .before .before .before .before .before .before .before .before .before .before .before .before .next-near .ensures (a .padded .now) (a .nodes .now) (a .leaf-order .now) (a .leaves .now) (a .handles .now) (a .materials .now) (a .triangles .now) (a .plane-triangles .now) (a .plane-edges .now) in
+    let w : Walked S (a .q) (a .depth) (upto (at (firstsOf S (a .q)) (a .q .order - (a .depth + 1)) (take (a .depth) (a .seq .now))) (c .before .before .before .before .before .before .before .before .before .before .before .before .before .before .before .next-near .result .plane)) (state (a .seq .now) (a .images .now) (a .t)) (a .candidate-floats .now)
+    (a .candidate-words .now) (state (l .seq) (l .images) (c .before .before .before .before .before .before .before .before .before .before .before .before .before .before .before .next-near .result .tally)) (l .candidate-floats) (l .candidate-words) =
     k .skips .walked (state (a .seq .now) (a .images .now) (a .t)) (a .candidate-floats .now) (a .candidate-words .now) (l .candidate-floats) (l .candidate-words) r (pre .0) (l .inv .5) in
-    let r₁ : SearchReady S (a .q) (a .depth) (state (l .seq) (l .images) (b15 .next-near .result .tally)) (l .candidate-floats) (l .candidate-words) =
-    law.ready-same S (a .q) (a .depth) (a .depth) (state (l .seq) (l .images) (l .s)) (state (l .seq) (l .images) (b15 .next-near .result .tally)) (l .candidate-floats) (l .candidate-floats) (l .candidate-words) (l .candidate-words) r (r .deep) refl refl (w .sound) in
-    let h : b15 .next-near .result .plane < a .q .count = omega (arith, k .within, c .before .before .before .before .before .before .before .before .before .before .before .before .if2 .left) in
-    let v : Visitable S (a .q) (a .depth + 1) (state (b9 .push .last .1 .1 .1 .1 .1 .0) (b9 .push .last .1 .1 .1 .1 .1 .1 .0) (b15 .next-near .result .tally)) (l .candidate-floats) (l .candidate-words) =
-    law.visitable-push S (a .q) (a .depth) (b15 .next-near .result .plane) (l .seq) (b9 .push .last .1 .1 .1 .1 .1 .0) (l .images) (b9 .push .last .1 .1 .1 .1 .1 .1 .0) (b15 .next-near .result .tally) (b9 .push .ensures .0) (b9 .push .ensures .1 (a .plane-triangles .now) (a .plane-edges .now)) (l .candidate-floats) (l .candidate-words) r₁ h (k .next h .0) in
-    let seen : Visited S (a .q) (a .depth + 1) (b9 .push .last .1 .1 .1 .1 .1 .0) (b15 .next-near .result .tally) (l .candidate-floats) (l .candidate-words) (c .passed-over .result) (l .candidate-floats) (l .candidate-words) =
-    rw (c .passed-over .ensures) (law.visited-lost S (a .q) (a .depth + 1) (b9 .push .last .1 .1 .1 .1 .1 .0) (b9 .push .last .1 .1 .1 .1 .1 .1 .0) (b15 .next-near .result .tally) (l .candidate-floats) (l .candidate-words) (v .within) (v .sound) (c .before .before .made .ensures (c .before .if3 .left))) in (
+    let r₁ : SearchReady S (a .q) (a .depth) (state (l .seq) (l .images) (c .before .before .before .before .before .before .before .before .before .before .before .before .before .before .before .next-near .result .tally)) (l .candidate-floats) (l .candidate-words) =
+    law.ready-same S (a .q) (a .depth) (a .depth) (state (l .seq) (l .images) (l .s)) (state (l .seq) (l .images) (c .before .before .before .before .before .before .before .before .before .before .before .before .before .before .before .next-near .result .tally)) (l .candidate-floats) (l .candidate-floats) (l .candidate-words) (l .candidate-words) r (r .deep) refl refl (w .sound) in
+    let h : c .before .before .before .before .before .before .before .before .before .before .before .before .before .before .before .next-near .result .plane < a .q .count = omega (arith, k .within, c .before .before .before .before .before .before .before .before .before .before .before .before .if2 .left) in
+    let v : Visitable S (a .q) (a .depth + 1) (state (c .before .before .before .before .before .before .before .before .before .push .last .1 .1 .1 .1 .1 .0) (c .before .before .before .before .before .before .before .before .before .push .last .1 .1 .1 .1 .1 .1 .0) (c .before .before .before .before .before .before .before .before .before .before .before .before
+    .before .before .before .next-near .result .tally)) (l .candidate-floats) (l .candidate-words) =
+    law.visitable-push S (a .q) (a .depth) (c .before .before .before .before .before .before .before .before .before .before .before .before .before .before .before .next-near .result .plane) (l .seq) (c .before .before .before .before .before .before .before .before .before .push .last .1 .1 .1 .1 .1 .0) (l .images) (c .before .before .before .before .before .before
+    .before .before .before .push .last .1 .1 .1 .1 .1 .1 .0) (c .before .before .before .before .before .before .before .before .before .before .before .before .before .before .before .next-near .result .tally) (c .before .before .before .before .before .before .before .before .before .push .ensures .0) (c .before .before .before .before .before .before .before
+    .before .before .push .ensures .1 (a .plane-triangles .now) (a .plane-edges .now)) (l .candidate-floats) (l .candidate-words) r₁ h (k .next h .0) in
+    let seen : Visited S (a .q) (a .depth + 1) (c .before .before .before .before .before .before .before .before .before .push .last .1 .1 .1 .1 .1 .0) (c .before .before .before .before .before .before .before .before .before .before .before .before .before .before .before .next-near .result .tally) (l .candidate-floats) (l .candidate-words) (c .passed-over .result)
+    (l .candidate-floats) (l .candidate-words) =
+    rw (c .passed-over .ensures) (law.visited-lost S (a .q) (a .depth + 1) (c .before .before .before .before .before .before .before .before .before .push .last .1 .1 .1 .1 .1 .0) (c .before .before .before .before .before .before .before .before .before .push .last .1 .1 .1 .1 .1 .1 .0) (c .before .before .before .before .before .before .before .before .before .before
+    .before .before .before .before .before .next-near .result .tally) (l .candidate-floats) (l .candidate-words) (v .within) (v .sound) (c .before .before .made .ensures (c .before .if3 .left))) in (
       omega (arith, h),
-      b9 .push .kept .1 .1 .1 .1 .1 .0 ∙ l .inv .1,
-      b9 .push .kept .1 .1 .1 .1 .1 .1 .0 ∙ l .inv .2,
+      c .before .before .before .before .before .before .before .before .before .push .kept .1 .1 .1 .1 .1 .0 ∙ l .inv .1,
+      c .before .before .before .before .before .before .before .before .before .push .kept .1 .1 .1 .1 .1 .1 .0 ∙ l .inv .2,
       l .inv .3,
       l .inv .4,
-      law.walked-more S (a .q) (a .depth) (a .q .order - (a .depth + 1)) (b15 .next-near .result .plane) w
-          (law.walked-last S (a .q) (a .depth) (a .q .order - (a .depth + 1)) (b15 .next-near .result .plane) (l .seq) (b9 .push .last .1 .1 .1 .1 .1 .0) (l .images) (b9 .push .last .1 .1 .1 .1 .1 .1 .0) (b15 .next-near .result .tally) (c .passed-over .result) (l .candidate-floats) (l .candidate-floats) (l .candidate-words) (l .candidate-words) (k .next h .0) (omega
-          (arith, r .deep, r .within)) (r .sound .seq-room) (k .next h .1) (b9 .push .ensures .0) seen
-          (law.sound-visit S (a .q) (a .depth + 1) (b9 .push .last .1 .1 .1 .1 .1 .0) (b9 .push .last .1 .1 .1 .1 .1 .1 .0) (b15 .next-near .result .tally) (c .passed-over .result) (l .candidate-floats) (l .candidate-floats) (l .candidate-words) (l .candidate-words) seen (v .sound)) (omega (arith, pre .0))),
+      law.walked-more S (a .q) (a .depth) (a .q .order - (a .depth + 1)) (c .before .before .before .before .before .before .before .before .before .before .before .before .before .before .before .next-near .result .plane) w
+          (law.walked-last S (a .q) (a .depth) (a .q .order - (a .depth + 1)) (c .before .before .before .before .before .before .before .before .before .before .before .before .before .before .before .next-near .result .plane) (l .seq) (c .before .before .before .before .before .before .before .before .before .push .last .1 .1 .1 .1 .1 .0) (l .images) (c .before
+          .before .before .before .before .before .before .before .before .push .last .1 .1 .1 .1 .1 .1 .0) (c .before .before .before .before .before .before .before .before .before .before .before .before .before .before .before .next-near .result .tally) (c .passed-over .result) (l .candidate-floats) (l .candidate-floats) (l .candidate-words) (l .candidate-words) (k .next h .0) (omega
+          (arith, r .deep, r .within)) (r .sound .seq-room) (k .next h .1) (c .before .before .before .before .before .before .before .before .before .push .ensures .0) seen
+          (law.sound-visit S (a .q) (a .depth + 1) (c .before .before .before .before .before .before .before .before .before .push .last .1 .1 .1 .1 .1 .0) (c .before .before .before .before .before .before .before .before .before .push .last .1 .1 .1 .1 .1 .1 .0) (c .before .before .before .before .before .before .before .before .before .before .before .before .before
+          .before .before .next-near .result .tally) (c .passed-over .result) (l .candidate-floats) (l .candidate-floats) (l .candidate-words) (l .candidate-words) seen (v .sound)) (omega (arith, pre .0))),
     )
 
 same-length-5 : tie.Need-same-length-5 Inv-loop μ-loop
@@ -269,9 +290,8 @@ same-length-8 c = c .before .before .loop .inv .4
 
 returns-2 : tie.Need-returns-2 Inv-loop μ-loop
 returns-2 c =
-    let b18 = c .before .before .before .before .before .before .before .before .before .before .before .before .before .before .before .before .before .before in
-    let a = b18 .args in
-    let pre = b18 .pre in
+    let a = c .before .before .before .before .before .before .before .before .before .before .before .before .before .before .before .before .before .before .args in
+    let pre = c .before .before .before .before .before .before .before .before .before .before .before .before .before .before .before .before .before .before .pre in
     let l = c .before .before .loop in
     let S : SearchAreas = (searchAreas (a .padded .now) (a .nodes .now) (a .leaf-order .now) (a .leaves .now) (a .handles .now) (a .materials .now) (a .triangles .now) (a .plane-floats .now) (a .plane-words .now) (a .plane-triangles .now) (a .plane-edges .now)) in
     let e : l .p ≡ a .q .count = omega (arith, c .if1 .left, l .inv .0) in

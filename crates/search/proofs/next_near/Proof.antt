@@ -49,13 +49,11 @@ loop-again c = let a = c .before .before .before .before .before .before .before
 
 may-requires : tie.Need-may-requires Inv-loop μ-loop
 may-requires c κs =
-    let b11 = c .before .before .before .before .before .before .before .before .before .before .before in
-    ((omega (arith, b11 .pre .0 .0), c .before .before .before .if1 .taken), (b11 .pre .1 .0, b11 .pre .1 .1))
+    ((omega (arith, c .before .before .before .before .before .before .before .before .before .before .before .pre .0 .0), c .before .before .before .if1 .taken), (c .before .before .before .before .before .before .before .before .before .before .before .pre .1 .0, c .before .before .before .before .before .before .before .before .before .before .before .pre .1 .1))
 
 next-image-requires : tie.Need-next-image-requires Inv-loop μ-loop
 next-image-requires c κs =
-    let b13 = c .before .before .before .before .before .before .before .before .before .before .before .before .before in
-    (omega (arith, c .before .before .before .before .before .if1 .taken, b13 .pre .1 .0), omega (arith, c .before .before .before .before .before .if1 .taken, b13 .pre .1 .1))
+    (omega (arith, c .before .before .before .before .before .if1 .taken, c .before .before .before .before .before .before .before .before .before .before .before .before .before .pre .1 .0), omega (arith, c .before .before .before .before .before .if1 .taken, c .before .before .before .before .before .before .before .before .before .before .before .before .before .pre .1 .1))
 
 passed-over-requires : tie.Need-passed-over-requires Inv-loop μ-loop
 passed-over-requires c κs = omega (arith, c .before .before .before .before .before .if2 .left, c .before .before .before .before .before .before .before .before .before .before .before .before .before .before .before .before .pre .0 .3)
@@ -65,16 +63,16 @@ loop-less-2 c = omega (arith, c .before .before .before .before .before .before 
 
 loop-again-2 : tie.Need-loop-again-2 Inv-loop μ-loop
 loop-again-2 c =
-    let b9 = c .before .before .before .before .before .before .before .before .before in
     let a = c .before .before .before .before .before .before .before .before .before .before .before .before .before .before .before .before .before .args in
     let l = c .before .before .before .before .before .before .before .before .before .before .before .loop in (
-      omega (arith, b9 .if1 .taken),
+      omega (arith, c .before .before .before .before .before .before .before .before .before .if1 .taken),
       omega (arith, l .inv .1),
       λ padded nodes₁ perm rows handles materials columns members edges.
           let is : c .before .before .before .next-image .result ≡ mirrorOf (planeAt (planesIn (a .plane-floats .now) (a .plane-words .now) members edges (a .q .count)) (l .p)) (pointIn (a .images .now) (a .depth)) =
-          c .before .before .before .next-image .ensures members edges (a .q .count) (b9 .if1 .taken) ∙ ap (mirrorOf (planeAt (planesIn (a .plane-floats .now) (a .plane-words .now) members edges (a .q .count)) (l .p))) (c .before .before .before .before .before .before .before .before .before .before .before .before .vec-in .ensures) in
+          c .before .before .before .next-image .ensures members edges (a .q .count) (c .before .before .before .before .before .before .before .before .before .if1 .taken) ∙ ap (mirrorOf (planeAt (planesIn (a .plane-floats .now) (a .plane-words .now) members edges (a .q .count)) (l .p))) (c .before .before .before .before .before .before .before .before .before .before
+          .before .before .vec-in .ensures) in
           rw (c .passed-over .ensures)
-          (law.skips-far (searchAreas padded nodes₁ perm rows handles materials columns (a .plane-floats .now) (a .plane-words .now) members edges) (a .q) (a .depth) (a .seq .now) (a .images .now) (a .from) (a .t) (l .p) (l .s) (l .inv .2 padded nodes₁ perm rows handles materials columns members edges) (b9 .if1 .taken)
+          (law.skips-far (searchAreas padded nodes₁ perm rows handles materials columns (a .plane-floats .now) (a .plane-words .now) members edges) (a .q) (a .depth) (a .seq .now) (a .images .now) (a .from) (a .t) (l .p) (l .s) (l .inv .2 padded nodes₁ perm rows handles materials columns members edges) (c .before .before .before .before .before .before .before .before .before .if1 .taken)
           (c .before .before .before .before .before .before .if2 .left) (sym (c .before .before .before .before .before .may .ensures members edges) ∙ c .before .before .before .before .if3 .taken)
           (ap (λ (v : Vec3). lt (a .q .beyond) (squareOf (a .q .listener) v)) (sym is) ∙ sym (c .before .before .far .ensures) ∙ c .before .if4 .taken)),
     )

@@ -26,8 +26,7 @@ abbrev μ-loop : tie.MeasureT-loop
 
 probe-requires : tie.Need-probe-requires Inv-loop μ-loop
 probe-requires c κs =
-    let b12 = c .before .before .before .before .before .before .before .before .before .before .before .before in
-    let z : c .before .counted .result .rays ≡ 0 = ap (λ (x : Transmission). x .rays) (c .before .counted .ensures) in (b12 .pre .0, omega (arith, z, b12 .pre .1))
+    let z : c .before .counted .result .rays ≡ 0 = ap (λ (x : Transmission). x .rays) (c .before .counted .ensures) in (c .before .before .before .before .before .before .before .before .before .before .before .before .pre .0, omega (arith, z, c .before .before .before .before .before .before .before .before .before .before .before .before .pre .1))
 
 loop-holds : tie.Need-loop-holds Inv-loop μ-loop
 unfolding probesOf

@@ -29,11 +29,19 @@ course-of-requires c κs =
 
 back-requires : tie.Need-back-requires
 back-requires c κs =
-    let b15 = c .before .before .before .before .before .before .before .before .before .before .before .before .before .before .before in
-    let a = b15 .args in
+    let a = c .before .before .before .before .before .before .before .before .before .before .before .before .before .before .before .args in
     let is = c .before .before .before .course-of .ensures in
-    let l = c .before .before .before .course-of .result .seq in
-    (b15 .pre .0, ((omega arith, b15 .pre .1 .0 .1), (planes-below (a .seq .now) l (a .count) (whole (a .seq .now) l (is .planes)) (b15 .pre .1 .1 .0), c .no-bounces .ensures .0)))
+    let l = c .before .before .before .course-of .result .seq in (
+      c .before .before .before .before .before .before .before .before .before .before .before .before .before .before .before .pre .0,
+      (
+        (omega arith, c .before .before .before .before .before .before .before .before .before .before .before .before .before .before .before .pre .1 .0 .1),
+        (
+          planes-below (a .seq .now) l (a .count) (whole (a .seq .now) l (is .planes)) (c
+              .before .before .before .before .before .before .before .before .before .before .before .before .before .before .before .pre .1 .1 .0),
+          c .no-bounces .ensures .0,
+        ),
+      ),
+    )
 
 put-points-requires : tie.Need-put-points-requires
 put-points-requires c κs = c .before .before .before .before .before .before .before .before .before .before .before .before .before .before .before .before .before .before .pre .1 .1 .1 .2
@@ -43,24 +51,22 @@ same-length c = c .before .before .before .put-points .kept .0
 
 returns : tie.Need-returns
 returns c =
-    let b7 = c .before .before .before .before .before .before .before in
-    let b10 = b7 .before .before .before in
-    let b11 = b10 .before in
-    let b12 = b11 .before in
-    let b22 = b12 .before .before .before .before .before .before .before .before .before .before in
     λ tri h.
-    let a = b22 .args in
-    let is = b10 .course-of .ensures in
-    let l = b10 .course-of .result .seq in
+    let a = c .before .before .before .before .before .before .before .before .before .before .before .before .before .before .before .before .before .before .before .before .before .before .args in
+    let is = c .before .before .before .before .before .before .before .before .before .before .course-of .ensures in
+    let l = c .before .before .before .before .before .before .before .before .before .before .course-of .result .seq in
     let n : ℕ = length (a .seq .now) in
     let planes = planesIn (a .plane-floats .now) (a .plane-words .now) (a .plane-triangles .now) (a .plane-edges .now) (a .count) in
-    let back : trailOf (c .before .before .before .before .before .before .back .result) (length (a .seq .now)) ≡ backOf tri (a .fade) (planeOn planes l) (λ j. getD (b10 .course-of .result .images) j noPoint) (length (a .seq .now)) (b11 .point-from2 .result) one32 [] [] =
-    rw (b7 .no-bounces .ensures .1, slice-empty (length (a .seq .now)) (b7 .no-bounces .result .points), slice-empty (length (a .seq .now)) (b7 .no-bounces .result .tris)) at (c .before .before .before .before .before .before .back .ensures .0 tri h) in
-    rw (← b12 .point-from .ensures, ← b11 .point-from2 .ensures)
-    (bounced-trail (c .before .before .before .before .before .before .back .result) (length (a .seq .now)) _ (c .fate-number .result) (c .before .before .before .put-points .last .0) (b22 .pre .1 .0 .1)
+    let back : trailOf (c .before .before .before .before .before .before .back .result) (length (a .seq .now)) ≡ backOf tri (a .fade) (planeOn planes l) (λ j. getD (c .before .before .before .before .before .before .before .before .before .before .course-of .result .images) j noPoint) (length (a .seq .now)) (c .before .before .before .before .before .before .before
+    .before .before .before .before .point-from2 .result) one32 [] [] =
+    rw (c .before .before .before .before .before .before .before .no-bounces .ensures .1, slice-empty (length (a .seq .now)) (c .before .before .before .before .before .before .before .no-bounces .result .points), slice-empty (length (a .seq .now)) (c .before .before .before .before .before .before .before .no-bounces .result .tris)) at (c .before .before .before
+    .before .before .before .back .ensures .0 tri h) in
+    rw (← c .before .before .before .before .before .before .before .before .before .before .before .before .point-from .ensures, ← c .before .before .before .before .before .before .before .before .before .before .before .point-from2 .ensures)
+    (bounced-trail (c .before .before .before .before .before .before .back .result) (length (a .seq .now)) _ (c .fate-number .result) (c .before .before .before .put-points .last .0) (c .before .before .before .before .before .before .before .before .before .before .before .before .before .before .before .before .before .before .before .before .before .before .pre .1 .0 .1)
     (back
-    ∙ path-bounces planes tri (b12 .point-from .result) (b11 .point-from2 .result) l (λ j. getD (b10 .course-of .result .images) j noPoint) (length (a .seq .now)) (omega (arith, is .seq-room, b22 .pre .1 .0 .1)) (is .mirrored (a .plane-triangles .now) (a .plane-edges .now)) (a .fade)
-    ∙ ap (bouncesOf tri (a .fade) planes (b12 .point-from .result) (b11 .point-from2 .result)) (whole (a .seq .now) l (is .planes)))
+    ∙ path-bounces planes tri (c .before .before .before .before .before .before .before .before .before .before .before .before .point-from .result) (c .before .before .before .before .before .before .before .before .before .before .before .point-from2 .result) l (λ j. getD (c .before .before .before .before .before .before .before .before .before
+    .before .course-of .result .images) j noPoint) (length (a .seq .now)) (omega (arith, is .seq-room, c .before .before .before .before .before .before .before .before .before .before .before .before .before .before .before .before .before .before .before .before .before .before .pre .1 .0 .1)) (is .mirrored (a .plane-triangles .now) (a .plane-edges .now)) (a .fade)
+    ∙ ap (bouncesOf tri (a .fade) planes (c .before .before .before .before .before .before .before .before .before .before .before .before .point-from .result) (c .before .before .before .before .before .before .before .before .before .before .before .point-from2 .result)) (whole (a .seq .now) l (is .planes)))
     (c .fate-number .ensures) (c .before .before .before .put-points .ensures))
 
 pub biv-bounces-spec : {M : Type 1} → statement M

@@ -35,13 +35,12 @@ loop-less : tie.Need-loop-less Inv-loop μ-loop
 loop-less c = omega (arith, c .before .before .before .before .before .loop-test .taken)
 
 loop-again : tie.Need-loop-again Inv-loop μ-loop
-loop-again c =
-    let b8 = c .before .before .before .before .before .before .before .before in (
-      omega (arith, c .before .before .before .before .before .loop-test .taken),
-      c .before .before .put-point .kept .0 ∙ c .before .before .before .before .before .before .loop .inv .1,
-      rw (c .before .before .put-point .ensures) (points-more (c .before .before .before .before .before .before .loop .points) (b8 .args .t2)
-          (c .before .before .before .before .before .before .loop .k) (omega (arith, c .before .before .before .before .before .before .loop .inv .1, b8 .pre)) (c .before .before .before .before .before .loop-test .taken) (c .before .before .before .before .before .before .loop .inv .2)),
-    )
+loop-again c = (
+  omega (arith, c .before .before .before .before .before .loop-test .taken),
+  c .before .before .put-point .kept .0 ∙ c .before .before .before .before .before .before .loop .inv .1,
+  rw (c .before .before .put-point .ensures) (points-more (c .before .before .before .before .before .before .loop .points) (c .before .before .before .before .before .before .before .before .args .t2)
+      (c .before .before .before .before .before .before .loop .k) (omega (arith, c .before .before .before .before .before .before .loop .inv .1, c .before .before .before .before .before .before .before .before .pre)) (c .before .before .before .before .before .loop-test .taken) (c .before .before .before .before .before .before .loop .inv .2)),
+)
 
 same-length : tie.Need-same-length Inv-loop μ-loop
 same-length c = c .before .loop .inv .1
