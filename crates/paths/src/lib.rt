@@ -191,16 +191,6 @@ fn usable(total: f32, far: f32) -> bool
     false
 }
 
-// The handle of triangle i.
-fn handle_at(handles: &[u32], i: usize) -> u32
-    ensures { λ r. ⌜ r ≡ getD (now (handles .entry)) i 0 ⌝ }
-{
-    if i < handles.len() {
-        return handles[i];
-    }
-    0
-}
-
 // The product of what the triangles reflect.
 fn reflected(handles: &[u32], materials: &[f32], tris: [usize; 8], order: usize) -> Band8
     requires { ⌜ (order ≤ maxOrder) × (length tris ≡ maxOrder) ⌝ }
@@ -214,7 +204,7 @@ fn reflected(handles: &[u32], materials: &[f32], tris: [usize; 8], order: usize)
         let i = tris[k];
         product = bands::mul(
             product,
-            segments::reflection_of(materials, handle_at(handles, i)),
+            segments::reflection_of(materials, tree_trace::handle_at(handles, i)),
         );
     }
     product

@@ -467,8 +467,8 @@ fn closest_hit(
     nothing
 }
 
-// The handle of triangle i.
-fn handle_at(handles: &[u32], i: usize) -> u32
+// The handle of triangle i, 0 for one that is not there.
+pub fn handle_at(handles: &[u32], i: usize) -> u32
     ensures { λ r. ⌜ r ≡ getD (now (handles .entry)) i 0 ⌝ }
 {
     if i < handles.len() {
