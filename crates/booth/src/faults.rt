@@ -97,13 +97,9 @@ fn say_later_word(wrong: u32) {
     }
 }
 
-fn byte_at(s: &[u8], k: usize) -> u8 {
-    if k < s.len() { s[k] } else { 0 }
-}
-
 fn last_byte(s: &[u8]) -> u8 {
     if 0 < s.len() {
-        byte_at(s, s.len() - 1)
+        text::byte_at(s, s.len() - 1, 0)
     } else {
         0
     }
@@ -128,11 +124,11 @@ fn is_eight_hex(word: &[u8]) -> bool {
 }
 
 fn is_prefixed(word: &[u8]) -> bool {
-    byte_at(word, 0) == b'0' && byte_at(word, 1) == b'x'
+    text::byte_at(word, 0, 0) == b'0' && text::byte_at(word, 1, 0) == b'x'
 }
 
 fn is_half(word: &[u8]) -> bool {
-    byte_at(word, 0) == b'.' || last_byte(word) == b'.'
+    text::byte_at(word, 0, 0) == b'.' || last_byte(word) == b'.'
 }
 
 // What to write in place of a word that is no float.
@@ -143,7 +139,7 @@ fn advise(word: &[u8]) {
         say(b" for a float's bits; a decimal without a point has at most seven digits");
     } else if is_prefixed(word) {
         say(b"bits are 0x and eight digits, 0 to 9 and a to f");
-    } else if byte_at(word, 0) == b'+' {
+    } else if text::byte_at(word, 0, 0) == b'+' {
         say(b"write it without the plus");
     } else if is_half(word) {
         say(b"write a digit on each side of the point");
@@ -154,7 +150,7 @@ fn advise(word: &[u8]) {
 
 // Whether a word begins as a number does, with a digit or a minus.
 fn is_numeric(word: &[u8]) -> bool {
-    let first = byte_at(word, 0);
+    let first = text::byte_at(word, 0, 0);
     first == b'-' || (b'0' <= first && first <= b'9')
 }
 

@@ -933,13 +933,10 @@ fn is_scene(path: &[u8], bytes: &[u8]) -> bool {
     same
 }
 
-fn byte_at(s: &[u8], k: usize) -> u8 {
-    if k < s.len() { s[k] } else { 0 }
-}
-
 // Whether a text begins with a byte order mark.
 fn is_marked(s: &[u8]) -> bool {
-    byte_at(s, 0) == 0xef && (byte_at(s, 1) == 0xbb && byte_at(s, 2) == 0xbf)
+    text::byte_at(s, 0, 0) == 0xef
+        && (text::byte_at(s, 1, 0) == 0xbb && text::byte_at(s, 2, 0) == 0xbf)
 }
 
 // Runs a scene's bytes. The packet's file is emptied first, so that no failure leaves the packet of an earlier run.

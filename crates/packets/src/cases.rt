@@ -3,7 +3,7 @@ ghost use mathlib.Core.Path.{_≡_};
 ghost use Prim.Native.Nat.{_+_};
 ghost use lib.ListN.{length};
 ghost use Rattle.packet.specs.Limits.{outBytes, areaWords};
-use crate::text;
+use crate::words;
 use libc::STDOUT_FILENO;
 
 // What an area holds before a call.
@@ -118,7 +118,7 @@ fn print_verdict(ok: bool) -> bool {
 
 // The kind of a case and its name, which stands from byte 2 on. Answers the place after it.
 fn print_name(kind: &[u8], line: &[u8]) -> usize {
-    let end = text::find(line, 2, true);
+    let end = words::find(line, 2, true);
     io::write_all(STDOUT_FILENO, kind);
     if 2 <= end {
         if end <= line.len() {
@@ -197,7 +197,7 @@ fn try_read(bytes: &[u8], taps: &mut [u32], e: Expected) -> bool {
 pub(crate) fn read_case(line: &[u8]) -> bool {
     let after = print_name(b"read ", line);
     let mut f = [0u64; 7];
-    let at = text::numbers(line, after, &mut f);
+    let at = words::numbers(line, after, &mut f);
     let words = f[0] as usize;
     let n = f[1] as usize;
     let e = Expected {
@@ -208,7 +208,7 @@ pub(crate) fn read_case(line: &[u8]) -> bool {
         check: f[6],
     };
     let mut bytes = zeros();
-    text::hex_bytes(line, at, &mut bytes);
+    words::hex_bytes(line, at, &mut bytes);
     let mut area = fresh_words();
     if WORDS < words {
         return print_verdict(false);
@@ -245,14 +245,14 @@ fn try_write(
 pub(crate) fn write_case(line: &[u8]) -> bool {
     let after = print_name(b"write ", line);
     let mut f = [0u64; 7];
-    let at = text::numbers(line, after, &mut f);
+    let at = words::numbers(line, after, &mut f);
     let words = f[0] as usize;
     let room = f[1] as usize;
     let n = f[6] as usize;
     let mut area = fresh_words();
-    let next = text::hex_words(line, at, &mut area);
+    let next = words::hex_words(line, at, &mut area);
     let mut bytes = zeros();
-    text::hex_bytes(line, next, &mut bytes);
+    words::hex_bytes(line, next, &mut bytes);
     let mut out = fresh_bytes();
     if WORDS < words {
         return print_verdict(false);

@@ -1,9 +1,9 @@
--- `packets::text::find` meets its contract: each index is below the length, and each turn brings it nearer.
+-- `packets::words::find` meets its contract: each index is below the length, and each turn brings it nearer.
 use borrow.Author.Needs.{needs}
 use Prim.Native.Nat.{_-_}
 use lib.ListN.{length}
-use Rattle.packets.proofs.text.find.Statement.{statement}
-use Rattle.packets.proofs.text.find.Tie as tie
+use Rattle.packets.proofs.words.find.Statement.{statement}
+use Rattle.packets.proofs.words.find.Tie as tie
 
 abbrev Inv-loop : tie.InvT-loop
 Inv-loop s at space i₀ i = Unit {0}

@@ -1,9 +1,9 @@
--- `packets::text::number` meets its contract: each index is below the length, and each turn brings it nearer.
+-- `packets::words::number` meets its contract: each index is below the length, and each turn brings it nearer.
 use borrow.Author.Needs.{needs}
 use Prim.Native.Nat.{_-_}
 use lib.ListN.{length}
-use Rattle.packets.proofs.text.number.Statement.{statement}
-use Rattle.packets.proofs.text.number.Tie as tie
+use Rattle.packets.proofs.words.number.Statement.{statement}
+use Rattle.packets.proofs.words.number.Tie as tie
 
 abbrev Inv-loop : tie.InvT-loop
 Inv-loop s at n₀ i₀ n i = Unit {0}

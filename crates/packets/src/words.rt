@@ -1,31 +1,9 @@
 // The words, numbers and hexadecimal digits of a line.
-ghost use Prim.Native.Nat.{_<_, _≤_};
-ghost use lib.ListN.{length};
 
 // A number, and the place after it.
 struct Found {
     value: u64,
     next: usize,
-}
-
-// The byte at a place; past the end, a line feed.
-pub(crate) fn byte_at(s: &[u8], at: usize) -> u8 {
-    if at < s.len() { s[at] } else { b'\n' }
-}
-
-// The place after the line that `at` is in.
-pub(crate) fn line_end(s: &[u8], at: usize) -> usize
-    requires { ⌜ at < length (now s) ⌝ }
-    ensures { λ r. ⌜ (at < r) × (r ≤ length (now (s .entry))) ⌝ }
-{
-    let mut i = at;
-    while i < s.len() {
-        i += 1;
-        if s[i - 1] == b'\n' {
-            return i;
-        }
-    }
-    i
 }
 
 // The place of the first byte from `at` on that is a space, or that is none.
@@ -77,32 +55,10 @@ pub(crate) fn numbers(s: &[u8], at: usize, to: &mut [u64; 7]) -> usize {
     i
 }
 
-// The value of a hexadecimal digit, 16 for another byte.
-fn hex(c: u8) -> u8 {
-    if b'0' <= c {
-        if c <= b'9' {
-            return c - b'0';
-        }
-    }
-    if b'a' <= c {
-        if c <= b'f' {
-            return c - b'a' + 10;
-        }
-    }
-    16
-}
-
 // Digit number k of bytes, the upper half of each byte first.
 fn push_byte(to: &mut [u8], k: usize, digit: u8) {
     if k / 2 < to.len() {
         to[k / 2] = to[k / 2] % 16 * 16 + digit % 16;
-    }
-}
-
-// Digit number k of words of 32 bits, eight digits a word.
-fn push_word(to: &mut [u32], k: usize, digit: u8) {
-    if k / 8 < to.len() {
-        to[k / 8] = to[k / 8] % 0x1000_0000 * 16 + (digit % 16) as u32;
     }
 }
 
@@ -111,7 +67,7 @@ pub(crate) fn hex_bytes(s: &[u8], at: usize, to: &mut [u8]) {
     let mut i = at;
     let mut k = 0;
     while i < s.len() {
-        let d = hex(s[i]);
+        let d = text::hex_digit(s[i]);
         i += 1;
         if d < 16 {
             push_byte(to, k, d);
@@ -125,13 +81,13 @@ pub(crate) fn hex_words(s: &[u8], at: usize, to: &mut [u32]) -> usize {
     let mut i = at;
     let mut k = 0;
     while i < s.len() {
-        let d = hex(s[i]);
+        let b = s[i];
         i += 1;
-        if s[i - 1] == b'=' {
+        if b == b'=' {
             return i;
         }
-        if d < 16 {
-            push_word(to, k, d);
+        if text::hex_digit(b) < 16 {
+            text::put_hex(to, k, b);
             k += 1;
         }
     }

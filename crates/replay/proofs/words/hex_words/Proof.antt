@@ -1,11 +1,11 @@
--- `replay::text::hex_words` meets its contract: there are no more digits than bytes seen.
+-- `replay::words::hex_words` meets its contract: there are no more digits than bytes seen.
 use borrow.Author.Needs.{needs}
 use Prim.Native.Nat.{_-_, _≤_}
 use mathlib.Core.Path.{_≡_, refl, _∙_}
 use lib.ListN.{length}
 use native.Mathlib.Omega.{arith}
-use Rattle.replay.proofs.text.hex_words.Statement.{statement}
-use Rattle.replay.proofs.text.hex_words.Tie as tie
+use Rattle.replay.proofs.words.hex_words.Statement.{statement}
+use Rattle.replay.proofs.words.hex_words.Tie as tie
 
 abbrev Inv-loop : tie.InvT-loop
 Inv-loop s at to₀ i₀ k₀ to i k = (k ≤ i) × (length to ≡ length to₀)
@@ -21,8 +21,8 @@ hex-words-spec =
     μ-loop
     (λ c. search needs)
     (λ c. search needs)
-    (λ c κs. tt)
     (λ c. search needs)
+    (λ c κs. tt)
     (λ c κs. tt)
     (λ c. search needs)
     (λ c. search needs)

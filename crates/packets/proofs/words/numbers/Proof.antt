@@ -1,8 +1,8 @@
--- `packets::text::numbers` meets its contract: each turn brings the last number nearer.
+-- `packets::words::numbers` meets its contract: each turn brings the last number nearer.
 use borrow.Author.Needs.{needs}
 use Prim.Native.Nat.{_-_}
-use Rattle.packets.proofs.text.numbers.Statement.{statement}
-use Rattle.packets.proofs.text.numbers.Tie as tie
+use Rattle.packets.proofs.words.numbers.Statement.{statement}
+use Rattle.packets.proofs.words.numbers.Tie as tie
 
 abbrev Inv-loop : tie.InvT-loop
 Inv-loop s at to₀ i₀ k₀ to i k = Unit {0}

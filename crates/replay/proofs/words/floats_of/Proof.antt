@@ -1,10 +1,10 @@
--- `replay::text::floats_of` meets its contract: each index is below the length, and each turn brings it nearer.
+-- `replay::words::floats_of` meets its contract: each index is below the length, and each turn brings it nearer.
 use borrow.Author.Needs.{needs}
 use Prim.Native.Nat.{_-_}
 use mathlib.Core.Path.{_≡_}
 use lib.ListN.{length}
-use Rattle.replay.proofs.text.floats_of.Statement.{statement}
-use Rattle.replay.proofs.text.floats_of.Tie as tie
+use Rattle.replay.proofs.words.floats_of.Statement.{statement}
+use Rattle.replay.proofs.words.floats_of.Tie as tie
 
 abbrev Inv-loop : tie.InvT-loop
 Inv-loop words to₀ i₀ to i = length to ≡ length to₀

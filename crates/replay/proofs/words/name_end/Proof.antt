@@ -1,10 +1,10 @@
--- `replay::text::name_end` meets its contract: the place is within the line.
+-- `replay::words::name_end` meets its contract: the place is within the line.
 use borrow.Author.Needs.{needs}
 use Prim.Native.Nat.{_-_, _≤_}
 use lib.ListN.{length}
 use native.Mathlib.Omega.{arith}
-use Rattle.replay.proofs.text.name_end.Statement.{statement}
-use Rattle.replay.proofs.text.name_end.Tie as tie
+use Rattle.replay.proofs.words.name_end.Statement.{statement}
+use Rattle.replay.proofs.words.name_end.Tie as tie
 
 abbrev Inv-loop : tie.InvT-loop
 Inv-loop s i₀ i = i ≤ length s
