@@ -20,7 +20,8 @@ use Rattle.columns.specs.Columns.{triangleAtOf}
 use Rattle.planes_patches.specs.Lists.{keepIf, filterBy, allBy}
 use Rattle.planes_patches.specs.Triangles.{triangleAt, cornersOf, trianglesIn}
 use Rattle.planes_patches.specs.Patch.{Patch, noPatch, patchAt}
-use Rattle.planes_patches.specs.Rows.{patchFloats, noneOf, vecIn, trisIn, patchIn, patchesIn}
+use Rattle.mirror.specs.Rows.{vecIn}
+use Rattle.planes_patches.specs.Rows.{patchFloats, noneOf, trisIn, patchIn, patchesIn}
 use Rattle.planes_patches.proofs.Filling.{triangle-in}
 use Rattle.planes_links.specs.Words.{rowIn, RowBounds}
 use Rattle.planes_links.proofs.Filters.{filter-below}

@@ -11,7 +11,8 @@ use Rattle.order.specs.Runs.{headOr, upTo}
 use Rattle.columns.specs.Columns.{triangleAtOf}
 use Rattle.planes_patches.specs.Lists.{filterBy, allBy}
 use Rattle.planes_patches.specs.Triangles.{cornersOf}
-use Rattle.planes_patches.specs.Rows.{patchFloats, vecIn}
+use Rattle.mirror.specs.Rows.{vecIn}
+use Rattle.planes_patches.specs.Rows.{patchFloats}
 use Rattle.planes_links.specs.Words.{partOf, rowIn, RowBounds}
 use Rattle.planes_groups.specs.Groups.{descendingKey, isTilted, isNear, grownOf}
 

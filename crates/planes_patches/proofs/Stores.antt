@@ -13,7 +13,8 @@ use Rattle.geometry.specs.declared.Aabb.{Aabb}
 use Rattle.float.proofs.Numbers.{by-order}
 use Rattle.planes_faces.specs.Key.{Key}
 use Rattle.planes_patches.specs.declared.PatchRow.{PatchRow}
-use Rattle.planes_patches.specs.Rows.{patchFloats, vecIn, rowIn, Beside}
+use Rattle.mirror.specs.Rows.{vecIn}
+use Rattle.planes_patches.specs.Rows.{patchFloats, rowIn, Beside}
 use Rattle.planes_patches.specs.Grid.{key, cellAt}
 
 module _ {A : Type 0} (none : A) (l : List A) (at : ℕ) (a b c : A) where

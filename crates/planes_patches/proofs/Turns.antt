@@ -26,7 +26,7 @@ use Rattle.planes_patches.specs.Triangles.{triangleAt, boxOf}
 use Rattle.planes_patches.specs.Normal.{canonicalOf, offsetOf}
 use Rattle.planes_patches.specs.Patch.{Patch, noPatch, patchAt}
 use Rattle.planes_patches.specs.Patches.{cellOf, aroundOf, inCell, isCoplanar, foundOf, newPatch, joinedOf, placedOf}
-use Rattle.planes_patches.specs.Rows.{patchFloats, noneOf, vecIn, rowIn, newRowOf, joinedRowOf, trisIn, patchIn, patchesIn, Numbered}
+use Rattle.planes_patches.specs.Rows.{patchFloats, noneOf, rowIn, newRowOf, joinedRowOf, trisIn, patchIn, patchesIn, Numbered}
 use Rattle.planes_patches.specs.Grid.{key, planeKeyOf, bucketOf, cellAt, linkedOf, coplanarAt, cellIn, firstAmong, Grid, Standing}
 use Rattle.planes_patches.proofs.Lists.{under-filter, under-flat, filter-more, filter-under, filter-none, length-upTo, map-under, map-set, map-push}
 use Rattle.planes_patches.proofs.Buckets.{grid-joined, grid-more}

@@ -14,7 +14,8 @@ use Rattle.planes_faces.specs.Key.{Key, sameKey}
 use Rattle.planes_patches.specs.Lists.{filterBy}
 use Rattle.planes_patches.specs.Normal.{canonicalOf, offsetOf}
 use Rattle.planes_patches.specs.Patches.{cellOf, isCoplanar}
-use Rattle.planes_patches.specs.Rows.{patchFloats, vecIn, patchIn, Numbered}
+use Rattle.mirror.specs.Rows.{vecIn}
+use Rattle.planes_patches.specs.Rows.{patchFloats, patchIn, Numbered}
 use Rattle.planes_patches.specs.declared.PlaneKey.{PlaneKey}
 
 -- a cell by its parts

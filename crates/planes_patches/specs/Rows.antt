@@ -6,12 +6,11 @@ use mathlib.Core.List.{List, map}
 use lib.Dec.{eqb}
 use lib.ListN.{getD}
 use lib.Ieee.{Float, nan, binary32, add}
-use Rattle.vector.specs.declared.Vec3.{Vec3}
-use Rattle.vector.specs.Vector.{vec}
 use Rattle.geometry.specs.declared.Triangle.{Triangle}
 use Rattle.geometry.specs.Aabb.{unionOf}
 use Rattle.geometry.specs.Triangle.{triangleAreaOf}
 use Rattle.order.specs.Runs.{upTo}
+use Rattle.mirror.specs.Rows.{vecIn}
 use Rattle.planes_patches.specs.Normal.{canonicalOf, offsetOf}
 use Rattle.planes_patches.specs.Triangles.{boxOf}
 use Rattle.planes_patches.specs.Lists.{filterBy}
@@ -26,10 +25,6 @@ patchFloats = 11
 -- the patch number of a triangle without a patch
 abbrev pub noneOf : ℕ
 noneOf = 4294967295
-
--- a vector in a row
-unfoldable pub vecIn : List Float → ℕ → Vec3
-vecIn rows at = vec (getD rows at nan) (getD rows (at + 1) nan) (getD rows (at + 2) nan)
 
 -- two areas differ at most in the `count` places from `at` on
 unfoldable pub Beside : ℕ → ℕ → List Float → List Float → Type 0

@@ -17,7 +17,8 @@ ghost use Rattle.planes_faces.specs.Key.{stepOf, sameKey};
 ghost use Rattle.planes_faces.specs.Faces.{isFirst, facesIn};
 ghost use Rattle.planes_patches.specs.Normal.{largerPartOf, largestPartOf, isTurned, canonicalOf, offsetOf};
 ghost use Rattle.planes_patches.specs.Patches.{cellsPerUnit, besideOf, aroundOf, placedOf, patchesOf};
-ghost use Rattle.planes_patches.specs.Rows.{patchFloats, noneOf, vecIn, rowIn, newRowOf, joinedRowOf, patchesIn, Numbered, Beside};
+ghost use Rattle.mirror.specs.Rows.{vecIn};
+ghost use Rattle.planes_patches.specs.Rows.{patchFloats, noneOf, rowIn, newRowOf, joinedRowOf, patchesIn, Numbered, Beside};
 ghost use Rattle.planes_patches.specs.Triangles.{triangleAt, trianglesIn};
 ghost use Rattle.planes_patches.specs.Grid.{key, planeKeyOf, bucketCount, bucketOf, cellAt, linkedOf, coplanarAt, matchAt, firstAmong, Grid, Standing};
 
@@ -87,27 +88,16 @@ fn offset_of(t: Triangle) -> f32
 
 // ---- rows of floats
 
-fn vec_in(rows: &[f32], at: usize) -> Vec3
-    requires { ⌜ at + 3 ≤ length (now rows) ⌝ }
-    ensures { λ r. ⌜ r ≡ vecIn (now (rows .entry)) at ⌝ }
-{
-    Vec3 {
-        x: rows[at],
-        y: rows[at + 1],
-        z: rows[at + 2],
-    }
-}
-
 // The row of patch p.
 pub fn row_at(rows: &[f32], p: usize) -> PatchRow
     requires { ⌜ patchFloats * p + patchFloats ≤ length (now rows) ⌝ }
     ensures { λ r. ⌜ r ≡ rowIn (now (rows .entry)) p ⌝ }
 {
     let at = 11 * p;
-    let normal = vec_in(rows, at);
+    let normal = mirror::vec_in(rows, at);
     let aabb = Aabb {
-        min: vec_in(rows, at + 5),
-        max: vec_in(rows, at + 8),
+        min: mirror::vec_in(rows, at + 5),
+        max: mirror::vec_in(rows, at + 8),
     };
     PatchRow {
         normal,
@@ -190,7 +180,7 @@ fn is_coplanar(rows: &[f32], p: usize, k: PlaneKey) -> bool
     let at = 11 * p;
     let offset = rows[at + 3];
     if float::abs(offset - k.offset) < 2e-3 {
-        return vector::dot3(vec_in(rows, at), k.normal) > 0.999_98;
+        return vector::dot3(mirror::vec_in(rows, at), k.normal) > 0.999_98;
     }
     false
 }

@@ -2,7 +2,7 @@
 use mathlib.Core.Path.{refl}
 use Prim.Native.Nat.{_-_}
 use native.Mathlib.Omega.{arith}
-use Rattle.planes_patches.specs.Rows.{vecIn}
+use Rattle.mirror.specs.Rows.{vecIn}
 use Rattle.planes_groups.proofs.normal_of.Statement.{statement}
 use Rattle.planes_groups.proofs.normal_of.Tie as tie
 

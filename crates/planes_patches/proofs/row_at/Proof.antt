@@ -1,4 +1,4 @@
--- `planes_patches::row_at` meets its contract, by the contract of `vec_in`.
+-- `planes_patches::row_at` meets its contract, by the contract of `mirror::vec_in`.
 use borrow.Author.Needs.{needs}
 use Rattle.planes_patches.specs.Rows.{rowIn}
 use Rattle.planes_patches.proofs.row_at.Statement.{statement}
