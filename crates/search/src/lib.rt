@@ -11,6 +11,7 @@ ghost use mathlib.Core.List.{List};
 ghost use Prim.Native.Nat.{ℕ, _+_, _-_, _*_, _<_, _≤_};
 ghost use lib.ListN.{length, getD, take, set};
 ghost use lib.Ieee.{Float, lt};
+ghost use Rattle.order.specs.Open.{Open};
 ghost use Rattle.geometry.specs.declared.Triangle.{Triangle};
 ghost use Rattle.tree_build.specs.Tree.{Tree};
 ghost use Rattle.scene.specs.Limits.{mostCrossings};
@@ -698,7 +699,8 @@ fn square_beyond(far: f32) -> f32
     float::infinity()
 }
 
-// The search from nothing: at most 250,000 images of at most `order` planes, and at most `room` candidates, in rows of `candidate_floats` and `candidate_words`.
+// The search from nothing: at most 250,000 images of at most `order` planes, and at most `room` candidates, in rows of `candidate_floats` and `candidate_words`;
+// what stands past their rows is open.
 pub fn search_images(
     padded: &[f32],
     nodes: &[u32],
@@ -726,7 +728,7 @@ pub fn search_images(
         (now «plane_words») (now «plane_triangles») (now «plane_edges») count ⌝ }
     requires { ⌜ (order ≤ maxOrder) × (count ≤ spec.mostPlanes) × (settings .«crossing_limit» ≤ mostCrossings) ⌝ }
     requires { ⌜ CandidateRows room (now «candidate_floats») (now «candidate_words») ⌝ }
-    ensures { λ r.
+    ensures searched { λ r.
         ⌜ ((tri : ℕ → Triangle) (t : Tree) →
         ReadAs (now (padded .entry)) (now (nodes .entry)) (now («leaf_order» .entry)) (now (leaves .entry)) (now (handles .entry)) (now (triangles .entry)) n
         (now («plane_floats» .entry)) (now («plane_words» .entry)) (now («plane_triangles» .entry)) count tri t →
@@ -735,7 +737,9 @@ pub fn search_images(
         order room (outcomesOf settings
         (planesIn (now («plane_floats» .entry)) (now («plane_words» .entry)) (now («plane_triangles» .entry)) (now («plane_edges» .entry)) count) tri t
         (now (materials .entry)) source listener)) ⌝ }
-    ensures { λ r. ⌜ r .found ≤ room ⌝ }
+    ensures few { λ r. ⌜ r .found ≤ room ⌝ }
+    ensures rest { λ _.
+        ⌜ Open (now («candidate_floats» .entry)) (now («candidate_floats» .exit)) × Open (now («candidate_words» .entry)) (now («candidate_words» .exit)) ⌝ }
 {
     if order == 0 {
         return Found {

@@ -284,7 +284,7 @@ returns-2 c =
             (e .ensures .0 (triangleAt (triangles s)) (treeOf (triangles s)) (search-reads s (a .triangles .now) (a .handles .now) (a .n) (a .m) (take (12 * a .m - 0) (drop 0 (b .last .0))) (b .last .1 .0) (take (a .m) (b .last .1 .1 .0)) (rowsIn (a .m) (b .last .0)) (b .result .nodes) (b .last .1 .1 .1 .1 .1 .1 .1 .1 .1 .1 .1 .1 .1 .1 .0)
             (b .last .1 .1 .1 .1 .1 .1 .1 .1 .1 .1 .1 .1 .1 .1 .1 .0) (b .last .1 .1 .1 .1 .1 .1 .1 .1 .1 .1 .1 .1 .1 .0) (b .last .1 .1 .1 .1 .1 .1 .1 .1 .1 .1 .1 .1 .1 .1 .1 .1 .0) (b .result .planes) w (p .held))) (p .are s f l cleared));
       },
-      e .ensures .1,
+      e .ensures .1 .0,
     )
 
 pub find-spec : {M : Type 1} → statement M

@@ -17,7 +17,7 @@ returns : tie.Need-returns
 returns c = let a = c .before .before .before .before .before .before .before .before .before .before .before .before .before .before .args in (
   λ tri t h. searched-none (onOf (planesIn (a .plane-floats .now) (a .plane-words .now) (a .plane-triangles .now) (a .plane-edges .now) (a .count)) (a .source)) (a .order) (a .room) (outcomesOf (a .settings) (planesIn (a .plane-floats .now) (a .plane-words .now) (a .plane-triangles .now) (a .plane-edges .now) (a .count)) tri t (a .materials .now) (a .source) (a .listener))
       (a .candidate-floats .now) (a .candidate-words .now) (c .if1 .taken),
-  omega arith,
+  (omega arith, (refl, refl)),
 )
 
 expand-images-requires : tie.Need-expand-images-requires
@@ -59,7 +59,7 @@ returns-2 c =
     let e = c .before .before .before .before .before .before .before .expand-images in (
       searched-all (searchAreas (a .padded .now) (a .nodes .now) (a .leaf-order .now) (a .leaves .now) (a .handles .now) (a .materials .now) (a .triangles .now) (a .plane-floats .now) (a .plane-words .now) (a .plane-triangles .now) (a .plane-edges .now)) q s new (a .candidate-floats .now) (e .last .1 .1 .1 .1 .1 .1 .1 .1 .1 .1 .1 .1 .1 .1 .1 .1 .0) (a .candidate-words .now)
           (e .last .1 .1 .1 .1 .1 .1 .1 .1 .1 .1 .1 .1 .1 .1 .1 .1 .1 .0) (state (e .last .1 .1 .1 .1 .1 .1 .1 .1 .1 .1 .1 .1 .1 .1 .0) (e .last .1 .1 .1 .1 .1 .1 .1 .1 .1 .1 .1 .1 .1 .1 .1 .0) (e .result)) refl (e .ensures),
-      e .ensures .sound .few,
+      (e .ensures .sound .few, (same-length c, same-length-2 c)),
     )
 
 pub search-images-spec : {M : Type 1} → statement M

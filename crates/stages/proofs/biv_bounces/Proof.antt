@@ -50,24 +50,28 @@ same-length : tie.Need-same-length
 same-length c = c .before .before .before .put-points .kept .0
 
 returns : tie.Need-returns
-returns c =
-    λ tri h.
-    let a = c .before .before .before .before .before .before .before .before .before .before .before .before .before .before .before .before .before .before .before .before .before .before .args in
-    let is = c .before .before .before .before .before .before .before .before .before .before .course-of .ensures in
-    let l = c .before .before .before .before .before .before .before .before .before .before .course-of .result .seq in
-    let n : ℕ = length (a .seq .now) in
-    let planes = planesIn (a .plane-floats .now) (a .plane-words .now) (a .plane-triangles .now) (a .plane-edges .now) (a .count) in
-    let back : trailOf (c .before .before .before .before .before .before .back .result) (length (a .seq .now)) ≡ backOf tri (a .fade) (planeOn planes l) (λ j. getD (c .before .before .before .before .before .before .before .before .before .before .course-of .result .images) j noPoint) (length (a .seq .now)) (c .before .before .before .before .before .before .before
-    .before .before .before .before .point-from2 .result) one32 [] [] =
-    rw (c .before .before .before .before .before .before .before .no-bounces .ensures .1, slice-empty (length (a .seq .now)) (c .before .before .before .before .before .before .before .no-bounces .result .points), slice-empty (length (a .seq .now)) (c .before .before .before .before .before .before .before .no-bounces .result .tris)) at (c .before .before .before
-    .before .before .before .back .ensures .0 tri h) in
-    rw (← c .before .before .before .before .before .before .before .before .before .before .before .before .point-from .ensures, ← c .before .before .before .before .before .before .before .before .before .before .before .point-from2 .ensures)
-    (bounced-trail (c .before .before .before .before .before .before .back .result) (length (a .seq .now)) _ (c .fate-number .result) (c .before .before .before .put-points .last .0) (c .before .before .before .before .before .before .before .before .before .before .before .before .before .before .before .before .before .before .before .before .before .before .pre .1 .0 .1)
-    (back
-    ∙ path-bounces planes tri (c .before .before .before .before .before .before .before .before .before .before .before .before .point-from .result) (c .before .before .before .before .before .before .before .before .before .before .before .point-from2 .result) l (λ j. getD (c .before .before .before .before .before .before .before .before .before
-    .before .course-of .result .images) j noPoint) (length (a .seq .now)) (omega (arith, is .seq-room, c .before .before .before .before .before .before .before .before .before .before .before .before .before .before .before .before .before .before .before .before .before .before .pre .1 .0 .1)) (is .mirrored (a .plane-triangles .now) (a .plane-edges .now)) (a .fade)
-    ∙ ap (bouncesOf tri (a .fade) planes (c .before .before .before .before .before .before .before .before .before .before .before .before .point-from .result) (c .before .before .before .before .before .before .before .before .before .before .before .point-from2 .result)) (whole (a .seq .now) l (is .planes)))
-    (c .fate-number .ensures) (c .before .before .before .put-points .ensures))
+returns c = (
+  (
+      λ tri h.
+      let a = c .before .before .before .before .before .before .before .before .before .before .before .before .before .before .before .before .before .before .before .before .before .before .args in
+      let is = c .before .before .before .before .before .before .before .before .before .before .course-of .ensures in
+      let l = c .before .before .before .before .before .before .before .before .before .before .course-of .result .seq in
+      let n : ℕ = length (a .seq .now) in
+      let planes = planesIn (a .plane-floats .now) (a .plane-words .now) (a .plane-triangles .now) (a .plane-edges .now) (a .count) in
+      let back : trailOf (c .before .before .before .before .before .before .back .result) (length (a .seq .now)) ≡ backOf tri (a .fade) (planeOn planes l) (λ j. getD (c .before .before .before .before .before .before .before .before .before .before .course-of .result .images) j noPoint) (length (a .seq .now)) (c .before .before .before .before .before .before .before
+      .before .before .before .before .point-from2 .result) one32 [] [] =
+      rw (c .before .before .before .before .before .before .before .no-bounces .ensures .1, slice-empty (length (a .seq .now)) (c .before .before .before .before .before .before .before .no-bounces .result .points), slice-empty (length (a .seq .now)) (c .before .before .before .before .before .before .before .no-bounces .result .tris)) at (c .before .before .before
+      .before .before .before .back .ensures .0 tri h) in
+      rw (← c .before .before .before .before .before .before .before .before .before .before .before .before .point-from .ensures, ← c .before .before .before .before .before .before .before .before .before .before .before .point-from2 .ensures)
+      (bounced-trail (c .before .before .before .before .before .before .back .result) (length (a .seq .now)) _ (c .fate-number .result) (c .before .before .before .put-points .last .0) (c .before .before .before .before .before .before .before .before .before .before .before .before .before .before .before .before .before .before .before .before .before .before .pre .1 .0 .1)
+      (back
+      ∙ path-bounces planes tri (c .before .before .before .before .before .before .before .before .before .before .before .before .point-from .result) (c .before .before .before .before .before .before .before .before .before .before .before .point-from2 .result) l (λ j. getD (c .before .before .before .before .before .before .before .before .before
+      .before .course-of .result .images) j noPoint) (length (a .seq .now)) (omega (arith, is .seq-room, c .before .before .before .before .before .before .before .before .before .before .before .before .before .before .before .before .before .before .before .before .before .before .pre .1 .0 .1)) (is .mirrored (a .plane-triangles .now) (a .plane-edges .now)) (a .fade)
+      ∙ ap (bouncesOf tri (a .fade) planes (c .before .before .before .before .before .before .before .before .before .before .before .before .point-from .result) (c .before .before .before .before .before .before .before .before .before .before .before .point-from2 .result)) (whole (a .seq .now) l (is .planes)))
+      (c .fate-number .ensures) (c .before .before .before .put-points .ensures))
+      ),
+  same-length c,
+)
 
 pub biv-bounces-spec : {M : Type 1} → statement M
 biv-bounces-spec =
