@@ -70,7 +70,7 @@ size_t biv_build_flat_bvh(const float *triangles, size_t triangles_len, const ui
                           uint64_t *words, size_t words_len, uint64_t *scratch, size_t scratch_len, float *areas, size_t areas_len,
                           float *boxes, size_t boxes_len, uint32_t *nodes, size_t nodes_len, float *tree, size_t tree_len);
 
-/* trace/specs/Trace.antt, intersectOf. The nearest hit in a tree of count nodes, count above 0, that biv_build_flat_bvh left in padded,
+/* tree_trace/specs/Trace.antt, intersectOf. The nearest hit in a tree of count nodes, count above 0, that biv_build_flat_bvh left in padded,
  * nodes, leaf_order and leaves. ray has 8 floats: origin, direction, least and greatest distance. Answers whether there is a hit; hit (4 floats or
  * more) then has its distance and point, place its triangle; else they are as they were. */
 bool biv_intersect(const float *padded, size_t padded_len, const uint32_t *nodes, size_t nodes_len, const uint32_t *leaf_order, size_t leaf_order_len,

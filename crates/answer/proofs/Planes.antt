@@ -11,12 +11,12 @@ use Rattle.columns.specs.Columns.{columnCount}
 use Rattle.scene.specs.declared.Settings.{Settings}
 use Rattle.scene.specs.Scene.{Scene}
 use Rattle.placing.specs.Corners.{triangles}
-use Rattle.patches.specs.Triangles.{triangleAt}
+use Rattle.planes_patches.specs.Triangles.{triangleAt}
 use Rattle.mirror.specs.Plane.{Plane}
 use Rattle.mirror.specs.Rows.{rowOf, trisOf, planesIn, PlanesHeld, AllRead}
 use Rattle.segments.specs.Areas.{Traceable}
 use Rattle.bounces.specs.Areas.{PlanesRead}
-use Rattle.paths.specs.Areas.{Lent, ReadAs}
+use Rattle.paths.specs.Areas.{SceneLent, ReadAs}
 use Rattle.claim.specs.Query.{Search, searched}
 use Rattle.search.specs.Outcome.{onOf, outcomesOf}
 use Rattle.scene_bvh.specs.SceneTree.{treeOf, SceneTree}
@@ -41,7 +41,7 @@ module _
   where
     pub search-lent :
         (materials : List Float) → s .materials ≡ materials → columnCount * n ≤ length columns → m ≤ n →
-        Lent padded nodes perm leaves handles nodes-count materials columns n floats words members edges count
+        SceneLent padded nodes perm leaves handles nodes-count materials columns n floats words members edges count
     search-lent materials same wide fewer =
         record {
           traceable = subst (λ (ms : List Float). Traceable padded nodes perm leaves handles nodes-count ms) same (traceable s columns handles n m padded nodes perm leaves nodes-count t);

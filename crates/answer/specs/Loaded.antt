@@ -9,10 +9,10 @@ use Rattle.scene.specs.declared.Settings.{Settings}
 use Rattle.scene.specs.Limits.{mostCrossings}
 use Rattle.scene.specs.Scene.{Scene}
 use Rattle.placing.specs.Corners.{triangles}
-use Rattle.ranked.specs.Areas.{TrianglesLent}
+use Rattle.planes_ranked.specs.Areas.{TrianglesLent}
 use Rattle.planes.specs.Areas.{PlanesRoom}
 use Rattle.sequences.specs.Allowed.{mostPlanes}
-use Rattle.ranking.specs.Rows.{Rows, candidatesIn}
+use Rattle.ranking.specs.Rows.{CandidateRows, candidatesIn}
 use Rattle.claim.specs.Query.{search}
 use Rattle.search.specs.declared.Found.{Found}
 use Rattle.front.specs.Asked.{silentOf, usedOrder, searchOrder, limitOf}
@@ -42,7 +42,7 @@ pub record Heard
   pub for-planes : PlanesRoom n keys low-keys words scratch index numbers adjacency queue offsets plane-triangles plane-words plane-floats floats plane-edges
   pub few : st .«max_reflection_planes» ≤ mostPlanes
   pub crossings : st .«crossing_limit» ≤ mostCrossings
-  pub for-found : Rows room floats numbers
+  pub for-found : CandidateRows room floats numbers
 
 -- the search's end is that over the triangles of the scene that was loaded
 pub record Finds
@@ -72,7 +72,7 @@ pub record Ready
   pub for-planes : PlanesRoom n keys low-keys words scratch index numbers adjacency queue offsets plane-triangles plane-words plane-floats floats plane-edges
   pub few : st .«max_reflection_planes» ≤ mostPlanes
   pub crossings : st .«crossing_limit» ≤ mostCrossings
-  pub for-found : Rows room floats numbers
+  pub for-found : CandidateRows room floats numbers
   pub sane : Sane st
   pub for-list : SendRoom room (limitOf st) keys queue words scratch out
 

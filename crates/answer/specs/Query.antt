@@ -5,7 +5,7 @@ use lib.Ieee.{Float}
 use Rattle.vector.specs.declared.Vec3.{Vec3}
 use Rattle.geometry.specs.declared.Triangle.{Triangle}
 use Rattle.scene.specs.declared.Settings.{Settings}
-use Rattle.patches.specs.Triangles.{triangleAt}
+use Rattle.planes_patches.specs.Triangles.{triangleAt}
 use Rattle.scene_bvh.specs.SceneTree.{treeOf}
 use Rattle.scene_planes.specs.ScenePlanes.{planesFor}
 use Rattle.claim.specs.Answer.{Outcome}

@@ -97,13 +97,9 @@ fn say_later_word(wrong: u32) {
     }
 }
 
-fn byte_at(s: &[u8], k: usize) -> u8 {
-    if k < s.len() { s[k] } else { 0 }
-}
-
 fn last_byte(s: &[u8]) -> u8 {
     if 0 < s.len() {
-        byte_at(s, s.len() - 1)
+        text::byte_at(s, s.len() - 1, 0)
     } else {
         0
     }
@@ -128,11 +124,11 @@ fn is_eight_hex(word: &[u8]) -> bool {
 }
 
 fn is_prefixed(word: &[u8]) -> bool {
-    byte_at(word, 0) == b'0' && byte_at(word, 1) == b'x'
+    text::byte_at(word, 0, 0) == b'0' && text::byte_at(word, 1, 0) == b'x'
 }
 
 fn is_half(word: &[u8]) -> bool {
-    byte_at(word, 0) == b'.' || last_byte(word) == b'.'
+    text::byte_at(word, 0, 0) == b'.' || last_byte(word) == b'.'
 }
 
 // What to write in place of a word that is no float.
@@ -143,7 +139,7 @@ fn advise(word: &[u8]) {
         say(b" for a float's bits; a decimal without a point has at most seven digits");
     } else if is_prefixed(word) {
         say(b"bits are 0x and eight digits, 0 to 9 and a to f");
-    } else if byte_at(word, 0) == b'+' {
+    } else if text::byte_at(word, 0, 0) == b'+' {
         say(b"write it without the plus");
     } else if is_half(word) {
         say(b"write a digit on each side of the point");
@@ -152,9 +148,20 @@ fn advise(word: &[u8]) {
     }
 }
 
+// Whether a word begins as a number does, with a digit or a minus.
+fn is_numeric(word: &[u8]) -> bool {
+    let first = text::byte_at(word, 0, 0);
+    first == b'-' || (b'0' <= first && first <= b'9')
+}
+
+// Whether it does, and has an exponent: a word as `merge` has none.
+fn has_exponent(word: &[u8]) -> bool {
+    is_numeric(word) && (has(word, b'e') || has(word, b'E'))
+}
+
 fn advise_more(word: &[u8]) {
-    if has(word, b'e') || has(word, b'E') {
-        say(b"write it without an exponent, as 1000 for 1e3");
+    if has_exponent(word) {
+        say(b"write it without an exponent, as 1000 for 1e3 and 0.001 for 1e-3");
     } else {
         say(b"write a decimal of at most seven digits, as -0.25, or a float's bits, as 0xbe800000");
     }
@@ -200,7 +207,7 @@ fn say_fault(wrong: u32, word: &[u8]) {
 }
 
 // The line, what was expected there, and what stands there.
-pub fn say_wrong(s: &[u8], c: Cursor) {
+pub(crate) fn say_wrong(s: &[u8], c: Cursor) {
     let from = c.from;
     let at = c.at;
     say_line(c.line);
@@ -344,7 +351,7 @@ fn say_room(refusal: u32, room: u32) {
 }
 
 // A refusal, with its number; 1 with the setting that it is about. `room` is the room for candidates that the case has.
-pub fn say_refusal(s: &[u8], refusal: u32, settings: Settings, room: u32) {
+pub(crate) fn say_refusal(s: &[u8], refusal: u32, settings: Settings, room: u32) {
     say(b"refusal ");
     io::print_decimal(STDERR_FILENO, refusal as u64);
     say(b": ");
@@ -357,7 +364,7 @@ pub fn say_refusal(s: &[u8], refusal: u32, settings: Settings, room: u32) {
     say(b"\n");
 }
 
-pub fn say_usage() {
+pub(crate) fn say_usage() {
     say(b"usage: booth                        the built-in booth\n");
     say(b"       booth SCENE.case             the scene of a file (docs/BOOTH.md)\n");
     say(b"       booth SCENE.case PACKET.bin  the same, and the packet to a file\n");

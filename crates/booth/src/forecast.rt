@@ -38,7 +38,7 @@ fn print_air(w: &[u32]) {
 
 // What the air takes, and the forecast for as many walls as the settings and the triangles of a case allow, each of which may come first; no forecast where
 // none can be made.
-pub fn print_forecast(w: &[u32]) {
+pub(crate) fn print_forecast(w: &[u32]) {
     print_air(w);
     let triples = casefile::word(w, 10) / 3;
     let planes = lesser(casefile::word(w, 2), triples);

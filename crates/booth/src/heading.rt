@@ -82,7 +82,7 @@ fn print_held(rows: &[f32], end: usize) {
 }
 
 // All of it, for a case that was read.
-pub fn print_before(s: &[u8], w: &[u32], f: &[f32], materials: &[f32]) {
+pub(crate) fn print_before(s: &[u8], w: &[u32], f: &[f32], materials: &[f32]) {
     let celsius = crate::real(f, 2);
     let rate = crate::real(f, 3);
     print_scene(s, crate::order_of(w, f), celsius, rate);

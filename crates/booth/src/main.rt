@@ -26,14 +26,14 @@ ghost use lib.ListN.{length};
 ghost use Rattle.mirror.specs.Rows.{planeFloats, planeWords};
 
 // The candidates that there is room for.
-const CANDIDATES: u32 = 4096;
+const CANDIDATES: u32 = areas::CANDIDATES as u32;
 
-const MOST_CANDIDATES: u32 = 250000;
+const MOST_CANDIDATES: u32 = sequences::MAX_IMAGE_NODES as u32;
 
 // More taps than any list has, and the most planes.
 const ALL_TAPS: u32 = 1000000;
 
-const ALL_PLANES: u32 = 256;
+const ALL_PLANES: u32 = sequences::MAX_PLANES as u32;
 
 // ---- the query
 
@@ -147,7 +147,7 @@ pub(crate) struct Named {
     heard: usize,
 }
 
-// The query in areas of its own, with so many taps.
+// The query in areas of its own, with so many taps. It is long because each area is lent once: to hand them all on a second time costs more to check.
 fn trace(
     out: &mut [u8],
     w: &[u32],
@@ -249,28 +249,7 @@ fn load(
         indices,
         materials,
         casefile::word(w, 7),
-        [
-            11776,
-            512,
-            11264,
-            4096,
-            512,
-            5632,
-            1536,
-            16384,
-            16384,
-            1536,
-            9728,
-            12288,
-            5632,
-            1537,
-            59392,
-            513,
-            6144,
-            2560,
-            9216,
-            packet::OUT_BYTES,
-        ],
+        areas::LENGTHS,
         &mut triangles,
         &mut handles,
     )
@@ -404,7 +383,7 @@ fn describe(
 }
 
 // The planes of the scene, at most `most`, in plane_floats and plane_words, and what is known of each, in `on`; in areas of its own, since those of the query
-// are gone. The answer is how many planes there are.
+// are gone. The answer is how many planes there are. It is as long as `trace`, and for the same reason.
 fn name_walls(
     plane_floats: &mut [f32],
     plane_words: &mut [u32],
@@ -547,6 +526,87 @@ fn count_taps(
     r.count
 }
 
+// What was left out of an answer: planes and taps are counted once more, as if none were cut.
+fn count_all(
+    w: &[u32],
+    f: &[f32],
+    meshes: &[u32],
+    transforms: &[f32],
+    positions: &[f32],
+    indices: &[u32],
+    materials: &[f32],
+    answer: Answered,
+    planes: usize,
+) -> Named {
+    let found = count_planes(
+        w,
+        f,
+        meshes,
+        transforms,
+        positions,
+        indices,
+        materials,
+        planes,
+    );
+    let heard = count_taps(
+        w,
+        f,
+        meshes,
+        transforms,
+        positions,
+        indices,
+        materials,
+        answer.count,
+    );
+    Named {
+        answer,
+        planes,
+        found,
+        heard,
+    }
+}
+
+// The planes of an answer that is no refusal, and what was left out.
+fn name_answer(
+    plane_floats: &mut [f32],
+    plane_words: &mut [u32],
+    on: &mut [u8],
+    w: &[u32],
+    f: &[f32],
+    meshes: &[u32],
+    transforms: &[f32],
+    positions: &[f32],
+    indices: &[u32],
+    materials: &[f32],
+    answer: Answered,
+) -> Named {
+    let planes = name_walls(
+        plane_floats,
+        plane_words,
+        on,
+        w,
+        f,
+        meshes,
+        transforms,
+        positions,
+        indices,
+        materials,
+        casefile::word(w, 2),
+    );
+    notes::print_loaded(load(w, f, meshes, transforms, positions, indices, materials));
+    count_all(
+        w,
+        f,
+        meshes,
+        transforms,
+        positions,
+        indices,
+        materials,
+        answer,
+        planes,
+    )
+}
+
 // The query, and the planes where it is not refused.
 fn trace_and_name(
     out: &mut [u8],
@@ -580,7 +640,7 @@ fn trace_and_name(
             heard: 0,
         };
     }
-    let planes = name_walls(
+    name_answer(
         plane_floats,
         plane_words,
         on,
@@ -591,41 +651,17 @@ fn trace_and_name(
         positions,
         indices,
         materials,
-        casefile::word(w, 2),
-    );
-    notes::print_loaded(load(w, f, meshes, transforms, positions, indices, materials));
-    let found = count_planes(
-        w,
-        f,
-        meshes,
-        transforms,
-        positions,
-        indices,
-        materials,
-        planes,
-    );
-    let heard = count_taps(
-        w,
-        f,
-        meshes,
-        transforms,
-        positions,
-        indices,
-        materials,
-        answer.count,
-    );
-    Named {
         answer,
-        planes,
-        found,
-        heard,
-    }
+    )
 }
 
 // The order that the query searches to.
 pub(crate) fn order_of(w: &[u32], f: &[f32]) -> u32 {
     let order = front::search_order(settings_of(w, f));
-    if order < 9 { order as u32 } else { 0 }
+    if order <= sequences::MAX_IMAGE_ORDER {
+        return order as u32;
+    }
+    0
 }
 
 // A count of a case, cut to what its area holds.
@@ -774,6 +810,54 @@ fn print_notes(on: &[u8], named: Named, w: &[u32], f: &[f32]) {
     );
 }
 
+// Asks for a case that was read, and says what the answer is.
+fn answer_case(
+    w: &[u32],
+    f: &[f32],
+    meshes: &[u32],
+    transforms: &[f32],
+    positions: &[f32],
+    indices: &[u32],
+    materials: &[f32],
+    s: &[u8],
+    path: &[u8],
+    by_time: bool,
+)
+    requires { ⌜ (192 ≤ length (now meshes)) × (1024 ≤ length (now transforms)) × (6144 ≤ length (now positions)) × (1536 ≤ length (now indices)) ×
+        (1024 ≤ length (now materials)) ⌝ }
+{
+    let mut out = areas::fresh_output();
+    let mut plane_floats = areas::fresh_plane_floats();
+    let mut plane_words = areas::fresh_plane_words();
+    let mut on = areas::fresh_on();
+    let named = ask(
+        &mut out,
+        &mut plane_floats,
+        &mut plane_words,
+        &mut on,
+        w,
+        f,
+        meshes,
+        transforms,
+        positions,
+        indices,
+        materials,
+        s,
+    );
+    report(
+        &out,
+        &plane_floats,
+        &plane_words,
+        &on,
+        named,
+        w,
+        f,
+        path,
+        s,
+        by_time,
+    );
+}
+
 // Reads a text, asks, and says what the answer is.
 pub(crate) fn run(s: &[u8], path: &[u8], by_time: bool) {
     let mut w = areas::fresh_case_words();
@@ -783,10 +867,6 @@ pub(crate) fn run(s: &[u8], path: &[u8], by_time: bool) {
     let mut transforms = areas::fresh_case_rows();
     let mut positions = areas::fresh_case_positions();
     let mut indices = areas::fresh_case_indices();
-    let mut out = areas::fresh_output();
-    let mut plane_floats = areas::fresh_plane_floats();
-    let mut plane_words = areas::fresh_plane_words();
-    let mut on = areas::fresh_on();
     let c = casefile::read_case(
         s,
         &mut w,
@@ -801,11 +881,7 @@ pub(crate) fn run(s: &[u8], path: &[u8], by_time: bool) {
         faults::say_wrong(s, c);
         return;
     }
-    let named = ask(
-        &mut out,
-        &mut plane_floats,
-        &mut plane_words,
-        &mut on,
+    answer_case(
         &w,
         &f,
         &meshes,
@@ -814,17 +890,7 @@ pub(crate) fn run(s: &[u8], path: &[u8], by_time: bool) {
         &indices,
         &materials,
         s,
-    );
-    report(
-        &out,
-        &plane_floats,
-        &plane_words,
-        &on,
-        named,
-        &w,
-        &f,
         path,
-        s,
         by_time,
     );
 }
@@ -867,13 +933,10 @@ fn is_scene(path: &[u8], bytes: &[u8]) -> bool {
     same
 }
 
-fn byte_at(s: &[u8], k: usize) -> u8 {
-    if k < s.len() { s[k] } else { 0 }
-}
-
 // Whether a text begins with a byte order mark.
 fn is_marked(s: &[u8]) -> bool {
-    byte_at(s, 0) == 0xef && (byte_at(s, 1) == 0xbb && byte_at(s, 2) == 0xbf)
+    text::byte_at(s, 0, 0) == 0xef
+        && (text::byte_at(s, 1, 0) == 0xbb && text::byte_at(s, 2, 0) == 0xbf)
 }
 
 // Runs a scene's bytes. The packet's file is emptied first, so that no failure leaves the packet of an earlier run.

@@ -8,6 +8,7 @@ use crate::tags;
 use libc::STDOUT_FILENO;
 use numbering::Walls;
 use sequences::MAX_IMAGE_ORDER;
+use sequences::MAX_PLANES;
 ghost use Prim.Native.Nat.{_+_, _*_, _≤_};
 ghost use lib.ListN.{length};
 
@@ -19,7 +20,10 @@ fn print_arrow(k: usize) {
 
 // How many planes there are, as `numbering` takes it.
 fn count_of(on: &[u8]) -> u32 {
-    if on.len() < 257 { on.len() as u32 } else { 0 }
+    if on.len() <= MAX_PLANES {
+        return on.len() as u32;
+    }
+    0
 }
 
 // The walls of the echo with this image, the one next to the source first.
@@ -32,7 +36,7 @@ fn wall_at(planes: [u8; MAX_IMAGE_ORDER], k: usize) -> u8 {
 }
 
 // The walls that the echo with this image meets.
-pub fn print_walls(on: &[u8], order: u32, number: u32) {
+pub(crate) fn print_walls(on: &[u8], order: u32, number: u32) {
     let met = walls_of(on, order, number);
     let planes = met.planes;
     let mut k = 0;
@@ -144,7 +148,7 @@ fn print_lines(
 {
     let mut p = 0;
     while p < on.len() {
-        if 255 < p {
+        if MAX_PLANES <= p {
             return;
         }
         print_used(taps, on, order, count, floats, words, tags, text, p);
@@ -153,7 +157,7 @@ fn print_lines(
 }
 
 // The walls that the echoes meet, in the order of their numbers. A scene may have 256: one that no row names is left out.
-pub fn print_list(
+pub(crate) fn print_list(
     taps: &[u32],
     on: &[u8],
     order: u32,

@@ -96,7 +96,7 @@ fn print_unheard() {
 }
 
 // The lines below the table.
-pub fn print_notes(
+pub(crate) fn print_notes(
     on: &[u8],
     named: Named,
     most: usize,
@@ -134,7 +134,7 @@ fn print_left(triples: usize, placings: usize, kept: usize) {
     }
 }
 
-pub fn print_loaded(loaded: Loaded) {
+pub(crate) fn print_loaded(loaded: Loaded) {
     match loaded {
         Loaded::Refused(_) => {}
         Loaded::Triangles(kept, placings, triples) => print_left(triples, placings, kept),
@@ -142,7 +142,7 @@ pub fn print_loaded(loaded: Loaded) {
 }
 
 // How many triangles were kept.
-pub fn kept_of(loaded: Loaded) -> u32 {
+pub(crate) fn kept_of(loaded: Loaded) -> u32 {
     match loaded {
         Loaded::Refused(_) => 0,
         Loaded::Triangles(kept, placings, triples) => small(kept),

@@ -49,14 +49,10 @@ fn place_of(s: &[u8], at: usize, b: u8) -> usize {
     s.len()
 }
 
-fn byte_at(s: &[u8], k: usize) -> u8 {
-    if k < s.len() { s[k] } else { b'\n' }
-}
-
 // The remark in the line of mesh j, if there is one, up to a comma.
-pub fn print_mesh(s: &[u8], j: u8) {
+pub(crate) fn print_mesh(s: &[u8], j: u8) {
     let from = place_of(s, mesh_place(s, j), b'#');
-    if byte_at(s, from) == b'#' {
+    if text::byte_at(s, from, b'\n') == b'#' {
         print(b"  ");
         crate::faults::print_some(s, from, place_of(s, from, b','), 34);
     }

@@ -1,7 +1,7 @@
 // The built-in booth, in the text that a file would have.
 
 // A room of twelve metres with a carpet, ceiling tiles and plaster walls, and three free panels of wood: 18 triangles.
-pub fn run_built_in(by_time: bool) {
+pub(crate) fn run_built_in(by_time: bool) {
     crate::run(
         b"case built-in                  # 12 m long, 3 m high, 5 m wide
 counts 3 16 32 4096            # order, most taps, most planes, room for candidates

@@ -1,12 +1,15 @@
-// What is known of each plane, a byte each, 256 planes after one another: whether the source lies on it, the mesh and the material of its first triangle,
+// What is known of each plane, a byte each, as many as there can be planes after one another: whether the source lies on it, the mesh and the material of its first triangle,
 // and whether its triangles are of several meshes.
 use casefile::word;
+use sequences::MAX_PLANES;
 
-const MESHES: usize = 256;
+const MESHES: usize = MAX_PLANES;
 
-const MATERIALS: usize = 512;
+const MATERIALS: usize = 2 * MAX_PLANES;
 
-const SEVERAL: usize = 768;
+const SEVERAL: usize = 3 * MAX_PLANES;
+
+pub(crate) const ALL: usize = 4 * MAX_PLANES;
 
 fn tag(on: &[u8], k: usize) -> u8 {
     if k < on.len() { on[k] } else { 0 }
@@ -20,23 +23,23 @@ fn set_tag(on: &mut [u8], k: usize, value: u8) {
 
 // The byte of plane p in the part that begins at `part`.
 fn tag_of(on: &[u8], part: usize, p: usize) -> u8 {
-    if p < 256 {
-        if part < 1024 {
+    if p < MAX_PLANES {
+        if part < ALL {
             return tag(on, part + p);
         }
     }
     0
 }
 
-pub fn mesh(on: &[u8], p: usize) -> u8 {
+pub(crate) fn mesh(on: &[u8], p: usize) -> u8 {
     tag_of(on, MESHES, p)
 }
 
-pub fn material(on: &[u8], p: usize) -> u8 {
+pub(crate) fn material(on: &[u8], p: usize) -> u8 {
     tag_of(on, MATERIALS, p)
 }
 
-pub fn is_of_several(on: &[u8], p: usize) -> bool {
+pub(crate) fn is_of_several(on: &[u8], p: usize) -> bool {
     tag_of(on, SEVERAL, p) != 0
 }
 
@@ -92,7 +95,7 @@ fn set_plane(
     ends: &[u32],
     p: usize,
 ) {
-    if 255 < p {
+    if MAX_PLANES <= p {
         return;
     }
     let first = word(words, 5 * p);
@@ -106,7 +109,7 @@ fn set_plane(
     );
 }
 
-pub fn set_planes(
+pub(crate) fn set_planes(
     on: &mut [u8],
     words: &[u32],
     triangles: &[u32],

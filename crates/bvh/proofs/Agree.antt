@@ -13,16 +13,16 @@ use Rattle.vector.specs.declared.Vec3.{Vec3}
 use Rattle.vector.specs.Vector.{axisOf}
 use Rattle.geometry.specs.declared.Aabb.{Aabb}
 use Rattle.geometry.specs.Aabb.{newEmptyOf, unionOf, fromPointOf}
-use Rattle.split.specs.declared.BestSplit.{BestSplit}
-use Rattle.split.specs.Split.{Found, found, Divided, insertOn, sortOn, boundsOf, suffixOf, tryOf, sweepOf, searchAxisOf, searchAxesOf, spanOf, bestSplit, leastSpan, lastSort, splitOf}
-use Rattle.build.specs.Tree.{Tree, leaf, node, leafOf, branchOf, leafThreshold, buildSahOf}
-use Rattle.build.specs.Tree.{boxOf, leavesOf}
+use Rattle.tree_split.specs.declared.BestSplit.{BestSplit}
+use Rattle.tree_split.specs.Split.{Swept, swept, Divided, insertOn, sortOn, boundsOf, suffixOf, tryOf, sweepOf, searchAxisOf, searchAxesOf, spanOf, bestSplit, leastSpan, lastSort, splitOf}
+use Rattle.tree_build.specs.Tree.{Tree, leaf, node, leafOf, branchOf, leafThreshold, buildSahOf}
+use Rattle.tree_build.specs.Tree.{boxOf, leavesOf}
 use Rattle.geometry.specs.declared.Triangle.{Triangle}
 use Rattle.vector.specs.declared.Ray.{Ray}
-use Rattle.trace.specs.declared.Closest.{Closest}
-use Rattle.trace.specs.Leaf.{visitOf, visitAllOf}
-use Rattle.trace.specs.Trace.{Test, entered, traceOf}
-use Rattle.trace.proofs.Laws.{turn-same}
+use Rattle.tree_trace.specs.declared.Closest.{Closest}
+use Rattle.tree_trace.specs.Leaf.{visitOf, visitAllOf}
+use Rattle.tree_trace.specs.Trace.{Test, entered, traceTree}
+use Rattle.tree_trace.proofs.Laws.{turn-same}
 use Rattle.bvh.proofs.Leaves.{perm-below, sort-on-perm, axis-perm, axes-perm, split-perm}
 
 -- ---- the sort
@@ -67,20 +67,20 @@ module _ (n : ℕ) (b c : ℕ → Aabb) (same : (i : ℕ) → i < n → b i ≡ 
 
 -- ---- the split and the tree
 module _ (n : ℕ) (b c : ℕ → Aabb) (mid nid : ℕ → Vec3) (boxes : (i : ℕ) → i < n → b i ≡ c i) (mids : (i : ℕ) → i < n → mid i ≡ nid i) where
-  axis-agree : (a : ℕ) (span : Float) (s : Found) → Below n (s .list) → searchAxisOf b mid a span s ≡ searchAxisOf c nid a span s
+  axis-agree : (a : ℕ) (span : Float) (s : Swept) → Below n (s .list) → searchAxisOf b mid a span s ≡ searchAxisOf c nid a span s
   unfolding searchAxisOf
   axis-agree a span s h =
       let f : ℕ → Float = λ i. axisOf (mid i) a in
       let g : ℕ → Float = λ i. axisOf (nid i) a in
       let e = sort-agree n f g (λ i l. ap (λ (v : Vec3). axisOf v a) (mids i l)) (s .list) h in
       let xs = sortOn f (s .list) in
-      ap (λ (r : BestSplit). cond (lt span leastSpan) s (found xs r)) (sweep-agree n b c boxes a xs (length xs - 1) (s .best) (perm-below n (sort-on-perm f (s .list)) h))
-      ∙ ap (λ (ys : List ℕ). cond (lt span leastSpan) s (found ys (sweepOf c a ys (length ys - 1) (s .best)))) e
+      ap (λ (r : BestSplit). cond (lt span leastSpan) s (swept xs r)) (sweep-agree n b c boxes a xs (length xs - 1) (s .best) (perm-below n (sort-on-perm f (s .list)) h))
+      ∙ ap (λ (ys : List ℕ). cond (lt span leastSpan) s (swept ys (sweepOf c a ys (length ys - 1) (s .best)))) e
 
   span-agree : (a : ℕ) (xs : List ℕ) → Below n xs → spanOf mid a xs ≡ spanOf nid a xs
   span-agree a xs h = rw (bounds-agree n (λ i. fromPointOf (mid i)) (λ i. fromPointOf (nid i)) (λ i l. ap fromPointOf (mids i l)) xs h)
 
-  step-agree : (a : ℕ) (xs : List ℕ) (s t : Found) → Below n xs → Below n (s .list) → s ≡ t → searchAxisOf b mid a (spanOf mid a xs) s ≡ searchAxisOf c nid a (spanOf nid a xs) t
+  step-agree : (a : ℕ) (xs : List ℕ) (s t : Swept) → Below n xs → Below n (s .list) → s ≡ t → searchAxisOf b mid a (spanOf mid a xs) s ≡ searchAxisOf c nid a (spanOf nid a xs) t
   step-agree a xs s t h l e =
       axis-agree a (spanOf mid a xs) s l
       ∙ ap (λ (x : Float). searchAxisOf c nid a x s) (span-agree a xs h) ∙ ap (searchAxisOf c nid a (spanOf nid a xs)) e
@@ -88,7 +88,7 @@ module _ (n : ℕ) (b c : ℕ → Aabb) (mid nid : ℕ → Vec3) (boxes : (i : �
   pub axes-agree : (xs : List ℕ) → Below n xs → searchAxesOf b mid xs ≡ searchAxesOf c nid xs
   unfolding searchAxesOf
   axes-agree xs h =
-      let s0 = found xs (bestSplit Rattle.geometry.specs.Aabb.most 0 0) in
+      let s0 = swept xs (bestSplit Rattle.geometry.specs.Aabb.most 0 0) in
       let s1 = searchAxisOf b mid 0 (spanOf mid 0 xs) s0 in
       let s2 = searchAxisOf b mid 1 (spanOf mid 1 xs) s1 in
       let h1 = perm-below n (axis-perm b mid 0 (spanOf mid 0 xs) s0) h in
@@ -96,7 +96,7 @@ module _ (n : ℕ) (b c : ℕ → Aabb) (mid nid : ℕ → Vec3) (boxes : (i : �
       step-agree 2 xs s2 (searchAxisOf c nid 1 (spanOf nid 1 xs) (searchAxisOf c nid 0 (spanOf nid 0 xs) s0)) h h2
       (step-agree 1 xs s1 (searchAxisOf c nid 0 (spanOf nid 0 xs) s0) h h1 (step-agree 0 xs s0 s0 h h refl))
 
-  last-agree : (s : Found) → Below n (s .list) → lastSort mid s ≡ lastSort nid s
+  last-agree : (s : Swept) → Below n (s .list) → lastSort mid s ≡ lastSort nid s
   last-agree s h = rw (sort-agree n (λ i. axisOf (mid i) (s .best .axis)) (λ i. axisOf (nid i) (s .best .axis)) (λ i l. ap (λ (v : Vec3). axisOf v (s .best .axis)) (mids i l)) (s .list) h)
 
   pub split-agree : (xs : List ℕ) → Below n xs → splitOf b mid xs ≡ splitOf c nid xs
@@ -138,11 +138,11 @@ module _ (n : ℕ) (tri sri : ℕ → Triangle) (same : (i : ℕ) → i < n → 
       visits-agree xs (visitOf (tri x) ray x best) (below-tail n x xs h)
       ∙ ap (λ (t : Triangle). visitAllOf sri ray xs (visitOf t ray x best)) (same x (below-head n x xs h))
 
-  pub trace-agree : (test : Test) (t : Tree) (best : Closest) → Below n (leavesOf t) → traceOf test tri ray t best ≡ traceOf test sri ray t best
-  unfolding traceOf leavesOf
+  pub trace-agree : (test : Test) (t : Tree) (best : Closest) → Below n (leavesOf t) → traceTree test tri ray t best ≡ traceTree test sri ray t best
+  unfolding traceTree leavesOf
   trace-agree test (leaf b xs) best h = ap (λ (c : Closest). cond (entered (test b ray (best .distance))) c best) (visits-agree xs best h)
   trace-agree test (node b l r) best h =
       ap (λ (c : Closest). cond (entered (test b ray (best .distance))) c best)
       (turn-same (test (boxOf l) ray (best .distance)) (test (boxOf r) ray (best .distance))
-      (traceOf test tri ray l) (traceOf test tri ray r) (traceOf test sri ray l) (traceOf test sri ray r) best
+      (traceTree test tri ray l) (traceTree test tri ray r) (traceTree test sri ray l) (traceTree test sri ray r) best
       (λ x. trace-agree test l x (below-front n (leavesOf l) (leavesOf r) h)) (λ x. trace-agree test r x (below-back n (leavesOf l) (leavesOf r) h)))

@@ -9,8 +9,8 @@ use Rattle.vector.specs.declared.Vec3.{Vec3}
 use Rattle.vector.specs.Vector.{vec, axisOf}
 use Rattle.geometry.specs.declared.Aabb.{Aabb}
 use Rattle.geometry.specs.Aabb.{box, lowOf, highOf, newEmptyOf, unionOf, growOf, extentOf, surfaceAreaOf, fromPointOf}
-use Rattle.split.specs.Split.{countOf, insertOn, sortOn, boundsOf, suffixOf, costOf, betterOf, tryOf, sweepOf, searchAxisOf, searchAxesOf, splitOf}
-use Rattle.build.specs.Tree.{leaf, node, buildSahOf, countTo, buildOf}
+use Rattle.tree_split.specs.Split.{countOf, insertOn, sortOn, boundsOf, suffixOf, costOf, betterOf, tryOf, sweepOf, searchAxisOf, searchAxesOf, splitOf}
+use Rattle.tree_build.specs.Tree.{leaf, node, buildSahOf, countTo, buildOf}
 
 -- from i to j along x, from 0 to 1 along y and z
 abbrev run : ℕ → ℕ → Aabb

@@ -15,7 +15,7 @@ use Rattle.geometry.specs.declared.Triangle.{Triangle}
 use Rattle.geometry.specs.Triangle.{three, thirdOf}
 use Rattle.geometry.specs.Triangle as triangle
 use Rattle.columns.specs.Columns.{triangleAtOf}
-use Rattle.bvh.specs.Bvh.{allFinite, finiteOf, centroidOf}
+use Rattle.bvh.specs.Bvh.{allFinite, finiteOf, centroidIn}
 
 -- the parts of a point are of a size up to `most`
 pub record Near (most : ℕ) (v : Vec3) : Type 0 where
@@ -47,8 +47,8 @@ all-finite f (suc m) h = rw (all-finite f m (λ i l. h i (omega arith)), h m (om
 pub finite-centroids :
     (columns : List Float) (handles : List ℕ) (n m b : ℕ) → b + b + b ≤ 2 ^ 24 →
     ((i : ℕ) → i < m → NearTriangle b (triangleAtOf columns handles n i)) →
-    finiteOf (centroidOf columns handles n) m ≡ true
-unfolding finiteOf centroidOf triangle.centroidOf axisOf
+    finiteOf (centroidIn columns handles n) m ≡ true
+unfolding finiteOf centroidIn triangle.centroidOf axisOf
 finite-centroids columns handles n m b small near =
     let t = triangleAtOf columns handles n in
     rw (

@@ -15,10 +15,10 @@ use Rattle.geometry.specs.declared.Crossing.the-variants as crossing
 use Rattle.geometry.specs.declared.Entry.{Entry}
 use Rattle.geometry.specs.declared.Entry.the-variants as entry
 use Rattle.geometry.specs.Intersect.{intersectMaxOf}
-use Rattle.build.specs.Tree.{Tree, leaf, node, boxOf, leavesOf}
-use Rattle.trace.specs.declared.Closest.{Closest}
-use Rattle.trace.specs.Leaf.{visitOf, visitAllOf}
-use Rattle.trace.specs.Trace.{Test, entered, orderOf, traceOf, none}
+use Rattle.tree_build.specs.Tree.{Tree, leaf, node, boxOf, leavesOf}
+use Rattle.tree_trace.specs.declared.Closest.{Closest}
+use Rattle.tree_trace.specs.Leaf.{visitOf, visitAllOf}
+use Rattle.tree_trace.specs.Trace.{Test, entered, nearFirst, traceTree, none}
 
 -- i is one of xs
 unfoldable pub Among : ℕ → List ℕ → Type 0
@@ -61,7 +61,7 @@ module _ (tri : ℕ → Triangle) (ray : Ray) where
   unfolding visitOf Among
   visit-kept i best = go (intersectMaxOf (tri i) ray (best .distance)) refl
     where
-      go : (x : Crossing) → intersectMaxOf (tri i) ray (best .distance) ≡ x → Kept (i ∷ []) best (Rattle.trace.specs.Leaf.keepOf x i best)
+      go : (x : Crossing) → intersectMaxOf (tri i) ray (best .distance) ≡ x → Kept (i ∷ []) best (Rattle.tree_trace.specs.Leaf.keepOf x i best)
       go crossing.Miss e = inl refl
       go (crossing.At t p q) e = by (lt t (best .distance) || eqb (best .found) 0)
         where
@@ -82,7 +82,7 @@ module _ (tri : ℕ → Triangle) (ray : Ray) where
       (kept-wider xs (x ∷ xs) next (visitAllOf tri ray xs next) (λ i h. inr h) (visits-kept xs next))
 
   turns-kept : (xs : List ℕ) (a b : Entry) (f g : Closest → Closest) (best : Closest) → ((x : Closest) → Kept xs x (f x)) → ((x : Closest) → Kept xs x (g x)) →
-      Kept xs best (foldl (λ (x : Closest) (h : Closest → Closest). h x) best (orderOf a b f g))
+      Kept xs best (foldl (λ (x : Closest) (h : Closest → Closest). h x) best (nearFirst a b f g))
   turns-kept xs entry.Miss entry.Miss f g best p q = inl refl
   turns-kept xs entry.Miss (entry.At y) f g best p q = q best
   turns-kept xs (entry.At x) entry.Miss f g best p q = p best
@@ -92,8 +92,8 @@ module _ (tri : ℕ → Triangle) (ray : Ray) where
       go true = kept-then xs best (f best) (g (f best)) (p best) (q (f best))
       go false = kept-then xs best (g best) (f (g best)) (q best) (p (g best))
 
-  trace-kept : (test : Test) (t : Tree) (best : Closest) → Kept (leavesOf t) best (traceOf test tri ray t best)
-  unfolding traceOf leavesOf
+  trace-kept : (test : Test) (t : Tree) (best : Closest) → Kept (leavesOf t) best (traceTree test tri ray t best)
+  unfolding traceTree leavesOf
   trace-kept test (leaf b xs) best = go (entered (test b ray (best .distance)))
     where
       go : (k : Bool) → Kept xs best (cond k (visitAllOf tri ray xs best) best)
@@ -101,19 +101,19 @@ module _ (tri : ℕ → Triangle) (ray : Ray) where
       go false = inl refl
   trace-kept test (node b l r) best =
       go (entered (test b ray (best .distance)))
-      (turns-kept (leavesOf l ++ leavesOf r) (test (boxOf l) ray (best .distance)) (test (boxOf r) ray (best .distance)) (traceOf test tri ray l) (traceOf test tri ray r) best
-      (λ x. kept-wider (leavesOf l) (leavesOf l ++ leavesOf r) x (traceOf test tri ray l x) (λ i h. among-left i (leavesOf l) (leavesOf r) h) (trace-kept test l x))
-      (λ x. kept-wider (leavesOf r) (leavesOf l ++ leavesOf r) x (traceOf test tri ray r x) (λ i h. among-right i (leavesOf l) (leavesOf r) h) (trace-kept test r x)))
+      (turns-kept (leavesOf l ++ leavesOf r) (test (boxOf l) ray (best .distance)) (test (boxOf r) ray (best .distance)) (traceTree test tri ray l) (traceTree test tri ray r) best
+      (λ x. kept-wider (leavesOf l) (leavesOf l ++ leavesOf r) x (traceTree test tri ray l x) (λ i h. among-left i (leavesOf l) (leavesOf r) h) (trace-kept test l x))
+      (λ x. kept-wider (leavesOf r) (leavesOf l ++ leavesOf r) x (traceTree test tri ray r x) (λ i h. among-right i (leavesOf l) (leavesOf r) h) (trace-kept test r x)))
     where
       w : Closest
-      w = foldl (λ (x : Closest) (h : Closest → Closest). h x) best (orderOf (test (boxOf l) ray (best .distance)) (test (boxOf r) ray (best .distance)) (traceOf test tri ray l) (traceOf test tri ray r))
+      w = foldl (λ (x : Closest) (h : Closest → Closest). h x) best (nearFirst (test (boxOf l) ray (best .distance)) (test (boxOf r) ray (best .distance)) (traceTree test tri ray l) (traceTree test tri ray r))
 
       go : (k : Bool) → Kept (leavesOf l ++ leavesOf r) best w → Kept (leavesOf l ++ leavesOf r) best (cond k w best)
       go true p = p
       go false p = inl refl
 
   -- THE HIT
-  pub hit-is : (test : Test) (t : Tree) → traceOf test tri ray t (none ray) .found ≡ 1 → IsHit tri ray (leavesOf t) (traceOf test tri ray t (none ray))
+  pub hit-is : (test : Test) (t : Tree) → traceTree test tri ray t (none ray) .found ≡ 1 → IsHit tri ray (leavesOf t) (traceTree test tri ray t (none ray))
   hit-is test t f = ⊎-elim (λ e. absurd (no (sym (ap (λ (c : Closest). c .found) e) ∙ f))) (λ h. h) (trace-kept test t (none ray))
     where
       no : _≡_ {A = ℕ} 0 1 → ⊥

@@ -28,14 +28,14 @@ use Rattle.geometry.specs.Triangle as triangle
 use Rattle.geometry.specs.Slab.{paddedOf}
 use Rattle.columns.specs.Columns.{triangleAtOf, vecAtOf}
 use Rattle.columns.specs.Columns as columns
-use Rattle.split.specs.Split.{aabbAtOf, centroidAtOf, InOrder, Keyed}
-use Rattle.build.specs.declared.Links.{Links}
-use Rattle.build.specs.Tree.{Tree, leaf, node, buildSahOf, countTo}
-use Rattle.build.specs.Areas.{boxAtOf, linksAtOf, readOf, treeAtOf, part, Linked, Sound, Built}
-use Rattle.build.proofs.Frame.{read-node, read-leaf}
-use Rattle.trace.specs.Leaf.{cornerAtOf, edgesAtOf, Rows}
-use Rattle.trace.specs.Trace.{paddedTreeOf}
-use Rattle.bvh.specs.Bvh.{aabbOf, centroidOf, treeOf, boxRow, extentRow, edgesRow, allFinite, finiteOf, Keys, KeysIn, paddedIn, rowsIn, Stands, Edged, Traced, TreeOf}
+use Rattle.tree_split.specs.Split.{aabbAtOf, centroidAtOf, KeysInOrder, Keyed}
+use Rattle.tree_build.specs.declared.Links.{Links}
+use Rattle.tree_build.specs.Tree.{Tree, leaf, node, buildSahOf, countTo}
+use Rattle.tree_build.specs.Areas.{boxAtOf, linksAtOf, readOf, treeAtOf, part, Linked, Sound, Built}
+use Rattle.tree_build.proofs.Frame.{read-node, read-leaf}
+use Rattle.tree_trace.specs.Leaf.{cornerAtOf, edgesAtOf, LeafRows}
+use Rattle.tree_trace.specs.Trace.{paddedTreeOf}
+use Rattle.bvh.specs.Bvh.{aabbOf, centroidIn, treeIn, boxRow, extentRow, edgesRow, allFinite, finiteOf, Keys, KeysIn, paddedIn, rowsIn, TreeStands, Edged, TraceReads, TreeOf}
 use Rattle.bvh.proofs.Agree.{build-agree}
 use Rattle.bvh.proofs.Rows as rows
 use Rattle.bvh.proofs.Parts.{cut-same}
@@ -55,7 +55,7 @@ not-both e = let z : _≡_ {A = ℕ} 0 1 = cc in absurd (no z)
 -- the first i rows are those of the triangles
 unfoldable pub ExtentsTo : List Float → List ℕ → ℕ → List Float → ℕ → Type 0
 ExtentsTo columns handles n e i =
-    (k : ℕ) → k < i → (aabbAtOf e k ≡ aabbOf columns handles n k) × (centroidAtOf e k ≡ centroidOf columns handles n k)
+    (k : ℕ) → k < i → (aabbAtOf e k ≡ aabbOf columns handles n k) × (centroidAtOf e k ≡ centroidIn columns handles n k)
 
 pub extents-none : (columns : List Float) (handles : List ℕ) (n : ℕ) (e : List Float) → ExtentsTo columns handles n e 0
 unfolding ExtentsTo
@@ -63,7 +63,7 @@ extents-none columns handles n e k h = absurd (not-suc-le-zero h)
 
 pub extents-more :
     (columns : List Float) (handles : List ℕ) (n : ℕ) (e e′ : List Float) (i : ℕ) (b : Aabb) (c : Vec3) → 9 * i + 9 ≤ length e →
-    e′ ≡ sets e (9 * i) (extentRow b c) → b ≡ aabbOf columns handles n i → c ≡ centroidOf columns handles n i →
+    e′ ≡ sets e (9 * i) (extentRow b c) → b ≡ aabbOf columns handles n i → c ≡ centroidIn columns handles n i →
     ExtentsTo columns handles n e i → ExtentsTo columns handles n e′ (i + 1)
 unfolding ExtentsTo
 extents-more columns handles n e e′ i b c room s eb ec old k h =
@@ -73,7 +73,7 @@ extents-more columns handles n e e′ i b c room s eb ec old k h =
     (λ other. let l = less k i h other in (rows.aabb-before e i b c k l ∙ old k l .0, rows.centroid-before e i b c k l ∙ old k l .1)))
 
 pub extents-done : (columns : List Float) (handles : List ℕ) (n : ℕ) (e : List Float) (i m : ℕ) → m ≤ i → ExtentsTo columns handles n e i →
-    (k : ℕ) → k < m → (aabbAtOf e k ≡ aabbOf columns handles n k) × (centroidAtOf e k ≡ centroidOf columns handles n k)
+    (k : ℕ) → k < m → (aabbAtOf e k ≡ aabbOf columns handles n k) × (centroidAtOf e k ≡ centroidIn columns handles n k)
 unfolding ExtentsTo
 extents-done columns handles n e i m le all k h = all k (omega arith)
 
@@ -88,8 +88,8 @@ finite-number nan e = not-both e
 finite-number (inf s) e = tt
 finite-number (fin s m e₁) e = tt
 
-axis-fits : (columns : List Float) (handles : List ℕ) (n k i : ℕ) → T (fits binary32 (axisOf (centroidOf columns handles n i) k))
-unfolding axisOf centroidOf triangle.centroidOf triangle.thirdOf
+axis-fits : (columns : List Float) (handles : List ℕ) (n k i : ℕ) → T (fits binary32 (axisOf (centroidIn columns handles n i) k))
+unfolding axisOf centroidIn triangle.centroidOf triangle.thirdOf
 axis-fits columns handles n zero i = div-fits binary32 _ _
 axis-fits columns handles n (suc zero) i = div-fits binary32 _ _
 axis-fits columns handles n (suc (suc k)) i = div-fits binary32 _ _
@@ -126,8 +126,8 @@ module _ (f : ℕ → Float) where
       and-false true = refl
       and-false false = refl
 
-  pub keys-done : ((i : ℕ) → T (fits binary32 (f i))) → (keys : List ℕ) (i m : ℕ) → i ≡ m → KeysTo f keys i → (true ≡ allFinite f m) × (true ≡ true → InOrder m keys f)
-  unfolding InOrder KeysTo
+  pub keys-done : ((i : ℕ) → T (fits binary32 (f i))) → (keys : List ℕ) (i m : ℕ) → i ≡ m → KeysTo f keys i → (true ≡ allFinite f m) × (true ≡ true → KeysInOrder m keys f)
+  unfolding KeysInOrder KeysTo
   keys-done fit keys i m same all =
       let to : KeysTo f keys m = rw (sym same) all in (
         sym (all-true keys m to),
@@ -137,7 +137,7 @@ module _ (f : ℕ → Float) where
             rw (p .0, q .0) (float-key-leb (f j) (f k) (fit j) (fit k) (finite-is (f j) (p .1)) (finite-is (f k) (q .1))),
       )
 
-pub axes-fit : (columns : List Float) (handles : List ℕ) (n k i : ℕ) → T (fits binary32 (axisOf (centroidOf columns handles n i) k))
+pub axes-fit : (columns : List Float) (handles : List ℕ) (n k i : ℕ) → T (fits binary32 (axisOf (centroidIn columns handles n i) k))
 axes-fit = axis-fits
 
 -- the three axes
@@ -154,8 +154,8 @@ module _ (mid : ℕ → Vec3) (m : ℕ) where
   unfolding finiteOf
   finite-third r d e f = rw (d, e) f
 
-order-agree : (m : ℕ) (keys : List ℕ) (f g : ℕ → Float) → ((i : ℕ) → i < m → f i ≡ g i) → InOrder m keys f → InOrder m keys g
-unfolding InOrder
+order-agree : (m : ℕ) (keys : List ℕ) (f g : ℕ → Float) → ((i : ℕ) → i < m → f i ≡ g i) → KeysInOrder m keys f → KeysInOrder m keys g
+unfolding KeysInOrder
 order-agree m keys f g same o i j hi hj = o i j hi hj ∙ rw (same i hi, same j hj)
 
 keyed : (e : List Float) (mid : ℕ → Vec3) (m : ℕ) (kx ky kz : List ℕ) → ((i : ℕ) → i < m → centroidAtOf e i ≡ mid i) →
@@ -173,13 +173,13 @@ keyed e mid m kx ky kz same hx hy hz k =
 -- the three axes' parts of one area: each was filled without touching those before it
 pub keys-in :
     (mid : ℕ → Vec3) (m : ℕ) (k₁ k₂ k₃ : List ℕ) →
-    InOrder m (part 0 m k₁) (λ i. axisOf (mid i) 0) → InOrder m (part m (2 * m) k₂) (λ i. axisOf (mid i) 1) → InOrder m (part (2 * m) (3 * m) k₃) (λ i. axisOf (mid i) 2) →
+    KeysInOrder m (part 0 m k₁) (λ i. axisOf (mid i) 0) → KeysInOrder m (part m (2 * m) k₂) (λ i. axisOf (mid i) 1) → KeysInOrder m (part (2 * m) (3 * m) k₃) (λ i. axisOf (mid i) 2) →
     take m k₂ ≡ take m k₁ → take (2 * m) k₃ ≡ take (2 * m) k₂ → KeysIn mid m k₃
 unfolding KeysIn
 keys-in mid m k₁ k₂ k₃ xo yo zo second third =
     record {
-      xo = subst (λ (l : List ℕ). InOrder m l (λ i. axisOf (mid i) 0)) (sym (cut-same 0 m (2 * m) k₃ k₂ (omega arith) third ∙ cut-same 0 m m k₂ k₁ (omega arith) second)) xo;
-      yo = subst (λ (l : List ℕ). InOrder m l (λ i. axisOf (mid i) 1)) (sym (cut-same m (2 * m) (2 * m) k₃ k₂ (omega arith) third)) yo;
+      xo = subst (λ (l : List ℕ). KeysInOrder m l (λ i. axisOf (mid i) 0)) (sym (cut-same 0 m (2 * m) k₃ k₂ (omega arith) third ∙ cut-same 0 m m k₂ k₁ (omega arith) second)) xo;
+      yo = subst (λ (l : List ℕ). KeysInOrder m l (λ i. axisOf (mid i) 1)) (sym (cut-same m (2 * m) (2 * m) k₃ k₂ (omega arith) third)) yo;
       zo = zo;
     }
 
@@ -235,19 +235,19 @@ whole n p e = take-all (n - 0) p (omega arith)
 
 pub stands :
     (columns : List Float) (handles : List ℕ) (n m r : ℕ) (e : List Float) (p p′ : List ℕ) (b b′ : List Float) (l l′ : List ℕ) →
-    ((k : ℕ) → k < m → (aabbAtOf e k ≡ aabbOf columns handles n k) × (centroidAtOf e k ≡ centroidOf columns handles n k)) →
+    ((k : ℕ) → k < m → (aabbAtOf e k ≡ aabbOf columns handles n k) × (centroidAtOf e k ≡ centroidIn columns handles n k)) →
     length p ≡ m → length p′ ≡ m → p ≡ countTo 0 m → Below m p → 12 * m ≤ length b′ → 8 * m ≤ length l′ →
     Built (buildSahOf (aabbAtOf e) (centroidAtOf e) 32 (part 0 m p)) (32 + 1) m 0 m 0 r p p′ b b′ l l′ →
-    Stands columns handles n m b′ l′ p′ r
-unfolding treeOf
+    TreeStands columns handles n m b′ l′ p′ r
+unfolding treeIn
 stands columns handles n m r e p p′ b b′ l l′ same size size′ c h hb hl w =
     let o = w .room in
     let q = w .more in
     record {
       tree =
           w .tree ∙ ap (buildSahOf (aabbAtOf e) (centroidAtOf e) 32) (whole m p size)
-          ∙ build-agree m (aabbAtOf e) (aabbOf columns handles n) (centroidAtOf e) (centroidOf columns handles n) (λ i k. same i k .0) (λ i k. same i k .1) 32 p h
-          ∙ ap (buildSahOf (aabbOf columns handles n) (centroidOf columns handles n) 32) c;
+          ∙ build-agree m (aabbAtOf e) (aabbOf columns handles n) (centroidAtOf e) (centroidIn columns handles n) (λ i k. same i k .0) (λ i k. same i k .1) 32 p h
+          ∙ ap (buildSahOf (aabbOf columns handles n) (centroidIn columns handles n) 32) c;
       some = omega arith;
       most = omega arith;
       boxes-room = omega arith;
@@ -329,12 +329,12 @@ rows-done cs n p r i m le all k h = all k (omega arith)
 -- ---- what a trace reads
 traced :
     (cs : List Float) (handles : List ℕ) (n m : ℕ) (boxes : List Float) (nodes p : List ℕ) (padded r : List Float) (count : ℕ) →
-    Stands cs handles n m boxes nodes p count →
+    TreeStands cs handles n m boxes nodes p count →
     ((k : ℕ) → k < count → boxAtOf padded k ≡ paddedOf (boxAtOf boxes k)) →
     ((k : ℕ) → k < length p → (cornerAtOf r k ≡ vecAtOf cs n (getD p k 0)) × (edgesAtOf r k ≡ columns.edgesAtOf cs n (getD p k 0))) →
     12 * m ≤ length padded → 10 * m ≤ length r →
-    Traced cs handles n m nodes p padded r count
-unfolding Rows Edged Below triangleAtOf
+    TraceReads cs handles n m nodes p padded r count
+unfolding LeafRows Edged Below triangleAtOf
 traced cs handles n m boxes nodes p padded r count w pads has hb hr =
     let size = w .size in
     let top = w .most in
@@ -352,10 +352,10 @@ traced cs handles n m boxes nodes p padded r count w pads has hb hr =
 -- from the two parts of one area, whose perm is as long as was asked
 pub traced-in :
     (cs : List Float) (handles : List ℕ) (n m : ℕ) (boxes : List Float) (nodes p : List ℕ) (t : List Float) (count : ℕ) →
-    Stands cs handles n m boxes nodes p count → 22 * m ≤ length t →
+    TreeStands cs handles n m boxes nodes p count → 22 * m ≤ length t →
     ((k : ℕ) → k < count → boxAtOf (paddedIn (length p) t) k ≡ paddedOf (boxAtOf boxes k)) →
     ((k : ℕ) → k < length p → (cornerAtOf (rowsIn (length p) t) k ≡ vecAtOf cs n (getD p k 0)) × (edgesAtOf (rowsIn (length p) t) k ≡ columns.edgesAtOf cs n (getD p k 0))) →
-    Traced cs handles n m nodes p (paddedIn m t) (rowsIn m t) count
+    TraceReads cs handles n m nodes p (paddedIn m t) (rowsIn m t) count
 traced-in cs handles n m boxes nodes p t count w room pads has =
     let size = w .size in
     let front = length-take-le (12 * m) t (omega arith) in
@@ -367,12 +367,12 @@ traced-in cs handles n m boxes nodes p t count w room pads has =
 
 -- an answer of 0 says that a centroid is not finite, and any other that the tree stands
 module _ (cs : List Float) (handles : List ℕ) (n m : ℕ) (boxes : List Float) (nodes p : List ℕ) (r : ℕ) (w : TreeOf cs handles n m boxes nodes p r) where
-  pub nothing-built : r ≡ 0 → finiteOf (centroidOf cs handles n) m ≡ true → ⊥
+  pub nothing-built : r ≡ 0 → finiteOf (centroidIn cs handles n) m ≡ true → ⊥
   nothing-built z f = let some = w .built f .some in omega arith
 
-  pub some-built : (r ≡ 0 → ⊥) → Stands cs handles n m boxes nodes p r
-  some-built ne = go (finiteOf (centroidOf cs handles n) m) refl
+  pub some-built : (r ≡ 0 → ⊥) → TreeStands cs handles n m boxes nodes p r
+  some-built ne = go (finiteOf (centroidIn cs handles n) m) refl
     where
-      go : (t : Bool) → finiteOf (centroidOf cs handles n) m ≡ t → Stands cs handles n m boxes nodes p r
+      go : (t : Bool) → finiteOf (centroidIn cs handles n) m ≡ t → TreeStands cs handles n m boxes nodes p r
       go true f = w .built f
       go false f = absurd (ne (w .none f))

@@ -11,17 +11,14 @@ use lib.Dec.{eqb, leb}
 use lib.ListN.{length, take, drop}
 use Rattle.order.specs.Sort.{Below, Perm, none, skip, swap, then}
 use Rattle.order.proofs.Laws.{below-cons, below-head, below-tail}
+use Rattle.order.proofs.Stable.{perm-same}
 use Rattle.vector.specs.declared.Vec3.{Vec3}
 use Rattle.vector.specs.Vector.{axisOf}
 use Rattle.geometry.specs.declared.Aabb.{Aabb}
-use Rattle.split.specs.Split.{Found, found, Divided, divided, insertOn, sortOn, sweepOf, searchAxisOf, searchAxesOf, leastSpan, splitOf}
-use Rattle.build.specs.Tree.{Tree, leavesOf, leafOf, innerOf, leafThreshold, buildSahOf, countTo, buildOf}
+use Rattle.tree_split.specs.Split.{Swept, swept, Divided, divided, insertOn, sortOn, sweepOf, searchAxisOf, searchAxesOf, leastSpan, splitOf}
+use Rattle.tree_build.specs.Tree.{Tree, leavesOf, leafOf, innerOf, leafThreshold, buildSahOf, countTo, buildOf}
 
 -- ---- permutations
-
-pub perm-same : (xs : List ℕ) → Perm xs xs
-perm-same [] = none
-perm-same (x ∷ xs) = skip (perm-same xs)
 
 pub perm-append : (xs ys zs ws : List ℕ) → Perm xs zs → Perm ys ws → Perm (xs ++ ys) (zs ++ ws)
 perm-append xs ys zs ws p q = then (left p) (right zs q)
@@ -67,14 +64,14 @@ module _ (f : ℕ → Float) where
 
 -- ---- the split
 module _ (b : ℕ → Aabb) (mid : ℕ → Vec3) where
-  pub axis-perm : (a : ℕ) (span : Float) (s : Found) → Perm (searchAxisOf b mid a span s .list) (s .list)
+  pub axis-perm : (a : ℕ) (span : Float) (s : Swept) → Perm (searchAxisOf b mid a span s .list) (s .list)
   unfolding searchAxisOf
   axis-perm a span s = go (lt span leastSpan)
     where
       xs : List ℕ
       xs = sortOn (λ i. axisOf (mid i) a) (s .list)
 
-      go : (t : Bool) → Perm ((cond t s (found xs (sweepOf b a xs (length xs - 1) (s .best)))) .list) (s .list)
+      go : (t : Bool) → Perm ((cond t s (swept xs (sweepOf b a xs (length xs - 1) (s .best)))) .list) (s .list)
       go true = perm-same (s .list)
       go false = sort-on-perm (λ i. axisOf (mid i) a) (s .list)
 
@@ -86,7 +83,7 @@ module _ (b : ℕ → Aabb) (mid : ℕ → Vec3) where
   unfolding splitOf
   split-perm xs = go (eqb (s .best .at) 0)
     where
-      s : Found
+      s : Swept
       s = searchAxesOf b mid xs
 
       go : (t : Bool) → Perm ((cond t (divided (s .list) 0) (divided (sortOn (λ i. axisOf (mid i) (s .best .axis)) (s .list)) (s .best .at))) .list) xs

@@ -9,10 +9,10 @@ use lib.Seq.{sets}
 use Rattle.vector.specs.declared.Vec3.{Vec3}
 use Rattle.geometry.specs.declared.Aabb.{Aabb}
 use Rattle.geometry.specs.declared.Edges.{Edges}
-use Rattle.split.specs.Split.{aabbAtOf, centroidAtOf}
-use Rattle.build.specs.Areas.{boxAtOf}
-use Rattle.build.proofs.Stores.{sets-at, sets-low}
-use Rattle.trace.specs.Leaf.{cornerAtOf, edgesAtOf}
+use Rattle.tree_split.specs.Split.{aabbAtOf, centroidAtOf}
+use Rattle.tree_build.specs.Areas.{boxAtOf}
+use Rattle.tree_build.proofs.Stores.{sets-at, sets-low}
+use Rattle.tree_trace.specs.Leaf.{cornerAtOf, edgesAtOf}
 use Rattle.bvh.specs.Bvh.{boxRow, extentRow, edgesRow}
 
 -- float j of a row of w floats, at row i and at a row before it

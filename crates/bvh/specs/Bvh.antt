@@ -15,22 +15,22 @@ use Rattle.geometry.specs.Aabb.{fromCornersOf}
 use Rattle.geometry.specs.Triangle as triangle
 use Rattle.geometry.specs.Intersect.{edgesOf}
 use Rattle.columns.specs.Columns.{columnCount, triangleAtOf, edgesAtOf}
-use Rattle.split.specs.Split.{InOrder}
-use Rattle.build.specs.Tree.{Tree, buildOf}
-use Rattle.build.specs.Areas.{part, treeAtOf, Sound}
-use Rattle.trace.specs.Leaf.{Rows}
-use Rattle.trace.specs.Trace.{paddedTreeOf, Held}
+use Rattle.tree_split.specs.Split.{KeysInOrder}
+use Rattle.tree_build.specs.Tree.{Tree, buildOf}
+use Rattle.tree_build.specs.Areas.{part, treeAtOf, Sound}
+use Rattle.tree_trace.specs.Leaf.{LeafRows}
+use Rattle.tree_trace.specs.Trace.{paddedTreeOf, Held}
 
 -- the box of triangle i (`Triangle::aabb`), and its centroid
 unfoldable pub aabbOf : List Float → List ℕ → ℕ → ℕ → Aabb
 aabbOf columns handles n i = let t = triangleAtOf columns handles n i in fromCornersOf (t .a) (t .b) (t .c)
 
-unfoldable pub centroidOf : List Float → List ℕ → ℕ → ℕ → Vec3
-centroidOf columns handles n i = triangle.centroidOf (triangleAtOf columns handles n i)
+unfoldable pub centroidIn : List Float → List ℕ → ℕ → ℕ → Vec3
+centroidIn columns handles n i = triangle.centroidOf (triangleAtOf columns handles n i)
 
 -- `BvhNode::build` over m of them
-unfoldable pub treeOf : List Float → List ℕ → ℕ → ℕ → Tree
-treeOf columns handles n m = buildOf (aabbOf columns handles n) (centroidOf columns handles n) m
+unfoldable pub treeIn : List Float → List ℕ → ℕ → ℕ → Tree
+treeIn columns handles n m = buildOf (aabbOf columns handles n) (centroidIn columns handles n) m
 
 -- ---- rows
 
@@ -57,9 +57,9 @@ finiteOf mid m = allFinite (λ i. axisOf (mid i) 0) m && (allFinite (λ i. axisO
 
 -- keys in the order of the centroids
 pub record Keys (mid : ℕ → Vec3) (m : ℕ) (kx ky kz : List ℕ) : Type 0 where
-  pub xo : InOrder m kx (λ i. axisOf (mid i) 0)
-  pub yo : InOrder m ky (λ i. axisOf (mid i) 1)
-  pub zo : InOrder m kz (λ i. axisOf (mid i) 2)
+  pub xo : KeysInOrder m kx (λ i. axisOf (mid i) 0)
+  pub yo : KeysInOrder m ky (λ i. axisOf (mid i) 1)
+  pub zo : KeysInOrder m kz (λ i. axisOf (mid i) 2)
 
 -- the same, of m words each, one axis after another in one area
 unfoldable pub KeysIn : (ℕ → Vec3) → ℕ → List ℕ → Type 0
@@ -74,7 +74,7 @@ abbrev pub rowsIn : ℕ → List Float → List Float
 rowsIn m tree = take (22 * m - 12 * m) (drop (12 * m) tree)
 
 -- ---- what the functions ask: columns of n triples, and room for as many triangles as perm is long
-pub record Lent (columns : List Float) (handles : List ℕ) (n : ℕ) (extents : List Float) (keys perm words scratch : List ℕ) (areas boxes : List Float) (nodes : List ℕ) : Type 0 where
+pub record BvhLent (columns : List Float) (handles : List ℕ) (n : ℕ) (extents : List Float) (keys perm words scratch : List ℕ) (areas boxes : List Float) (nodes : List ℕ) : Type 0 where
   pub wide : columnCount * n ≤ length columns
   pub named : n ≤ length handles
   pub some : 0 < length perm
@@ -91,8 +91,8 @@ pub record Lent (columns : List Float) (handles : List ℕ) (n : ℕ) (extents :
 -- ---- what they leave
 
 -- a tree of `count` nodes stands in the areas
-pub record Stands (columns : List Float) (handles : List ℕ) (n m : ℕ) (boxes : List Float) (nodes perm : List ℕ) (count : ℕ) : Type 0 where
-  pub tree : treeAtOf boxes nodes perm 33 0 ≡ treeOf columns handles n m
+pub record TreeStands (columns : List Float) (handles : List ℕ) (n m : ℕ) (boxes : List Float) (nodes perm : List ℕ) (count : ℕ) : Type 0 where
+  pub tree : treeAtOf boxes nodes perm 33 0 ≡ treeIn columns handles n m
   pub some : 0 < count
   pub most : count ≤ 2 * m
   pub boxes-room : 6 * count ≤ length boxes
@@ -103,8 +103,8 @@ pub record Stands (columns : List Float) (handles : List ℕ) (n m : ℕ) (boxes
 
 -- the answer is 0 where a centroid is not finite, and there only
 pub record TreeOf (columns : List Float) (handles : List ℕ) (n m : ℕ) (boxes : List Float) (nodes perm : List ℕ) (r : ℕ) : Type 0 where
-  pub built : finiteOf (centroidOf columns handles n) m ≡ true → Stands columns handles n m boxes nodes perm r
-  pub none : finiteOf (centroidOf columns handles n) m ≡ false → r ≡ 0
+  pub built : finiteOf (centroidIn columns handles n) m ≡ true → TreeStands columns handles n m boxes nodes perm r
+  pub none : finiteOf (centroidIn columns handles n) m ≡ false → r ≡ 0
 
 -- the edges that stand in the columns are those of the triangles
 unfoldable pub Edged : List Float → List ℕ → ℕ → ℕ → Type 0
@@ -112,12 +112,12 @@ Edged columns handles n m =
     (i : ℕ) → i < m → let t = triangleAtOf columns handles n i in edgesAtOf columns n i ≡ edgesOf (t .a) (t .b) (t .c)
 
 -- what a trace of it reads
-pub record Traced (columns : List Float) (handles : List ℕ) (n m : ℕ) (nodes perm : List ℕ) (padded rows : List Float) (count : ℕ) : Type 0 where
-  pub tree : treeAtOf padded nodes perm 33 0 ≡ paddedTreeOf (treeOf columns handles n m)
+pub record TraceReads (columns : List Float) (handles : List ℕ) (n m : ℕ) (nodes perm : List ℕ) (padded rows : List Float) (count : ℕ) : Type 0 where
+  pub tree : treeAtOf padded nodes perm 33 0 ≡ paddedTreeOf (treeIn columns handles n m)
   pub held : Held padded nodes perm rows count
-  pub rows-of : Edged columns handles n m → Rows (triangleAtOf columns handles n) perm rows
+  pub rows-of : Edged columns handles n m → LeafRows (triangleAtOf columns handles n) perm rows
 
 pub record BvhOf (columns : List Float) (handles : List ℕ) (n m : ℕ) (boxes : List Float) (nodes perm : List ℕ) (padded rows : List Float) (r : ℕ) : Type 0 where
-  pub built : finiteOf (centroidOf columns handles n) m ≡ true → Stands columns handles n m boxes nodes perm r
-  pub traced : finiteOf (centroidOf columns handles n) m ≡ true → Traced columns handles n m nodes perm padded rows r
-  pub none : finiteOf (centroidOf columns handles n) m ≡ false → r ≡ 0
+  pub built : finiteOf (centroidIn columns handles n) m ≡ true → TreeStands columns handles n m boxes nodes perm r
+  pub traced : finiteOf (centroidIn columns handles n) m ≡ true → TraceReads columns handles n m nodes perm padded rows r
+  pub none : finiteOf (centroidIn columns handles n) m ≡ false → r ≡ 0

@@ -14,11 +14,11 @@ ghost use Rattle.order.specs.Sort.{Below};
 ghost use Rattle.vector.specs.Vector.{axisOf};
 ghost use Rattle.geometry.specs.Slab.{paddedOf};
 ghost use Rattle.columns.specs.Columns.{columnCount, vecAtOf};
-ghost use Rattle.split.specs.Split.{aabbAtOf, centroidAtOf, InOrder};
-ghost use Rattle.build.specs.Tree.{countTo};
-ghost use Rattle.build.specs.Areas.{boxAtOf, part};
-ghost use Rattle.trace.specs.Leaf.{cornerAtOf, edgesAtOf};
-ghost use Rattle.bvh.specs.Bvh.{aabbOf, centroidOf, extentRow, boxRow, edgesRow, allFinite, finiteOf, paddedIn, rowsIn, KeysIn, Lent, TreeOf, BvhOf};
+ghost use Rattle.tree_split.specs.Split.{aabbAtOf, centroidAtOf, KeysInOrder};
+ghost use Rattle.tree_build.specs.Tree.{countTo};
+ghost use Rattle.tree_build.specs.Areas.{boxAtOf, part};
+ghost use Rattle.tree_trace.specs.Leaf.{cornerAtOf, edgesAtOf};
+ghost use Rattle.bvh.specs.Bvh.{aabbOf, centroidIn, extentRow, boxRow, edgesRow, allFinite, finiteOf, paddedIn, rowsIn, KeysIn, BvhLent, TreeOf, BvhOf};
 
 // ---- the triangles' boxes and centroids
 
@@ -42,7 +42,7 @@ fn put_extents(triangles: &[f32], handles: &[u32], n: usize, count: usize, exten
     requires { ⌜ (columnCount * n ≤ length (now triangles)) × (n ≤ length (now handles)) × (count ≤ n) × (9 * count ≤ length (now extents)) ⌝ }
     ensures { λ _.
         ⌜ ((i : ℕ) → i < count → (aabbAtOf (now (extents .exit)) i ≡ aabbOf (now (triangles .entry)) (now (handles .entry)) n i) ×
-        (centroidAtOf (now (extents .exit)) i ≡ centroidOf (now (triangles .entry)) (now (handles .entry)) n i)) ⌝ }
+        (centroidAtOf (now (extents .exit)) i ≡ centroidIn (now (triangles .entry)) (now (handles .entry)) n i)) ⌝ }
 {
     let mut i = 0;
     while i < count {
@@ -76,8 +76,8 @@ fn put_keys(
 ) -> bool
     requires { ⌜ (columnCount * n ≤ length (now triangles)) × (n ≤ length (now handles)) × (count ≤ n) × (count ≤ length (now keys)) ⌝ }
     ensures { λ r.
-        ⌜ (r ≡ allFinite (λ i. axisOf (centroidOf (now (triangles .entry)) (now (handles .entry)) n i) k) count) × (r ≡ true →
-        InOrder count (now (keys .exit)) (λ i. axisOf (centroidOf (now (triangles .entry)) (now (handles .entry)) n i) k)) ⌝ }
+        ⌜ (r ≡ allFinite (λ i. axisOf (centroidIn (now (triangles .entry)) (now (handles .entry)) n i) k) count) × (r ≡ true →
+        KeysInOrder count (now (keys .exit)) (λ i. axisOf (centroidIn (now (triangles .entry)) (now (handles .entry)) n i) k)) ⌝ }
 {
     let mut i = 0;
     while i < count {
@@ -107,8 +107,8 @@ fn put_axis(
     requires { ⌜ (columnCount * n ≤ length (now triangles)) × (n ≤ length (now handles)) × (count ≤ n) ⌝ }
     requires { ⌜ (from + count ≤ to) × (to ≤ length (now keys)) ⌝ }
     ensures { λ r.
-        ⌜ (r ≡ allFinite (λ i. axisOf (centroidOf (now (triangles .entry)) (now (handles .entry)) n i) k) count) × (r ≡ true →
-        InOrder count (part from to (now (keys .exit))) (λ i. axisOf (centroidOf (now (triangles .entry)) (now (handles .entry)) n i) k)) ×
+        ⌜ (r ≡ allFinite (λ i. axisOf (centroidIn (now (triangles .entry)) (now (handles .entry)) n i) k) count) × (r ≡ true →
+        KeysInOrder count (part from to (now (keys .exit))) (λ i. axisOf (centroidIn (now (triangles .entry)) (now (handles .entry)) n i) k)) ×
         (take from (now (keys .exit)) ≡ take from (now (keys .entry))) ⌝ }
 {
     put_keys(triangles, handles, n, count, k, &mut keys[from..to])
@@ -125,8 +125,8 @@ fn put_all_keys(
     requires { ⌜ (columnCount * n ≤ length (now triangles)) × (n ≤ length (now handles)) × (count ≤ n) ⌝ }
     requires { ⌜ 3 * count ≤ length (now keys) ⌝ }
     ensures { λ r.
-        ⌜ (r ≡ finiteOf (centroidOf (now (triangles .entry)) (now (handles .entry)) n) count) × (r ≡ true →
-        KeysIn (centroidOf (now (triangles .entry)) (now (handles .entry)) n) count (now (keys .exit))) ⌝ }
+        ⌜ (r ≡ finiteOf (centroidIn (now (triangles .entry)) (now (handles .entry)) n) count) × (r ≡ true →
+        KeysIn (centroidIn (now (triangles .entry)) (now (handles .entry)) n) count (now (keys .exit))) ⌝ }
 {
     let two = 2 * count;
     let three = 3 * count;
@@ -168,7 +168,7 @@ fn build_tree(
     boxes: &mut [f32],
     nodes: &mut [u32],
 ) -> usize
-    requires { ⌜ Lent (now triangles) (now handles) n (now extents) (now keys) (now «leaf_order») (now words) (now scratch) (now areas) (now boxes) (now nodes) ⌝ }
+    requires { ⌜ BvhLent (now triangles) (now handles) n (now extents) (now keys) (now «leaf_order») (now words) (now scratch) (now areas) (now boxes) (now nodes) ⌝ }
     ensures { λ r.
         ⌜ TreeOf (now (triangles .entry)) (now (handles .entry)) n (length (now («leaf_order» .entry))) (now (boxes .exit)) (now (nodes .exit))
         (now («leaf_order» .exit)) r ⌝ }
@@ -179,7 +179,7 @@ fn build_tree(
     let three = 3 * count;
     if put_all_keys(triangles, handles, n, count, keys) {
         number(leaf_order);
-        return build::build_sah(
+        return tree_build::build_sah(
             &keys[0..count],
             &keys[count..two],
             &keys[two..three],
@@ -222,7 +222,7 @@ fn pad_boxes(boxes: &[f32], count: usize, padded: &mut [f32])
 {
     let mut i = 0;
     while i < count {
-        put_box(padded, i, geometry::padded(build::box_at(boxes, i)));
+        put_box(padded, i, geometry::padded(tree_build::box_at(boxes, i)));
         i += 1;
     }
 }
@@ -305,7 +305,7 @@ pub fn build_flat_bvh(
     nodes: &mut [u32],
     tree: &mut [f32],
 ) -> usize
-    requires { ⌜ Lent (now triangles) (now handles) n (now extents) (now keys) (now «leaf_order») (now words) (now scratch) (now areas) (now boxes) (now nodes) ⌝ }
+    requires { ⌜ BvhLent (now triangles) (now handles) n (now extents) (now keys) (now «leaf_order») (now words) (now scratch) (now areas) (now boxes) (now nodes) ⌝ }
     requires { ⌜ 22 * length (now «leaf_order») ≤ length (now tree) ⌝ }
     ensures built { λ r.
         ⌜ BvhOf (now (triangles .entry)) (now (handles .entry)) n (length (now («leaf_order» .entry))) (now (boxes .exit)) (now (nodes .exit))

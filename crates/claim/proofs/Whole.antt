@@ -12,8 +12,8 @@ use native.Mathlib.Nat.{lt-of-le-of-lt}
 use lib.ListN.{length, getD, take}
 use lib.Ieee.{Float}
 use Rattle.sequences.specs.Allowed.{most, visited}
-use Rattle.sequences.specs.Members.{In, IsAllowed, IsVisited}
-use Rattle.sequences.proofs.Numbers.{is-visited, is-numbered, visited-alone}
+use Rattle.sequences.specs.Members.{IsAllowed, IsVisited}
+use Rattle.sequences.proofs.Numbers.{is-visited, is-numbered, visited-alone, in-at}
 use Rattle.ranking.specs.declared.Candidate.{Candidate}
 use Rattle.ranking.specs.Lists.{Has}
 use Rattle.ranking.specs.Candidate.{ranked, Rankable}
@@ -126,11 +126,6 @@ found-once path n (s ∷ ss) = go (path s) (found-once path (suc n) ss)
 
 number-fits : (p v : ℕ) → p < v → v ≤ most → 1 + p < 2 ^ 32
 number-fits p v h k = omega arith
-
-pub in-at : (l : List (List ℕ)) (i : ℕ) → i < length l → In (getD l i []) l
-in-at [] i h = absurd (omega arith)
-in-at (s ∷ l) zero h = inl refl
-in-at (s ∷ l) (suc i) h = inr (in-at l i (omega arith))
 
 module _ (on : List ℕ) (order : ℕ) (speed rate : Float) (limit : ℕ) (path : List ℕ → Outcome) (small : order < 2 ^ 32)
     (proper : (s : List ℕ) (r : ℕ) (f : Found) → IsAllowed on order s → path s ≡ passes r f → Proper f) where

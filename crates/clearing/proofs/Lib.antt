@@ -1,4 +1,3 @@
 -- The laws of clearing.
-mod Zero
 mod Wiping
 mod MinusZero

@@ -14,7 +14,9 @@ use lib.Ieee.Digits.{size-lt, size-reaches, back}
 use lib.Ieee.Fits.{two, up-pos, down-pos, core, round-is, and-l, and-r, neg-fits, sub-fits}
 use lib.Ieee.Exact.{HasValue, odd-sign}
 use lib.Ieee.Nearest.{nearest-ge}
+use Rattle.laws.proofs.Numbers.{no-part}
 use Rattle.float.specs.Literals.{zero32}
+use Rattle.float.proofs.Compare.{neg-neg}
 
 abbrev pub minusZero : Float
 minusZero = fin true 0 (pos 0)
@@ -31,10 +33,6 @@ nan-clash t c = subst IsFin (sym c) tt
 
 inf-clash : (s t : Bool) → inf s ≡ fin t 0 (pos 0) → ⊥
 inf-clash s t c = subst IsFin (sym c) tt
-
-no-part : (x c : ℕ) → 0 < c → x * c ≡ 0 → x ≡ 0
-no-part zero c h e = refl
-no-part (suc x) c h e = let p : 0 < suc x * c = mul-pos (zero-lt-suc x) h in absurd (let no : ⊥ = omega arith in no)
 
 -- what has a value of 0 has it of no more than 0, and with its sign
 value-zero : (x : Float) (s t : Bool) (a c : ℕ) → HasValue x s a c → x ≡ fin t 0 (pos 0) → (t ≡ s) × (a ≡ 0)
@@ -209,14 +207,6 @@ add-minus f (fin s m e) (fin t n d) h k c =
     )
 
 -- ---- a chain of subtractions
-
-neg-neg : (x : Float) → neg (neg x) ≡ x
-unfolding neg
-neg-neg nan = refl
-neg-neg (inf true) = refl
-neg-neg (inf false) = refl
-neg-neg (fin true m e) = refl
-neg-neg (fin false m e) = refl
 
 neg-zero : neg zero32 ≡ minusZero
 unfolding neg ofBits

@@ -1,12 +1,13 @@
 -- The answer says what a reader believes: the figures of `costOf` are those of the images that are visited, in every scene with those numbers.
 use Prim.Native.Nat.{ℕ, zero, suc, _+_, _-_, _*_, _/_, _%_, _≤_, _<_, min}
 use mathlib.Core.Path.{_≡_, refl, sym, ap, ap₂, _∙_, subst}
-use mathlib.Core.Bool.{Bool, true, false, cond, _&&_, true≢false}
+use mathlib.Core.Bool.{true, false, cond, _&&_}
 use mathlib.Core.List.{List, [], _∷_, _++_}
 use native.Mathlib.Omega.{arith}
 use borrow.Author.Tests.{leb-true}
 use lib.Dec.{leb}
 use lib.ListN.{length, getD, replicate, length-append, length-replicate}
+use Rattle.laws.proofs.Bools.{both}
 use Rattle.sequences.specs.Allowed.{visited, most, mostOrder, mostPlanes}
 use Rattle.sequences.specs.Count.{series, firsts, images}
 use Rattle.sequences.specs.Members.{In}
@@ -20,15 +21,6 @@ use Rattle.cost.proofs.Counted.{counts-are}
 use Rattle.cost.proofs.Sums.{Summed, summed, padded-at, visited-few}
 
 -- ---- what is not turned away
-
-record Both (a b : Bool) : Type 0 where
-  pub one : a ≡ true
-  pub two : b ≡ true
-
-both : (a b : Bool) → (a && b) ≡ true → Both a b
-both true true e = record { one = refl; two = refl }
-both true false e = absurd (true≢false (sym e))
-both false b e = absurd (true≢false (sym e))
 
 within-both : (x most : ℕ) → within x most ≡ true → (1 ≤ x) × (x ≤ most)
 unfolding within

@@ -12,7 +12,7 @@ ghost use lib.Ieee.{Float};
 ghost use lib.ListN.{length, drop};
 ghost use Rattle.packet.specs.Reader.{readAnswer, readArea, readRefusal, readCounts};
 ghost use Rattle.packet.specs.Writer.{writeAnswer, writeOut, writeRefusal, writeLength};
-ghost use Rattle.numbering.specs.Walls.{answerOf};
+ghost use Rattle.numbering.specs.Walls.{sequenceAnswer};
 ghost use Rattle.scene.specs.Scene.{scene};
 ghost use Rattle.scene.specs.Limits.{mostTriples};
 ghost use Rattle.scene.specs.Speed.{speedOf};
@@ -100,7 +100,7 @@ pub extern "C" fn biv_walls(
     found: &mut [usize; 1],
 ) -> u32
     ensures { λ r.
-        let answer = answerOf planes order (now (on .entry)) number in
+        let answer = sequenceAnswer planes order (now (on .entry)) number in
         ⌜ (r ≡ answer .refusal) ×
         (now (walls .exit) ≡ answer .planes) ×
         (now (found .exit) ≡ answer .len ∷ []) ⌝ }

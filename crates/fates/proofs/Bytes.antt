@@ -13,7 +13,7 @@ use lib.Seq.{take-all, ext-getD}
 use Rattle.ranking.specs.declared.Candidate.{Candidate}
 use Rattle.ranking.specs.Lists.{Has, ahead}
 use Rattle.ranking.specs.Candidate.{better, duplicates, ranked}
-use Rattle.ranking.specs.Listed.{Once, Listed, Stands}
+use Rattle.ranking.specs.Listed.{Once, Listed, StandsAmong}
 use Rattle.ranking.proofs.Members.{has-take}
 use Rattle.ranking.proofs.Laws.{number-one, ranked-listed}
 use Rattle.fates.specs.Fates.{numbered, wholeList, duplicateFate, cutFate, fateIn, fatesFrom, fatesOf, byteOf, Judged, AllFound, Doubled, Fated}

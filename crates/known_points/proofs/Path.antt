@@ -14,11 +14,11 @@ use Rattle.vector.specs.Ray.{pointAtOf}
 use Rattle.geometry.specs.Slab.{padOf, paddedOf, narrowOf, axisOf, slabOf, intersectTOf}
 use Rattle.geometry.specs.Intersect.{edgesOf, parallelOf, outsideOf, withinOf, solveOf, crossingOf, intersectMaxOf}
 use Rattle.geometry.specs.Contains.{dotsOf, insideOf, containsOf, containsPointOf}
-use Rattle.patches.specs.Triangles.{triangleAt}
+use Rattle.planes_patches.specs.Triangles.{triangleAt}
 use Rattle.bands.specs.Band8.{splatOf, zerosOf, mulOf, scaleOf, sumOfSquaresOf}
 use Rattle.bands.specs.Distance.{heldOf, furthestOf, betweenOf, inverseOf, curveOf, gainOf}
-use Rattle.trace.specs.Leaf.{visitOf, visitAllOf}
-use Rattle.trace.specs.Trace.{traceOf, intersectOf}
+use Rattle.tree_trace.specs.Leaf.{visitOf, visitAllOf}
+use Rattle.tree_trace.specs.Trace.{traceTree, intersectOf}
 use Rattle.mirror.specs.Plane.{planeAt}
 use Rattle.mirror.specs.Mirror as mirror
 use Rattle.mirror.specs.Border.{nearestOf, pointSegmentDistanceOf, nearerOf, borderDistanceOf, smoothOf, weightOf}
@@ -57,17 +57,26 @@ near = refl
 
 pub bounces-are :
     bouncesOf (triangleAt two) (settings .«reflection_edge_fade») (plane ∷ []) source listener (0 ∷ []) ≡ made (bounce ∷ []) (0 ∷ []) one32
-unfolding bouncesOf backOf bounceOf imageOf planeAt triangleAt mirror.mirrorOf mirror.signedDistanceOf mirror.crossingOf mirror.alongOf locate.locateOnPlaneOf locate.containsInBoxOf locate.withinOf locate.spotOf locate.findOf containsPointOf containsOf insideOf dotsOf edgesOf weightOf smoothOf borderDistanceOf nearerOf pointSegmentDistanceOf nearestOf distance3Of length3Of dot3Of sub3Of add3Of scale3Of minOf clampOf absOf sqrtOf rootOf isqrt add sub mul div neg le lt eq isNan ofBits round
+unfolding bouncesOf backOf bounceOf imageOf planeAt triangleAt mirror.mirrorOf mirror.signedDistanceOf mirror.crossingOf mirror.alongOf
+    locate.locateOnPlaneOf locate.containsInBoxOf locate.withinOf locate.spotOf locate.findOf containsPointOf containsOf insideOf dotsOf edgesOf
+    weightOf smoothOf borderDistanceOf nearerOf pointSegmentDistanceOf nearestOf distance3Of length3Of dot3Of sub3Of add3Of scale3Of minOf clampOf
+    absOf sqrtOf rootOf isqrt add sub mul div neg le lt eq isNan ofBits round
 bounces-are = refl
 
 -- ---- the segments: nothing is in the way, nine times a ninth, and two traces each
 
 first-segment : segmentSoftTransmissionOf (traceIn (triangleAt two) tree) (transmissionOf materials) maxCrossings visibilityRadius listener bounce ≡ transmission (splatOf one32) 18
-unfolding segmentSoftTransmissionOf probesOf probeOf addPartOf midOf offsetOf probeBasisOf tangentOf probeAngleOf segmentTransmissionOf segmentRayOf walkOf intersectOf traceOf visitOf visitAllOf triangleAt intersectMaxOf crossingOf edgesOf solveOf withinOf outsideOf parallelOf intersectTOf slabOf paddedOf padOf axisOf narrowOf minOf maxOf absOf clampOf dot3Of sub3Of cross3Of length3Of distance3Of normalize3Of sqrtOf rootOf isqrt pointAtOf add3Of scale3Of splatOf zerosOf mulOf add sub mul div neg lt le eq isNan ofBits round
+unfolding segmentSoftTransmissionOf probesOf probeOf addPartOf midOf offsetOf probeBasisOf tangentOf probeAngleOf segmentTransmissionOf segmentRayOf
+    walkOf intersectOf traceTree visitOf visitAllOf triangleAt intersectMaxOf crossingOf edgesOf solveOf withinOf outsideOf parallelOf intersectTOf
+    slabOf paddedOf padOf axisOf narrowOf minOf maxOf absOf clampOf dot3Of sub3Of cross3Of length3Of distance3Of normalize3Of sqrtOf rootOf isqrt
+    pointAtOf add3Of scale3Of splatOf zerosOf mulOf add sub mul div neg lt le eq isNan ofBits round
 first-segment = refl
 
 second-segment : segmentSoftTransmissionOf (traceIn (triangleAt two) tree) (transmissionOf materials) maxCrossings visibilityRadius bounce source ≡ transmission (splatOf one32) 18
-unfolding segmentSoftTransmissionOf probesOf probeOf addPartOf midOf offsetOf probeBasisOf tangentOf probeAngleOf segmentTransmissionOf segmentRayOf walkOf intersectOf traceOf visitOf visitAllOf triangleAt intersectMaxOf crossingOf edgesOf solveOf withinOf outsideOf parallelOf intersectTOf slabOf paddedOf padOf axisOf narrowOf minOf maxOf absOf clampOf dot3Of sub3Of cross3Of length3Of distance3Of normalize3Of sqrtOf rootOf isqrt pointAtOf add3Of scale3Of splatOf zerosOf mulOf add sub mul div neg lt le eq isNan ofBits round
+unfolding segmentSoftTransmissionOf probesOf probeOf addPartOf midOf offsetOf probeBasisOf tangentOf probeAngleOf segmentTransmissionOf segmentRayOf
+    walkOf intersectOf traceTree visitOf visitAllOf triangleAt intersectMaxOf crossingOf edgesOf solveOf withinOf outsideOf parallelOf intersectTOf
+    slabOf paddedOf padOf axisOf narrowOf minOf maxOf absOf clampOf dot3Of sub3Of cross3Of length3Of distance3Of normalize3Of sqrtOf rootOf isqrt
+    pointAtOf add3Of scale3Of splatOf zerosOf mulOf add sub mul div neg lt le eq isNan ofBits round
 second-segment = refl
 
 -- ---- what arrives
@@ -111,7 +120,9 @@ arrives :
     arrivedOf settings bounce listener (fin false 5 (pos 0)) one32
     (gainsOf (settings .«distance_model») (settings .air) (reflectedOf materials (triangleAt two) (0 ∷ [])) (fin false 5 (pos 0)) one32) (splatOf one32)
     ≡ Passed candidate
-unfolding arrivedOf gainsOf reflectedOf airGainOf bandsOf bandOf stepsIn factorOf factorTable millimetresOf ofInt candidateOf speedOf gainOf curveOf inverseOf betweenOf furthestOf heldOf triangleAt reflectionOf coefficientsOf coefficientOf bandsIn splatOf mulOf scaleOf sumOfSquaresOf normalize3Of length3Of dot3Of sub3Of sqrtOf rootOf isqrt minOf maxOf clampOf isFinite add sub mul div neg lt le eq isNan ofBits round
+unfolding arrivedOf gainsOf reflectedOf airGainOf bandsOf bandOf stepsIn factorOf factorTable millimetresOf ofInt candidateOf speedOf gainOf curveOf
+    inverseOf betweenOf furthestOf heldOf triangleAt reflectionOf coefficientsOf coefficientOf bandsIn splatOf mulOf scaleOf sumOfSquaresOf
+    normalize3Of length3Of dot3Of sub3Of sqrtOf rootOf isqrt minOf maxOf clampOf isFinite add sub mul div neg lt le eq isNan ofBits round
 arrives = refl
 
 gone :

@@ -7,7 +7,7 @@ use lib.Ieee.{ofBits, toBits, round}
 use Rattle.bands.specs.Band8.{splatOf}
 use Rattle.packet.specs.Bytes.{gainBytes, tapsBytes}
 use Rattle.packet.specs.Tap.{bitMap}
-use Rattle.taps.specs.Tap.{tapOf, packetOf}
+use Rattle.taps.specs.Tap.{sentTap, packetOf}
 use Rattle.claim.specs.Query.{Query}
 use Rattle.answer.specs.Answer.{answeredOf, outputOf}
 use Rattle.answer.specs.declared.Answered.{Answered}
@@ -21,7 +21,7 @@ use Rattle.known_points.proofs.Path.{speed-is}
 use Rattle.known_points.proofs.Whole.{case-a, near-plane, off-plane, case-a-image, case-a-bounce}
 
 packet-is : packetOf 1 36 (tap ∷ []) ≡ packet
-unfolding tapOf bitMap gainBytes tapsBytes splatOf toBits ofBits round
+unfolding sentTap bitMap gainBytes tapsBytes splatOf toBits ofBits round
 packet-is = refl
 
 answered : (lens : List ℕ) → Enough lens → answeredOf (called source lens) ≡ record { refusal = 0; count = 1; images = 1; rays = 36; bytes = 64 }

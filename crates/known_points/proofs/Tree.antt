@@ -6,10 +6,10 @@ use lib.Ieee.{lt, isNan, ofBits}
 use Rattle.float.specs.Compare.{minOf, maxOf}
 use Rattle.geometry.specs.Aabb.{box, lowOf, highOf, newEmptyOf, unionOf, growOf, fromCornersOf}
 use Rattle.geometry.specs.Triangle.{centroidOf}
-use Rattle.patches.specs.Triangles.{triangleAt, boxOf}
-use Rattle.split.specs.Split.{boundsOf}
-use Rattle.build.specs.Tree.{Tree, leaf, leafOf, countTo}
-use Rattle.build.proofs.Grows.{build-few}
+use Rattle.planes_patches.specs.Triangles.{triangleAt, boxOf}
+use Rattle.tree_split.specs.Split.{boundsOf}
+use Rattle.tree_build.specs.Tree.{Tree, leaf, leafOf, countTo}
+use Rattle.tree_build.proofs.Grows.{build-few}
 use Rattle.scene_bvh.specs.SceneTree.{treeOf}
 use Rattle.known_points.proofs.Scene.{corner0, corner2, two}
 

@@ -10,9 +10,9 @@ use Rattle.float.specs.Compare.{absOf, isFinite}
 use Rattle.vector.specs.declared.Vec3.{Vec3}
 use Rattle.vector.specs.Vector.{dot3Of}
 use Rattle.geometry.specs.declared.Triangle.{Triangle}
-use Rattle.build.specs.Tree.{Tree}
-use Rattle.patches.specs.Triangles.{triangleAt}
-use Rattle.buried.specs.Probe.{probeOf}
+use Rattle.tree_build.specs.Tree.{Tree}
+use Rattle.planes_patches.specs.Triangles.{triangleAt}
+use Rattle.planes_buried.specs.Probe.{probeOf}
 use Rattle.mirror.specs.Plane.{Plane}
 use Rattle.mirror.specs.Mirror.{signedDistanceOf}
 use Rattle.placing.specs.Corners.{triangles}

@@ -7,7 +7,7 @@ use lib.ListN.{drop}
 use Rattle.scene.specs.Speed.{speedOf}
 use Rattle.scene.specs.Areas.{shortOf}
 use Rattle.placing.specs.Corners.{triangles}
-use Rattle.patches.specs.Triangles.{triangleAt}
+use Rattle.planes_patches.specs.Triangles.{triangleAt}
 use Rattle.bounces.specs.Image.{imageOf}
 use Rattle.bounces.specs.Bounces.{made, bouncesOf}
 use Rattle.claim.specs.Answer.{Answer}

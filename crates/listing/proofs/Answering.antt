@@ -22,7 +22,7 @@ use Rattle.sequences.specs.declared.Enumeration.{Enumeration}
 use Rattle.sequences.specs.declared.Enumeration.the-variants as enumeration
 use Rattle.listing.specs.Request.{requestOf, asked, checked, inRange, words, lineEnd, isDecimal, valueOf, mostText, mostPlanes}
 use Rattle.listing.specs.Text.{Wrote, headerOf, refusedText, mostHeader}
-use Rattle.listing.specs.Printed.{onOf, imagesOf, imagesFor, headFor, room, answerOf, recordsOf, outOf, Answered, Listed}
+use Rattle.listing.specs.Printed.{onOf, imagesOf, imagesFor, headFor, room, replyOf, recordsOf, outOf, Answered, Listed}
 use Rattle.listing.specs.declared.Request.{Request}
 use Rattle.listing.specs.declared.Request.the-variants.{Images, Refused}
 use Rattle.listing.specs.declared.Reply.{Reply}
@@ -90,8 +90,8 @@ module _ (planes order mask : ℕ) (on records : List ℕ) (few : planes ≤ mos
       (le-leb (length (take planes on)) widest (omega arith))
       ∙ le-leb (most * 9) (length records) wide
 
-  pub found : sequences.answerOf (take planes on) order records ≡ enumeration.Images (length (imagesOf planes order mask))
-  unfolding sequences.answerOf imagesOf
+  pub found : sequences.enumerationOf (take planes on) order records ≡ enumeration.Images (length (imagesOf planes order mask))
+  unfolding sequences.enumerationOf imagesOf
   found =
       ap (λ (b : Bool). cond b (enumeration.Images (length (visited (take planes on) order))) enumeration.Refused) fit
       ∙ ap (λ (l : List ℕ). enumeration.Images (length (visited l order))) these
@@ -172,7 +172,7 @@ request-few t n o m e =
 
 module _ (text records out : List ℕ) where
   none : room records out ≡ false → Answered text records out NoRoom records out
-  unfolding answerOf recordsOf outOf
+  unfolding replyOf recordsOf outOf
   none e = record {
     answer =
         ap (λ (b : Bool). cond b (Head (length (imagesFor (requestOf text))) (length (headFor (requestOf text)))) NoRoom) (sym e);
@@ -201,7 +201,7 @@ module _ (text records out : List ℕ) where
         (q : Request) (r : Reply) (records′ out′ : List ℕ) → requestOf text ≡ q → r ≡ Head (length (imagesFor q)) (length (headFor q)) →
         records′ ≡ listed (imagesFor q) ++ drop (length (imagesFor q) * 9) records → out′ ≡ headFor q ++ drop (length (headFor q)) out →
         Answered text records out r records′ out′
-    unfolding answerOf recordsOf outOf
+    unfolding replyOf recordsOf outOf
     answered-for q r records′ out′ e x y z = record {
       answer =
           x
@@ -239,7 +239,7 @@ module _ (text records out : List ℕ) where
   pub answer-within :
       (total len : ℕ) (r : Reply) (records′ out′ : List ℕ) → Answered text records out r records′ out′ → r ≡ Head total len →
       len ≤ length out′
-  unfolding answerOf outOf
+  unfolding replyOf outOf
   answer-within total len r records′ out′ a e = by (room records out) (sym e ∙ a .answer) (a .head)
     where
       by :
@@ -256,7 +256,7 @@ module _ (text records out : List ℕ) where
   pub answer-records :
       (total len : ℕ) (r : Reply) (records′ out′ : List ℕ) → Answered text records out r records′ out′ → r ≡ Head total len →
       total * 9 ≤ length records′
-  unfolding answerOf recordsOf
+  unfolding replyOf recordsOf
   answer-records total len r records′ out′ a e = by (room records out) (sym e ∙ a .answer) (a .area)
     where
       by :

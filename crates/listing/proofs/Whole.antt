@@ -18,7 +18,7 @@ use Rattle.sequences.proofs.Laws.{length-record}
 use Rattle.sequences.proofs.Numbers.{is-visited}
 use Rattle.listing.specs.Request.{requestOf, words, isDecimal, all, isDigit, valueOf, push, inRange, lineEnd}
 use Rattle.listing.specs.Text.{mostLine, digitsOf, planesOf, lineOf, headerOf, linesFrom, planesIn, planesAt, linesOf, chunkEnd, Chunked, Turn, Turns, written}
-use Rattle.listing.specs.Printed.{onOf, imagesOf, imagesFor, headFor, printed, room, answerOf, recordsOf, outOf, Answered}
+use Rattle.listing.specs.Printed.{onOf, imagesOf, imagesFor, headFor, printed, room, replyOf, recordsOf, outOf, Answered}
 use Rattle.listing.specs.declared.Request.{Request}
 use Rattle.listing.specs.declared.Request.the-variants.{Images, Refused}
 use Rattle.listing.specs.declared.Reply.{Reply}
@@ -113,7 +113,7 @@ whole text records out e =
 pub answer-text :
     (text records out : List ℕ) (total len : ℕ) (r : Reply) (records′ out′ : List ℕ) → Answered text records out r records′ out′ →
     r ≡ Head total len → take len out′ ++ linesOf records′ 0 total ≡ printed text
-unfolding answerOf outOf
+unfolding replyOf outOf
 answer-text text records out total len r records′ out′ a e = by (room records out) refl (sym e ∙ a .answer) (a .head)
   where
     by :
@@ -209,6 +209,9 @@ decimal-value (suc k) n h = by (ltb n 10) refl (decimal-value k (n / 10))
 
 -- ---- document 01's listing for `2 3 0`
 
-document : printed (50 ∷ 32 ∷ 51 ∷ 32 ∷ 48 ∷ []) ≡ 105 ∷ 109 ∷ 97 ∷ 103 ∷ 101 ∷ 115 ∷ 32 ∷ 54 ∷ 10 ∷ 49 ∷ 58 ∷ 32 ∷ 48 ∷ 10 ∷ 50 ∷ 58 ∷ 32 ∷ 48 ∷ 32 ∷ 49 ∷ 10 ∷ 51 ∷ 58 ∷ 32 ∷ 48 ∷ 32 ∷ 49 ∷ 32 ∷ 48 ∷ 10 ∷ 52 ∷ 58 ∷ 32 ∷ 49 ∷ 10 ∷ 53 ∷ 58 ∷ 32 ∷ 49 ∷ 32 ∷ 48 ∷ 10 ∷ 54 ∷ 58 ∷ 32 ∷ 49 ∷ 32 ∷ 48 ∷ 32 ∷ 49 ∷ 10 ∷ []
+document :
+    printed (50 ∷ 32 ∷ 51 ∷ 32 ∷ 48 ∷ [])
+    ≡ 105 ∷ 109 ∷ 97 ∷ 103 ∷ 101 ∷ 115 ∷ 32 ∷ 54 ∷ 10 ∷ 49 ∷ 58 ∷ 32 ∷ 48 ∷ 10 ∷ 50 ∷ 58 ∷ 32 ∷ 48 ∷ 32 ∷ 49 ∷ 10 ∷ 51 ∷ 58 ∷ 32 ∷ 48 ∷ 32 ∷ 49
+    ∷ 32 ∷ 48 ∷ 10 ∷ 52 ∷ 58 ∷ 32 ∷ 49 ∷ 10 ∷ 53 ∷ 58 ∷ 32 ∷ 49 ∷ 32 ∷ 48 ∷ 10 ∷ 54 ∷ 58 ∷ 32 ∷ 49 ∷ 32 ∷ 48 ∷ 32 ∷ 49 ∷ 10 ∷ []
 unfolding printed requestOf lineEnd words isDecimal all isDigit valueOf inRange imagesOf onOf below upto may headerOf linesFrom lineOf planesOf digitsOf
 document = refl

@@ -42,8 +42,8 @@ abbrev pub room : List ℕ → List ℕ → Bool
 room records out = leb (most * perRecord) (length records) && leb mostHeader (length out)
 
 -- how many images there are, and how long the first line is
-unfoldable pub answerOf : List ℕ → List ℕ → List ℕ → Reply
-answerOf text records out =
+unfoldable pub replyOf : List ℕ → List ℕ → List ℕ → Reply
+replyOf text records out =
     cond (room records out) (Head (length (imagesFor (requestOf text))) (length (headFor (requestOf text)))) NoRoom
 
 -- the records of the images stand at the front of their area
@@ -59,7 +59,7 @@ outOf text records out = cond (room records out) (headFor (requestOf text) ++ dr
 
 -- what `answer` promises
 pub record Answered (text records out : List ℕ) (r : Reply) (records′ out′ : List ℕ) : Type 0 where
-  pub answer : r ≡ answerOf text records out
+  pub answer : r ≡ replyOf text records out
   pub area : records′ ≡ recordsOf text records out
   pub head : out′ ≡ outOf text records out
 

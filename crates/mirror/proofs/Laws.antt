@@ -1,14 +1,14 @@
 -- The laws that the proofs cite: the plane at an index, the runs of a plane, and one step of each loop over them.
-use mathlib.Core.Path.{_≡_, refl, ap, _∙_}
+use mathlib.Core.Path.{_≡_, refl}
 use mathlib.Core.Bool.{Bool, true, false, cond}
-use mathlib.Core.List.{List, [], _∷_, _++_, map, foldl}
-use Prim.Native.Nat.{ℕ, zero, suc, _+_, _-_, _<_, _≤_}
+use mathlib.Core.List.{List, foldl}
+use Prim.Native.Nat.{ℕ, suc, _+_, _-_, _<_, _≤_}
 use native.Mathlib.Numerals.{add-one}
 use native.Mathlib.Omega.{arith}
 use lib.Ieee.{Float}
 use lib.ListN.{length, getD, drop, drop-of-length-le}
 use lib.Seq.{drop-cons}
-use Rattle.order.specs.Runs.{upTo}
+use Rattle.order.proofs.Positions.{getD-map-upTo}
 use Rattle.vector.specs.declared.Vec3.{Vec3}
 use Rattle.vector.specs.declared.Ray.{Ray}
 use Rattle.geometry.specs.declared.Triangle.{Triangle}
@@ -26,42 +26,11 @@ use Rattle.mirror.specs.declared.Located.the-variants.{Off}
 
 -- ---- the plane at an index
 
-upTo-length : (n : ℕ) → length (upTo n) ≡ n
-unfolding upTo
-upTo-length zero = refl
-upTo-length (suc n) = long (upTo n) n ∙ ap suc (upTo-length n) where
-  long : (xs : List ℕ) (k : ℕ) → length (xs ++ (k ∷ [])) ≡ suc (length xs)
-  long [] k = refl
-  long (x ∷ xs) k = ap suc (long xs k)
-
-map-before : {A : Type 0} (f : ℕ → A) (d : A) (xs : List ℕ) (n i : ℕ) → i < length xs → getD (map f (xs ++ (n ∷ []))) i d ≡ getD (map f xs) i d
-map-before f d [] n i h = let no : ⊥ = omega arith in absurd no
-map-before f d (x ∷ xs) n zero h = refl
-map-before f d (x ∷ xs) n (suc i) h = map-before f d xs n i (omega arith)
-
-map-last : {A : Type 0} (f : ℕ → A) (d : A) (xs : List ℕ) (n : ℕ) → getD (map f (xs ++ (n ∷ []))) (length xs) d ≡ f n
-map-last f d [] n = refl
-map-last f d (x ∷ xs) n = map-last f d xs n
-
--- the element was put k turns before the last
-map-at : {A : Type 0} (f : ℕ → A) (d : A) (i k n : ℕ) → n ≡ k + i → getD (map f (upTo (suc n))) i d ≡ f i
-unfolding upTo
-map-at f d i zero n e =
-    let f₁ : n ≡ i = omega arith in
-    let f₂ : i ≡ length (upTo n) = omega (arith, upTo-length n) in
-    ap (λ (j : ℕ). getD (map f (upTo n ++ (n ∷ []))) j d) f₂ ∙ map-last f d (upTo n) n ∙ ap f f₁
-map-at f d i (suc k) zero e = let no : ⊥ = omega arith in absurd no
-map-at f d i (suc k) (suc n) e =
-    let long : length (upTo (suc n)) ≡ suc n = upTo-length (suc n) in
-    let e₁ : n ≡ k + i = omega arith in
-    map-before f d (upTo (suc n)) (suc n) i (omega arith) ∙ map-at f d i k n e₁
-
 -- `planes[p]`
 pub plane-at : (floats : List Float) (words members : List ℕ) (edges : List Float) (count p : ℕ) → p < count →
     planeAt (planesIn floats words members edges count) p ≡ planeIn floats words members edges p
 unfolding planeAt planesIn
-plane-at floats words members edges zero p h = let no : ⊥ = omega arith in absurd no
-plane-at floats words members edges (suc n) p h = map-at (planeIn floats words members edges) noPlane p (n - p) n (omega arith)
+plane-at floats words members edges count p h = getD-map-upTo (planeIn floats words members edges) count p noPlane h
 
 -- ---- the border
 

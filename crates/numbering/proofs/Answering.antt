@@ -14,7 +14,7 @@ use Rattle.sequences.specs.Members.{Image}
 use Rattle.sequences.proofs.Counting.{allowed-length, visited-length}
 use Rattle.sequences.proofs.Numbers.{is-numbered, visited-alone}
 use Rattle.numbering.specs.declared.Walls.{Walls}
-use Rattle.numbering.specs.Walls.{flags, oneTo, takes, wallsOf, found, refused, answerOf}
+use Rattle.numbering.specs.Walls.{flags, oneTo, takes, wallsOf, found, refused, sequenceAnswer}
 use Rattle.numbering.specs.Unrank.{unrank}
 use Rattle.numbering.specs.Contract.{Placed}
 use Rattle.numbering.specs.Undone.{Room, Undone, NumberingUndone}
@@ -94,15 +94,15 @@ placed planes order on number place t s =
 -- "return the plane sequence without walking the earlier ones": the answer, by division
 pub answered :
     (planes order : ℕ) (on : List ℕ) (number : ℕ) → takes planes order on number ≡ true →
-    found (unrank on order [] (number - 1)) ≡ answerOf planes order on number
-unfolding answerOf
+    found (unrank on order [] (number - 1)) ≡ sequenceAnswer planes order on number
+unfolding sequenceAnswer
 answered planes order on number e =
     let t = taken planes order on number e in
     ap found (walls-found on order number (t .low) (subst (λ (k : ℕ). number ≤ images k (firsts on) order) (sym (t .many)) (t .high)))
     ∙ ap (λ (b : Bool). cond b (found (wallsOf on order number)) refused) (sym e)
 
-pub turned-away : (planes order : ℕ) (on : List ℕ) (number : ℕ) → takes planes order on number ≡ false → refused ≡ answerOf planes order on number
-unfolding answerOf
+pub turned-away : (planes order : ℕ) (on : List ℕ) (number : ℕ) → takes planes order on number ≡ false → refused ≡ sequenceAnswer planes order on number
+unfolding sequenceAnswer
 turned-away planes order on number e = ap (λ (b : Bool). cond b (found (wallsOf on order number)) refused) (sym e)
 
 -- ---- "It undoes the numbering, and numbering undoes it"
@@ -122,8 +122,8 @@ module _ (on : List ℕ) (order : ℕ) (room : Room on order) where
       takes-number on order n room
       ∙ one-to-is (images (length on) (firsts on) order) n (i .low) (subst (λ (k : ℕ). n ≤ k) (visited-length on order) (i .high))
 
-  answer-found : (n : ℕ) → takes (length on) order on n ≡ true → answerOf (length on) order on n ≡ found (wallsOf on order n)
-  unfolding answerOf
+  answer-found : (n : ℕ) → takes (length on) order on n ≡ true → sequenceAnswer (length on) order on n ≡ found (wallsOf on order n)
+  unfolding sequenceAnswer
   answer-found n e = ap (λ (b : Bool). cond b (found (wallsOf on order n)) refused) e
 
   -- each number taken is that of an image, the one with these walls
@@ -140,22 +140,22 @@ module _ (on : List ℕ) (order : ℕ) (room : Room on order) where
   no-walls : (s : List ℕ) → refused ≡ found s → ⊥
   no-walls s e = let z : _≡_ {A = ℕ} 13 0 = ap (λ (w : Walls). w .refusal) e in omega arith
 
-  taken-back : (n : ℕ) (s : List ℕ) → answerOf (length on) order on n ≡ found s → takes (length on) order on n ≡ true
+  taken-back : (n : ℕ) (s : List ℕ) → sequenceAnswer (length on) order on n ≡ found s → takes (length on) order on n ≡ true
   taken-back n s e = by (takes (length on) order on n) refl
     where
       by : (b : Bool) → takes (length on) order on n ≡ b → takes (length on) order on n ≡ true
       by true f = f
       by false f = absurd (no-walls s (turned-away (length on) order on n f ∙ e))
 
-  image-back : (n : ℕ) (s : List ℕ) → answerOf (length on) order on n ≡ found s → Image (visited on order) n s
+  image-back : (n : ℕ) (s : List ℕ) → sequenceAnswer (length on) order on n ≡ found s → Image (visited on order) n s
   image-back n s e =
       let t = taken-back n s e in
       subst (Image (visited on order) n) (found-once (wallsOf on order n) s (sym (answer-found n t) ∙ e)) (image-found n t)
 
-  none-there : (n : ℕ) → ((s : List ℕ) → Image (visited on order) n s → ⊥) → answerOf (length on) order on n ≡ refused
+  none-there : (n : ℕ) → ((s : List ℕ) → Image (visited on order) n s → ⊥) → sequenceAnswer (length on) order on n ≡ refused
   none-there n no-one = by (takes (length on) order on n) refl
     where
-      by : (b : Bool) → takes (length on) order on n ≡ b → answerOf (length on) order on n ≡ refused
+      by : (b : Bool) → takes (length on) order on n ≡ b → sequenceAnswer (length on) order on n ≡ refused
       by true f = absurd (no-one (wallsOf on order n) (image-found n f))
       by false f = sym (turned-away (length on) order on n f)
 

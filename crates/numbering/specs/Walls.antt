@@ -45,5 +45,5 @@ abbrev pub refused : Walls
 refused = record { refusal = refusal13; len = 0; planes = replicate mostOrder 0 }
 
 -- the answer of `sequence_of`
-unfoldable pub answerOf : ℕ → ℕ → List ℕ → ℕ → Walls
-answerOf planes order on number = cond (takes planes order on number) (found (wallsOf on order number)) refused
+unfoldable pub sequenceAnswer : ℕ → ℕ → List ℕ → ℕ → Walls
+sequenceAnswer planes order on number = cond (takes planes order on number) (found (wallsOf on order number)) refused

@@ -184,7 +184,7 @@ fn walls_at(on: &[u8], order: u32, place: u32) -> Walls
 // The planes of the image with that number, without a walk over the earlier ones. `on` has a byte for each plane: 1 where the source lies on it,
 // else 0. Refuses with 13 an order outside 1 to 8, planes outside 1 to 256, bytes of another count or value, and a number that no image has.
 pub fn sequence_of(planes: u32, order: u32, on: &[u8], number: u32) -> Walls
-    ensures { λ r. ⌜ r ≡ spec.answerOf planes order (now (on .entry)) number ⌝ }
+    ensures { λ r. ⌜ r ≡ spec.sequenceAnswer planes order (now (on .entry)) number ⌝ }
 {
     if takes(planes, order, on, number) {
         return walls_at(on, order, number - 1);

@@ -130,22 +130,18 @@ fn plus_unless(n: u64, so: bool) -> u64 {
     if so { n } else { plus(n) }
 }
 
-fn byte_at(bytes: &[u8], i: usize) -> u8 {
-    if i < bytes.len() { bytes[i] } else { 255 }
-}
-
 // Whether the walls are those of the record at `at`, and zeros behind them.
 fn agrees(w: Walls, records: &[u8], at: u32) -> bool {
     let planes = w.planes;
     let from = at as usize * RECORD;
     let mut i = 0;
     while i < MAX_IMAGE_ORDER {
-        if planes[i] != byte_at(records, from + i) {
+        if planes[i] != text::byte_at(records, from + i, 255) {
             return false;
         }
         i += 1;
     }
-    w.refusal == 0 && w.len == byte_at(records, from + MAX_IMAGE_ORDER) as usize
+    w.refusal == 0 && w.len == text::byte_at(records, from + MAX_IMAGE_ORDER, 255) as usize
 }
 
 // Walls were compared.

@@ -13,7 +13,7 @@ use lib.Dec.{leb, eqb}
 use borrow.Author.Tests.{leb-true}
 use Rattle.packet.specs.Limits.{mostOrder, bands, fixedWords, tapWords}
 use Rattle.packet.specs.Floats.{zeroBits, finiteBits, positiveBits}
-use Rattle.packet.specs.Tap.{Tap, tapOf, tapsOf, bitMap}
+use Rattle.packet.specs.Tap.{Tap, storedTap, tapsOf, bitMap}
 use Rattle.packet.specs.Refusals.{all, validGain, validGains, inRange, validFloats, validFloatsBy, numberOf}
 use Rattle.packet.specs.Helpers.{finiteGains}
 use Rattle.packet.proofs.Runs.{and-both, sub-done, sub-step}
@@ -28,11 +28,11 @@ from-start n a =
     let e : n - 0 ≡ n = omega arith in
     ap (λ (k : ℕ). tapsOf k a) e
 
-pub from-step : (n i : ℕ) (a : List ℕ) → i < n → tapsFrom n i a ≡ tapOf (drop (i * tapWords) a) ∷ tapsFrom n (i + 1) a
+pub from-step : (n i : ℕ) (a : List ℕ) → i < n → tapsFrom n i a ≡ storedTap (drop (i * tapWords) a) ∷ tapsFrom n (i + 1) a
 unfolding tapsOf
 from-step n i a h =
     let e : i * tapWords + tapWords ≡ (i + 1) * tapWords = omega arith in
-    rw (sub-step n i h) (ap (λ (l : List ℕ). tapOf (drop (i * tapWords) a) ∷ tapsOf (n - (i + 1)) l) (drop-drop tapWords (i * tapWords) a ∙ ap (λ (k : ℕ). drop k a) e))
+    rw (sub-step n i h) (ap (λ (l : List ℕ). storedTap (drop (i * tapWords) a) ∷ tapsOf (n - (i + 1)) l) (drop-drop tapWords (i * tapWords) a ∙ ap (λ (k : ℕ). drop k a) e))
 
 pub from-done : (n i : ℕ) (a : List ℕ) → n ≤ i → tapsFrom n i a ≡ []
 unfolding tapsOf
@@ -84,11 +84,11 @@ bits-window at k a h =
 -- ---- every tap
 
 module _ (p : Tap → Bool) (n i : ℕ) (a : List ℕ) where
-  pub all-no : i < n → p (tapOf (drop (i * tapWords) a)) ≡ false → all p (tapsFrom n i a) ≡ false
+  pub all-no : i < n → p (storedTap (drop (i * tapWords) a)) ≡ false → all p (tapsFrom n i a) ≡ false
   unfolding all
   all-no h e = rw (from-step n i a h, e)
 
-  pub all-yes : i < n → p (tapOf (drop (i * tapWords) a)) ≡ true → all p (tapsFrom n i a) ≡ all p (tapsFrom n (i + 1) a)
+  pub all-yes : i < n → p (storedTap (drop (i * tapWords) a)) ≡ true → all p (tapsFrom n i a) ≡ all p (tapsFrom n (i + 1) a)
   unfolding all
   all-yes h e = rw (from-step n i a h, e)
 
@@ -114,24 +114,24 @@ module _ (at k m : ℕ) (a : List ℕ) where
 -- ---- a tap's words where they stand in an area
 
 pub range-at : (images at : ℕ) (a : List ℕ)
-    → inRange images (tapOf (drop at a)) ≡ (leb 1 (getD a at 0) && (leb (getD a at 0) mostOrder && (leb 1 (getD a (at + 1) 0) && leb (getD a (at + 1) 0) images)))
-unfolding tapOf
+    → inRange images (storedTap (drop at a)) ≡ (leb 1 (getD a at 0) && (leb (getD a at 0) mostOrder && (leb 1 (getD a (at + 1) 0) && leb (getD a (at + 1) 0) images)))
+unfolding storedTap
 range-at images at a = simp (getD-drop, add-zero)
 
 pub floats-at : (m at : ℕ) (a : List ℕ)
-    → validFloatsBy m (tapOf (drop at a)) ≡ (finiteBits (getD a (at + 2) 0) && (finiteBits (getD a (at + 3) 0) && (finiteBits (getD a (at + 4) 0) && (positiveBits (getD a (at + 5) 0) && validGains m (take bands (drop (at + fixedWords) a))))))
-unfolding tapOf
+    → validFloatsBy m (storedTap (drop at a)) ≡ (finiteBits (getD a (at + 2) 0) && (finiteBits (getD a (at + 3) 0) && (finiteBits (getD a (at + 4) 0) && (positiveBits (getD a (at + 5) 0) && validGains m (take bands (drop (at + fixedWords) a))))))
+unfolding storedTap
 floats-at m at a = simp (getD-drop, drop-drop)
 
-pub floats-by : (m at : ℕ) (a : List ℕ) → m ≡ bitMap (take bands (drop (at + fixedWords) a)) → validFloatsBy m (tapOf (drop at a)) ≡ validFloats (tapOf (drop at a))
-unfolding tapOf
-floats-by m at a e = ap (λ (b : ℕ). validFloatsBy b (tapOf (drop at a))) (e ∙ ap (λ (l : List ℕ). bitMap (take bands l)) (sym (drop-drop fixedWords at a)))
+pub floats-by : (m at : ℕ) (a : List ℕ) → m ≡ bitMap (take bands (drop (at + fixedWords) a)) → validFloatsBy m (storedTap (drop at a)) ≡ validFloats (storedTap (drop at a))
+unfolding storedTap
+floats-by m at a e = ap (λ (b : ℕ). validFloatsBy b (storedTap (drop at a))) (e ∙ ap (λ (l : List ℕ). bitMap (take bands l)) (sym (drop-drop fixedWords at a)))
 
 -- ---- numbers
 
 module _ (n i : ℕ) (a : List ℕ) (h : i < n) where
   pub numbers-step : map numberOf (tapsFrom n i a) ≡ getD a (i * tapWords + 1) 0 ∷ map numberOf (tapsFrom n (i + 1) a)
-  unfolding tapOf
+  unfolding storedTap
   numbers-step = ap (map numberOf) (from-step n i a h) ∙ ap (λ (k : ℕ). k ∷ map numberOf (tapsFrom n (i + 1) a)) (getD-drop (i * tapWords) a 1 0)
 
 pub numbers-done : (n i : ℕ) (a : List ℕ) → n ≤ i → map numberOf (tapsFrom n i a) ≡ []
@@ -161,8 +161,8 @@ tapAt m at a = record {
   gains = take bands (drop (at + fixedWords) a);
 }
 
-pub tap-at : (m at : ℕ) (a : List ℕ) → m ≡ bitMap (take bands (drop (at + fixedWords) a)) → tapAt m at a ≡ tapOf (drop at a)
-unfolding tapOf
+pub tap-at : (m at : ℕ) (a : List ℕ) → m ≡ bitMap (take bands (drop (at + fixedWords) a)) → tapAt m at a ≡ storedTap (drop at a)
+unfolding storedTap
 tap-at m at a e =
     let z : getD a at 0 ≡ getD (drop at a) 0 0 = sym (getD-drop at a 0 0 ∙ ap (λ (k : ℕ). getD a k 0) (add-zero at)) in
     λ i. record {
@@ -204,7 +204,7 @@ valid-finite (t ∷ ts) e =
 pub order-fits : (images n i : ℕ) (a : List ℕ) → i < n → all (inRange images) (tapsFrom n i a) ≡ true → (getD a (i * tapWords) 0 < 256) × (all (inRange images) (tapsFrom n (i + 1) a) ≡ true)
 unfolding all
 order-fits images n i a h e =
-    let t : Tap = tapOf (drop (i * tapWords) a) in
+    let t : Tap = storedTap (drop (i * tapWords) a) in
     let p = and-both (inRange images t) (all (inRange images) (tapsFrom n (i + 1) a)) (sym (ap (all (inRange images)) (from-step n i a h)) ∙ e) in
     let q = and-both (leb 1 (getD a (i * tapWords) 0)) _ (sym (range-at images (i * tapWords) a) ∙ p .0) in
     let r = and-both (leb (getD a (i * tapWords) 0) mostOrder) _ (q .1) in

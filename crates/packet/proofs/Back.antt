@@ -15,7 +15,7 @@ use lib.Count.{trailingZeros}
 use borrow.Author.Tests.{le-leb, leb-true, eqb-true, eq-eqb, ne-eqb, ltb-true}
 use Rattle.packet.specs.Limits.{bands, countBytes, headBytes, fixedBytes, fixedWords, tapWords, areaWords, outBytes, mostTaps, mostImages}
 use Rattle.packet.specs.Floats.{finiteBits, positiveBits, zeroBits}
-use Rattle.packet.specs.Tap.{Tap, bitMap, readBackGain, readBack, tapOf, tapsOf}
+use Rattle.packet.specs.Tap.{Tap, bitMap, readBackGain, readBack, storedTap, tapsOf}
 use Rattle.packet.specs.Bytes.{littleEndian, word, gainBytes, tapBytes, tapsBytes, encode, valueOf, wordOf, ones, tapSize, gainIn, gainsIn, tapIn, holdsTaps, tapsIn, countIn, imagesIn, raysIn, decode}
 use Rattle.packet.specs.Refusals.{all, inRange, validGain, validGains, validFloats, square, plusSquare, squaredGainSum, numberOf, firstFailed, tests}
 use Rattle.packet.specs.Helpers.{inArea}
@@ -159,8 +159,8 @@ words-take (suc k) [] w i = w i
 words-take (suc k) (x ∷ a) w zero = w 0
 words-take (suc k) (x ∷ a) w (suc i) = words-take k a (λ j. w (suc j)) i
 
-tapOf-fine : (a : List ℕ) → Words a → tapWords ≤ length a → Fine (tapOf a)
-unfolding tapOf
+tapOf-fine : (a : List ℕ) → Words a → tapWords ≤ length a → Fine (storedTap a)
+unfolding storedTap
 tapOf-fine a w h = record {
   bits-are = refl;
   eight = simp (length-take, length-drop) (omega arith);

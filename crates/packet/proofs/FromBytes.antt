@@ -12,7 +12,7 @@ use lib.Seq.{sets, drop-drop, getD-drop, take-at, drop-at}
 use lib.Dec.{leb, eqb}
 use borrow.Author.Tests.{leb-true, le-leb, lt-leb}
 use Rattle.packet.specs.Limits.{bands, fixedBytes, fixedWords, tapWords}
-use Rattle.packet.specs.Tap.{Tap, tapOf, tapsOf, bitMap, allWords, wordsOf}
+use Rattle.packet.specs.Tap.{Tap, storedTap, tapsOf, bitMap, allWords, wordsOf}
 use Rattle.packet.specs.Bytes.{valueOf, countIn, holdsTaps, tapSize, ones, tapsIn, tapIn, gainsIn, gainIn, wordOf}
 use Rattle.packet.specs.Refusals.{all, inRange, validFloats, validFloatsBy, numberOf, squaredGainSum}
 use Rattle.packet.specs.Helpers.{inArea, finiteGains}
@@ -150,7 +150,7 @@ head-is : (t u : Tap) (ts us : List Tap) → t ∷ ts ≡ u ∷ us → (t ≡ u)
 head-is t u ts us e = (cc, cc)
 
 pub back-head : (n i at : ℕ) (b a : List ℕ) → i < n → tapsFrom n i a ≡ map inArea (tapsIn (n - i) (drop at b))
-    → (tapOf (drop (i * tapWords) a) ≡ inArea (tapIn (drop at b))) × (tapsFrom n (i + 1) a ≡ map inArea (tapsIn (n - (i + 1)) (drop (at + tapSize (getD b at 0)) b)))
+    → (storedTap (drop (i * tapWords) a) ≡ inArea (tapIn (drop at b))) × (tapsFrom n (i + 1) a ≡ map inArea (tapsIn (n - (i + 1)) (drop (at + tapSize (getD b at 0)) b)))
 back-head n i at b a h e = head-is _ _ _ _ (sym (from-step n i a h) ∙ e ∙ ap (map inArea) (tapsIn-step n i at b h))
 
 pub floats-in : (at : ℕ) (b : List ℕ) (t : Tap) → t ≡ inArea (tapIn (drop at b)) → validFloatsBy (getD b at 0) t ≡ validFloats (tapIn (drop at b))
@@ -190,8 +190,8 @@ sums-in-area (t ∷ ts) = ap (λ (l : List Float). squaredGainSum t ∷ l) (sums
 
 -- ---- reading the words back
 
-front-is : (t : Tap) (r : List ℕ) → length (t .gains) ≡ bands → tapOf (wordsOf t ++ r) ≡ inArea t
-unfolding tapOf
+front-is : (t : Tap) (r : List ℕ) → length (t .gains) ≡ bands → storedTap (wordsOf t ++ r) ≡ inArea t
+unfolding storedTap
 front-is t r e =
     let g : take bands (t .gains ++ r) ≡ t .gains = take-at (t .gains) r bands e in
     λ i. record { bits = bitMap (g i); order = t .order; number = t .number; x = t .x; y = t .y; z = t .z; delay = t .delay; gains = g i }

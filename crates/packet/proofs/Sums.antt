@@ -11,7 +11,7 @@ use lib.Dec.{T, eqb}
 use borrow.Author.Tests.{ltb-true, ne-eqb}
 use Rattle.packet.specs.Limits.{bands, fixedWords, tapWords}
 use Rattle.packet.specs.Floats.{finiteBits}
-use Rattle.packet.specs.Tap.{Tap, tapOf}
+use Rattle.packet.specs.Tap.{Tap, storedTap}
 use Rattle.packet.specs.Refusals.{all, squaredGainSum, squaredSum, plusSquare, leastSum, noneExceeds, validSums}
 use Rattle.packet.specs.Helpers.{finiteGains}
 use Rattle.packet.proofs.Runs.{and-both}
@@ -75,7 +75,7 @@ module _ (at k : ℕ) (a : List ℕ) (h : k < bands) (r : at + bands ≤ length 
 
 module _ (n i : ℕ) (a : List ℕ) (h : i < n) where
   pub finite-gains-step : all finiteGains (tapsFrom n i a) ≡ (all finiteBits (take bands (drop (i * tapWords + fixedWords) a)) && all finiteGains (tapsFrom n (i + 1) a))
-  unfolding all tapOf
+  unfolding all storedTap
   finite-gains-step = ap (all finiteGains) (from-step n i a h) ∙ ap (λ (l : List ℕ). all finiteBits (take bands l) && all finiteGains (tapsFrom n (i + 1) a)) (drop-drop fixedWords (i * tapWords) a)
 
   pub finite-gains-both : all finiteGains (tapsFrom n i a) ≡ true → (all finiteBits (take bands (drop (i * tapWords + fixedWords) a)) ≡ true) × (all finiteGains (tapsFrom n (i + 1) a) ≡ true)
@@ -83,7 +83,7 @@ module _ (n i : ℕ) (a : List ℕ) (h : i < n) where
 
   pub falling-step : (p : Float) → falling p (map squaredGainSum (tapsFrom n i a))
       ≡ ((lt leastSum (squaredSum (take bands (drop (i * tapWords + fixedWords) a))) && not (lt p (squaredSum (take bands (drop (i * tapWords + fixedWords) a))))) && falling (squaredSum (take bands (drop (i * tapWords + fixedWords) a))) (map squaredGainSum (tapsFrom n (i + 1) a)))
-  unfolding falling tapOf
+  unfolding falling storedTap
   falling-step p =
       ap (λ (l : List Tap). falling p (map squaredGainSum l)) (from-step n i a h)
       ∙ ap (λ (l : List ℕ). (lt leastSum (squaredSum (take bands l)) && not (lt p (squaredSum (take bands l)))) && falling (squaredSum (take bands l)) (map squaredGainSum (tapsFrom n (i + 1) a))) (drop-drop fixedWords (i * tapWords) a)

@@ -10,7 +10,7 @@ use lib.ListN.{length, getD, drop, set, length-append}
 use lib.Seq.{sets}
 use lib.Dec.{eqb}
 use Rattle.packet.specs.Limits.{bands, fixedBytes, tapWords}
-use Rattle.packet.specs.Tap.{Tap, tapOf}
+use Rattle.packet.specs.Tap.{Tap, storedTap}
 use Rattle.packet.specs.Bytes.{gainBytes, word, tapBytes, tapsBytes}
 use Rattle.packet.proofs.Runs.{goes-on, sets-append}
 use Rattle.packet.proofs.Areas.{from-done, from-step, tapsFrom, window, window-done, window-step}
@@ -47,7 +47,7 @@ unfolding gainBytes
 gainBytes-done at k m a h = ap (gainBytes m) (window-done at k a h)
 
 module _ (n i : ℕ) (a : List ℕ) (h : i < n) where
-  pub bytes-step : tapsBytes (tapsFrom n i a) ≡ tapBytes (tapOf (drop (i * tapWords) a)) ++ tapsBytes (tapsFrom n (i + 1) a)
+  pub bytes-step : tapsBytes (tapsFrom n i a) ≡ tapBytes (storedTap (drop (i * tapWords) a)) ++ tapsBytes (tapsFrom n (i + 1) a)
   unfolding tapsBytes
   bytes-step = ap tapsBytes (from-step n i a h)
 
@@ -68,14 +68,14 @@ write-tap-sets o o₁ o₂ o₃ o₄ o₅ o₆ p t e₁ e₂ e₃ e₄ e₅ e₆
 
 -- ---- the taps of an area, to a packet
 
-pub write-taps-sets : (n i p q : ℕ) (a out out′ : List ℕ) → i < n → out′ ≡ sets out p (tapBytes (tapOf (drop (i * tapWords) a))) → q ≡ p + length (tapBytes (tapOf (drop (i * tapWords) a)))
+pub write-taps-sets : (n i p q : ℕ) (a out out′ : List ℕ) → i < n → out′ ≡ sets out p (tapBytes (storedTap (drop (i * tapWords) a))) → q ≡ p + length (tapBytes (storedTap (drop (i * tapWords) a)))
     → sets out′ q (tapsBytes (tapsFrom n (i + 1) a)) ≡ sets out p (tapsBytes (tapsFrom n i a))
 write-taps-sets n i p q a out out′ h e f =
-    sym (goes-on out out′ p q (tapBytes (tapOf (drop (i * tapWords) a))) (tapsBytes (tapsFrom n (i + 1) a)) e f)
+    sym (goes-on out out′ p q (tapBytes (storedTap (drop (i * tapWords) a))) (tapsBytes (tapsFrom n (i + 1) a)) e f)
     ∙ ap (sets out p) (sym (bytes-step n i a h))
 
-pub write-taps-length : (n i : ℕ) (a : List ℕ) → i < n → length (tapsBytes (tapsFrom n i a)) ≡ length (tapBytes (tapOf (drop (i * tapWords) a))) + length (tapsBytes (tapsFrom n (i + 1) a))
-write-taps-length n i a h = ap length (bytes-step n i a h) ∙ length-append (tapBytes (tapOf (drop (i * tapWords) a))) (tapsBytes (tapsFrom n (i + 1) a))
+pub write-taps-length : (n i : ℕ) (a : List ℕ) → i < n → length (tapsBytes (tapsFrom n i a)) ≡ length (tapBytes (storedTap (drop (i * tapWords) a))) + length (tapsBytes (tapsFrom n (i + 1) a))
+write-taps-length n i a h = ap length (bytes-step n i a h) ∙ length-append (tapBytes (storedTap (drop (i * tapWords) a))) (tapsBytes (tapsFrom n (i + 1) a))
 
 pub bytes-done : (n i : ℕ) (a : List ℕ) → n ≤ i → tapsBytes (tapsFrom n i a) ≡ []
 unfolding tapsBytes

@@ -23,9 +23,9 @@ bitMap [] = 0
 bitMap (g ∷ gs) = cond (zeroBits g) 0 1 + 2 * bitMap gs
 
 -- The tap at the front of a tap area: order, number, three words of direction, delay, a word for each gain
-unfoldable pub tapOf : List ℕ → Tap
+unfoldable pub storedTap : List ℕ → Tap
 unfolding bitMap
-tapOf a = record {
+storedTap a = record {
   bits = bitMap (take bands (drop fixedWords a));
   order = getD a 0 0;
   number = getD a 1 0;
@@ -38,9 +38,9 @@ tapOf a = record {
 
 -- The first n taps of a tap area
 unfoldable pub tapsOf : ℕ → List ℕ → List Tap
-unfolding tapOf
+unfolding storedTap
 tapsOf zero a = []
-tapsOf (suc n) a = tapOf a ∷ tapsOf n (drop tapWords a)
+tapsOf (suc n) a = storedTap a ∷ tapsOf n (drop tapWords a)
 
 -- The words of a tap in a tap area
 abbrev pub wordsOf : Tap → List ℕ

@@ -1,7 +1,9 @@
 // One stored case: what the packet's reader or writer answers, and whether that is the stored answer.
 ghost use mathlib.Core.Path.{_≡_};
+ghost use Prim.Native.Nat.{_+_};
 ghost use lib.ListN.{length};
-use crate::text;
+ghost use Rattle.packet.specs.Limits.{outBytes, areaWords};
+use crate::words;
 use libc::STDOUT_FILENO;
 
 // What an area holds before a call.
@@ -9,30 +11,30 @@ const FILL: u32 = 0x5a5a5a5a;
 
 const FILL_BYTE: u8 = 0x5a;
 
-// The parts of an area that a case may lend, and the longest packet of a case.
-const WORDS: usize = 14340;
+// The parts of an area that a case may lend, a little longer than what is asked of it, and the longest packet of a case.
+const WORDS: usize = packet::AREA_WORDS + 4;
 
-const BYTES: usize = 55340;
+const BYTES: usize = packet::OUT_BYTES + 34;
 
-const LONGEST: usize = 55306;
+const LONGEST: usize = packet::OUT_BYTES;
 
 // A tap area before a call.
 fn fresh_words() -> [u32; WORDS]
-    ensures { λ r. ⌜ length r ≡ 14340 ⌝ }
+    ensures { λ r. ⌜ length r ≡ areaWords + 4 ⌝ }
 {
     [FILL; WORDS]
 }
 
 // An output area before a call.
 fn fresh_bytes() -> [u8; BYTES]
-    ensures { λ r. ⌜ length r ≡ 55340 ⌝ }
+    ensures { λ r. ⌜ length r ≡ outBytes + 34 ⌝ }
 {
     [FILL_BYTE; BYTES]
 }
 
 // Zeros, to which the start of a packet is stored.
 fn zeros() -> [u8; LONGEST]
-    ensures { λ r. ⌜ length r ≡ 55306 ⌝ }
+    ensures { λ r. ⌜ length r ≡ outBytes ⌝ }
 {
     [0u8; LONGEST]
 }
@@ -116,7 +118,7 @@ fn print_verdict(ok: bool) -> bool {
 
 // The kind of a case and its name, which stands from byte 2 on. Answers the place after it.
 fn print_name(kind: &[u8], line: &[u8]) -> usize {
-    let end = text::find(line, 2, true);
+    let end = words::find(line, 2, true);
     io::write_all(STDOUT_FILENO, kind);
     if 2 <= end {
         if end <= line.len() {
@@ -192,10 +194,10 @@ fn try_read(bytes: &[u8], taps: &mut [u32], e: Expected) -> bool {
 }
 
 // A line with a packet to read.
-pub fn read_case(line: &[u8]) -> bool {
+pub(crate) fn read_case(line: &[u8]) -> bool {
     let after = print_name(b"read ", line);
     let mut f = [0u64; 7];
-    let at = text::numbers(line, after, &mut f);
+    let at = words::numbers(line, after, &mut f);
     let words = f[0] as usize;
     let n = f[1] as usize;
     let e = Expected {
@@ -206,7 +208,7 @@ pub fn read_case(line: &[u8]) -> bool {
         check: f[6],
     };
     let mut bytes = zeros();
-    text::hex_bytes(line, at, &mut bytes);
+    words::hex_bytes(line, at, &mut bytes);
     let mut area = fresh_words();
     if WORDS < words {
         return print_verdict(false);
@@ -240,17 +242,17 @@ fn try_write(
 }
 
 // A line with taps to write.
-pub fn write_case(line: &[u8]) -> bool {
+pub(crate) fn write_case(line: &[u8]) -> bool {
     let after = print_name(b"write ", line);
     let mut f = [0u64; 7];
-    let at = text::numbers(line, after, &mut f);
+    let at = words::numbers(line, after, &mut f);
     let words = f[0] as usize;
     let room = f[1] as usize;
     let n = f[6] as usize;
     let mut area = fresh_words();
-    let next = text::hex_words(line, at, &mut area);
+    let next = words::hex_words(line, at, &mut area);
     let mut bytes = zeros();
-    text::hex_bytes(line, next, &mut bytes);
+    words::hex_bytes(line, next, &mut bytes);
     let mut out = fresh_bytes();
     if WORDS < words {
         return print_verdict(false);

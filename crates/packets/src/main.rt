@@ -1,12 +1,12 @@
 // Runs the stored packets of standard input, good and damaged, and prints what the reader and the writer answer to each, and whether that is
 // the answer that is stored with it. tools/packet_cases.py makes them and says how a line is laid out.
 mod cases;
-mod text;
+mod words;
 
 use libc::STDOUT_FILENO;
 
 // How a line came out.
-pub enum Outcome {
+enum Outcome {
     NoCase,
     Read(bool),
     Written(bool),
@@ -14,7 +14,7 @@ pub enum Outcome {
 
 // A line is a packet to read, taps to write, or a remark.
 fn run_line(line: &[u8]) -> Outcome {
-    let kind = text::byte_at(line, 0);
+    let kind = text::byte_at(line, 0, b'\n');
     if kind == b'r' {
         return Outcome::Read(cases::read_case(line));
     }

@@ -16,8 +16,8 @@ use Rattle.bands.specs.declared.Band8.{Band8}
 use Rattle.bands.specs.declared.DistanceModel.{DistanceModel}
 use Rattle.bands.specs.Band8.{splatOf, zerosOf, mulOf, scaleOf}
 use Rattle.bands.specs.Distance.{gainOf}
-use Rattle.trace.specs.declared.Hit.{Hit}
-use Rattle.trace.specs.declared.Hit.the-variants.{Nothing, At}
+use Rattle.tree_trace.specs.declared.Hit.{Hit}
+use Rattle.tree_trace.specs.declared.Hit.the-variants.{Nothing, At}
 use Rattle.segments.specs.declared.Transmission.{Transmission}
 use Rattle.segments.specs.Materials.{clampedOf, transmissionOf, coefficientOf, coefficientsOf, reflectionOf}
 use Rattle.segments.specs.Segment.{visibilityRays, probeCount, transmission, segmentRayOf, afterOf, occlusionEps, walkOf, segmentTransmissionOf, offsetOf, midOf, addPartOf, probeOf, probesOf, segmentSoftTransmissionOf}

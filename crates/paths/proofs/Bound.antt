@@ -10,7 +10,7 @@ use Rattle.float.specs.Literals.{one32}
 use Rattle.vector.specs.declared.Vec3.{Vec3}
 use Rattle.vector.specs.Vector.{distance3Of}
 use Rattle.geometry.specs.declared.Triangle.{Triangle}
-use Rattle.build.specs.Tree.{Tree}
+use Rattle.tree_build.specs.Tree.{Tree}
 use Rattle.scene.specs.declared.Settings.{Settings}
 use Rattle.mirror.specs.Plane.{Plane}
 use Rattle.segments.specs.declared.Transmission.{Transmission}

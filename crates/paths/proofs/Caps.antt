@@ -24,8 +24,8 @@ use Rattle.bands.specs.declared.Band8.{Band8}
 use Rattle.bands.specs.declared.DistanceModel.{DistanceModel}
 use Rattle.bands.specs.Band8.{splatOf, zerosOf, mulOf, scaleOf, sumOfSquaresOf}
 use Rattle.bands.specs.Distance.{gainOf}
-use Rattle.trace.specs.declared.Hit.{Hit}
-use Rattle.trace.specs.declared.Hit.the-variants.{Nothing, At}
+use Rattle.tree_trace.specs.declared.Hit.{Hit}
+use Rattle.tree_trace.specs.declared.Hit.the-variants.{Nothing, At}
 use Rattle.mirror.specs.Border.{smoothOf, weightOf, borderDistanceOf}
 use Rattle.mirror.specs.Plane.{Edge, Plane}
 use Rattle.mirror.specs.Mirror.{crossingOf}

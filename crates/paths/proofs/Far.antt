@@ -19,6 +19,7 @@ use lib.Ieee.Positive.{num, den, positive, den-pos, positive-of-value, value→c
 use Rattle.float.specs.Literals.{zero32, one32}
 use Rattle.float.specs.Compare.{maxOf, minOf, isFinite}
 use Rattle.float.proofs.Numbers.{by-order}
+use Rattle.float.proofs.Compare.{neg-neg}
 use Rattle.bands.specs.declared.DistanceModel.{DistanceModel}
 use Rattle.bands.specs.declared.DistanceCurve.{DistanceCurve}
 use Rattle.bands.specs.declared.DistanceCurve.the-variants.{Inverse, Linear}
@@ -256,14 +257,6 @@ round-neg a c =
     let k = size (n / c) - 24 in
     let u = c * 2 ^ k in
     units-neg (nearest (n / u) (compare (n % u * 2) u)) k
-
-neg-neg : (x : Float) → neg (neg x) ≡ x
-unfolding neg
-neg-neg nan = refl
-neg-neg (inf true) = refl
-neg-neg (inf false) = refl
-neg-neg (fin true m e) = refl
-neg-neg (fin false m e) = refl
 
 round-not : (s : Bool) (a c : ℕ) → round binary32 (not s) a c ≡ neg (round binary32 s a c)
 round-not false a c = round-neg a c

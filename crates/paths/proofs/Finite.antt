@@ -16,7 +16,7 @@ use Rattle.geometry.specs.declared.Triangle.{Triangle}
 use Rattle.bands.specs.declared.Band8.{Band8}
 use Rattle.bands.specs.Band8.{mulOf, sumOfSquaresOf}
 use Rattle.bands.specs.Distance.{gainOf}
-use Rattle.build.specs.Tree.{Tree}
+use Rattle.tree_build.specs.Tree.{Tree}
 use Rattle.scene.specs.declared.Settings.{Settings}
 use Rattle.scene.specs.Limits.{ratesOf, modelNumbersOf}
 use Rattle.mirror.specs.Plane.{Plane}

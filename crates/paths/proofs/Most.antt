@@ -15,6 +15,7 @@ use lib.Ieee.Exact.{HasValue, round-exact}
 use lib.Ieee.Order.{round-mono}
 use lib.Ieee.Nearest.{div-mono}
 use lib.Ieee.Positive.{num, den, den-pos, positive-of-value, value→cross, le→cross, through}
+use Rattle.laws.proofs.Numbers.{no-part}
 use Rattle.float.specs.Literals.{zero32, one32}
 use Rattle.float.specs.Compare.{clampOf, isFinite}
 use Rattle.float.specs.Sqrt.{isqrt, rootOf, sqrtOf}
@@ -65,10 +66,6 @@ le-most (fin false (suc m) e) y p q hp n v l =
 pub most-round : (a c p q : ℕ) → 0 < c → 0 < q → 0 < p → Exact p q → a * q ≤ p * c → Most p q (round binary32 false a c)
 most-round a c p q hc hq hp e h =
     le-most (round binary32 false a c) (round binary32 false p q) p q hp (round-false binary32 a c) e (round-mono binary32 a c p q hc hq h)
-
-no-part : (x c : ℕ) → 0 < c → x * c ≡ 0 → x ≡ 0
-no-part zero c h e = refl
-no-part (suc x) c h e = let p : 0 < suc x * c = mul-pos (zero-lt-suc x) h in absurd (let no : ⊥ = omega arith in no)
 
 zero-most : (x : Float) (s : Bool) (c p q : ℕ) → 0 < c → HasValue x s 0 c → Most p q x
 zero-most nan s c p q hc v = tt

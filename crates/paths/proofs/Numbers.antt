@@ -18,7 +18,7 @@ use Rattle.vector.specs.Vector.{vec, dot3Of, sub3Of, length3Of, distance3Of, ti
 use Rattle.geometry.specs.declared.Triangle.{Triangle}
 use Rattle.bands.specs.declared.Band8.{Band8}
 use Rattle.bands.specs.Band8.{mulOf, sumOfSquaresOf}
-use Rattle.build.specs.Tree.{Tree}
+use Rattle.tree_build.specs.Tree.{Tree}
 use Rattle.scene.specs.declared.Settings.{Settings}
 use Rattle.scene.specs.Limits.{leastTemperature, mostTemperature, leastRate, mostRate, mostDistance, betweenOf, aboveZeroOf, ratesOf}
 use Rattle.scene.specs.Speed.{speedOf}
@@ -192,7 +192,7 @@ product-fits a b =
       h7 = mul-fits binary32 (a .b7) (b .b7);
     }
 
-energy-fits : (g : Band8) → T (fits binary32 (sumOfSquaresOf g))
+pub energy-fits : (g : Band8) → T (fits binary32 (sumOfSquaresOf g))
 unfolding sumOfSquaresOf
 energy-fits g = add-fits binary32 _ _
 

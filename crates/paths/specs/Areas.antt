@@ -3,7 +3,7 @@ use Prim.Native.Nat.{ℕ}
 use lib.Ieee.{Float}
 use mathlib.Core.List.{List}
 use Rattle.geometry.specs.declared.Triangle.{Triangle}
-use Rattle.build.specs.Tree.{Tree}
+use Rattle.tree_build.specs.Tree.{Tree}
 use Rattle.vector.specs.declared.Vec3.{Vec3}
 use Rattle.segments.specs.declared.Transmission.{Transmission}
 use Rattle.segments.specs.Materials.{transmissionOf}
@@ -16,7 +16,7 @@ abbrev pub softIn : ℕ → Float → (ℕ → Triangle) → Tree → List Float
 softIn limit radius tri t materials = segmentSoftTransmissionOf (traceIn tri t) (transmissionOf materials) limit radius
 
 -- a tree of `nodes-count` nodes with its materials, columns of n triples, and `count` planes
-pub record Lent (padded : List Float) (nodes perm : List ℕ) (rows : List Float) (handles : List ℕ) (nodes-count : ℕ) (materials columns : List Float) (n : ℕ) (floats : List Float) (words members : List ℕ) (edges : List Float) (count : ℕ) : Type 0 where
+pub record SceneLent (padded : List Float) (nodes perm : List ℕ) (rows : List Float) (handles : List ℕ) (nodes-count : ℕ) (materials columns : List Float) (n : ℕ) (floats : List Float) (words members : List ℕ) (edges : List Float) (count : ℕ) : Type 0 where
   pub traceable : Traceable padded nodes perm rows handles nodes-count materials
   pub planes : PlanesLent columns n floats words members edges count
 

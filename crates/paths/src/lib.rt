@@ -10,7 +10,7 @@ ghost use mathlib.Core.Path.{_≡_};
 ghost use Prim.Native.Nat.{ℕ, _+_, _*_, _^_, _<_, _≤_};
 ghost use lib.ListN.{length, getD, take};
 ghost use Rattle.geometry.specs.declared.Triangle.{Triangle};
-ghost use Rattle.build.specs.Tree.{Tree};
+ghost use Rattle.tree_build.specs.Tree.{Tree};
 ghost use Rattle.scene.specs.Limits.{mostCrossings};
 ghost use Rattle.mirror.specs.Plane.{noPoint};
 ghost use Rattle.mirror.specs.Rows.{planesIn};
@@ -21,7 +21,7 @@ ghost use Rattle.bounces.specs.Areas.{maxOrder, madeFate, trailOf, Going};
 ghost use Rattle.paths.specs.Visibility.{startOf, goOf, wayOf};
 ghost use Rattle.paths.specs.Gains.{usableOf, reflectedOf, gainsOf, rejectedOf, candidateOf, arrivedOf};
 ghost use Rattle.paths.specs.Path.{verdict, bouncedOf, pathOf};
-ghost use Rattle.paths.specs.Areas.{softIn, Lent, ReadAs};
+ghost use Rattle.paths.specs.Areas.{softIn, SceneLent, ReadAs};
 
 const LEAST_ENERGY: f32 = 1e-14;
 
@@ -191,16 +191,6 @@ fn usable(total: f32, far: f32) -> bool
     false
 }
 
-// The handle of triangle i.
-fn handle_at(handles: &[u32], i: usize) -> u32
-    ensures { λ r. ⌜ r ≡ getD (now (handles .entry)) i 0 ⌝ }
-{
-    if i < handles.len() {
-        return handles[i];
-    }
-    0
-}
-
 // The product of what the triangles reflect.
 fn reflected(handles: &[u32], materials: &[f32], tris: [usize; 8], order: usize) -> Band8
     requires { ⌜ (order ≤ maxOrder) × (length tris ≡ maxOrder) ⌝ }
@@ -214,7 +204,7 @@ fn reflected(handles: &[u32], materials: &[f32], tris: [usize; 8], order: usize)
         let i = tris[k];
         product = bands::mul(
             product,
-            segments::reflection_of(materials, handle_at(handles, i)),
+            segments::reflection_of(materials, tree_trace::handle_at(handles, i)),
         );
     }
     product
@@ -372,7 +362,7 @@ pub fn validate_image_path(
     source: Vec3,
     listener: Vec3,
 ) -> Verdict
-    requires { ⌜ Lent (now padded) (now nodes) (now «leaf_order») (now leaves) (now handles) «nodes_count» (now materials) (now triangles) n (now «plane_floats»)
+    requires { ⌜ SceneLent (now padded) (now nodes) (now «leaf_order») (now leaves) (now handles) «nodes_count» (now materials) (now triangles) n (now «plane_floats»)
         (now «plane_words») (now «plane_triangles») (now «plane_edges») count ⌝ }
     requires { ⌜ (0 < order) × (order ≤ maxOrder) × (length seq ≡ maxOrder) × (s .«crossing_limit» ≤ mostCrossings) ⌝ }
     requires { ⌜ ((j : ℕ) → j < order → getD seq j 0 < count) ⌝ }

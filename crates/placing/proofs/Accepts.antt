@@ -15,20 +15,20 @@ use Rattle.scene.specs.Refusals.{refusal1, refusal2, refusal3, refusal4, refusa
 use Rattle.scene.specs.Limits.{mostTriples}
 use Rattle.scene.proofs.Answers.{NoneOfFive, AcceptedScene, accepted-scene}
 use Rattle.placing.specs.Corners.{refusal6, corners, triangles, placings}
-use Rattle.placing.specs.Passing.{Fits, Passed}
+use Rattle.placing.specs.Passing.{Fits, PassedOver}
 use Rattle.placing.specs.declared.Placed.{Placed}
 use Rattle.placing.specs.declared.Placed.the-variants.{Far, Kept}
 use Rattle.placing.specs.declared.Loaded.{Loaded}
 use Rattle.placing.specs.declared.Loaded.the-variants.{Triangles}
 use Rattle.placing.specs.declared.Loaded.the-variants as said
-use Rattle.placing.specs.Loading.{firstRefusal, answerOf, Loading}
+use Rattle.placing.specs.Loading.{firstRefusal, loadedOf, Loading}
 
 -- one of five refuses: the sixth is not asked
 pub record Stopped (k first : ℕ) (s : Scene) : Type 0 where
   pub same : first ≡ k
   pub some : eqb k 0 ≡ false
   pub early : eqb k 6 ≡ false
-  pub said : said.Refused k ≡ answerOf k s
+  pub said : said.Refused k ≡ loadedOf k s
 
 stopped :
     (sc : Scene) (b1 b2 b3 b4 b5 b6 : Bool) (t k : ℕ) →
@@ -116,7 +116,7 @@ module _ (st : Settings) (c : ℕ) (s : Scene) (lens : List ℕ) (columns : List
         reads = λ z. absurd (eqb-false k 0 (o .some) (sym (o .same) ∙ z));
       }
 
-  module _ (n : ℕ) (none : NoneOfFive st c s lens n) (r : Placed) (columns′ : List Float) (handles′ : List ℕ) (passed : Passed (corners s) n columns handles r columns′ handles′) where
+  module _ (n : ℕ) (none : NoneOfFive st c s lens n) (r : Placed) (columns′ : List Float) (handles′ : List ℕ) (passed : PassedOver (corners s) n columns handles r columns′ handles′) where
     pub load-far :
         (p : ℕ) → r ≡ Far p → Loading (firstRefusal st c s lens) s columns handles (said.Refused 6) columns′ handles′
     load-far p e =
@@ -151,7 +151,7 @@ pub record Counted (k a b t : ℕ) (s : Scene) : Type 0 where
   pub placed : b ≡ placings s
   pub whole : t ≡ triplesIn s
 
-pub counted : (k a b t : ℕ) (s : Scene) → Triangles a b t ≡ answerOf k s → Counted k a b t s
+pub counted : (k a b t : ℕ) (s : Scene) → Triangles a b t ≡ loadedOf k s → Counted k a b t s
 counted zero a b t s e = record { none = refl; kept = cc; placed = cc; whole = cc }
 counted (suc k) a b t s e = let o : _≡_ {A = ℕ} 0 1 = cc in absurd (omega arith)
 

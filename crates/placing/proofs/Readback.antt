@@ -16,7 +16,7 @@ use Rattle.columns.proofs.Readback.{triangle-same, edges-same, dots-same, trian
 use Rattle.placing.specs.declared.State.{State}
 use Rattle.placing.specs.Corners.{Corners, farIn, anyFar, trianglesOf, upToFar}
 use Rattle.placing.specs.declared.Placed.the-variants.{Far, Kept}
-use Rattle.placing.specs.Passing.{World, world, state, stepOf, run, putAll, putHandles, Reads, Passed}
+use Rattle.placing.specs.Passing.{World, world, state, stepOf, run, putAll, putHandles, Reads, PassedOver}
 use Rattle.placing.proofs.Passes.{run-far}
 
 -- ---- reading
@@ -177,7 +177,7 @@ module _
         st .far ≡ true →
         length columns₁ ≡ length columns →
         length handles₁ ≡ length handles →
-        columns₂ ≡ replicate (length columns₁) zero32 → handles₂ ≡ replicate (length handles₁) 0 → Passed qs n columns handles (Far (st .placings)) columns₂ handles₂
+        columns₂ ≡ replicate (length columns₁) zero32 → handles₂ ≡ replicate (length handles₁) 0 → PassedOver qs n columns handles (Far (st .placings)) columns₂ handles₂
     passed-far columns₂ handles₂ far wide long cleared blank =
         let yes : anyFar qs ≡ true = sym (ended .far) ∙ far in
         let placings : st .placings ≡ 3 * upToFar qs = omega (arith, ended .placed) in
@@ -193,7 +193,7 @@ module _
     -- none was met
     pub passed-kept :
         st .far ≡ false →
-        columnCount * n ≤ length columns → n ≤ length handles → st .kept ≤ n → Passed qs n columns handles (Kept (st .kept) (st .placings)) columns₁ handles₁
+        columnCount * n ≤ length columns → n ≤ length handles → st .kept ≤ n → PassedOver qs n columns handles (Kept (st .kept) (st .placings)) columns₁ handles₁
     passed-kept near wide long some =
         let no : anyFar qs ≡ false = sym (ended .far) ∙ near in
         let count : st .kept ≡ length (trianglesOf qs) = omega (arith, ended .count no) in

@@ -7,7 +7,8 @@ use mathlib.Core.Bool.{Bool, true, false, cond, not, _&&_, _||_}
 use mathlib.Core.List.{List, [], _∷_, _++_, map}
 use native.Mathlib.Omega.{arith}
 use lib.Ieee.{Float}
-use lib.ListN.{length, getD, replicate, length-replicate}
+use lib.ListN.{length, getD, replicate}
+use Rattle.laws.proofs.Lists.{zero-of}
 use Rattle.float.specs.Literals.{zero32}
 use Rattle.geometry.specs.declared.Triangle.{Triangle}
 use Rattle.geometry.specs.Triangle.{isDegenerateOf, triangleOf}
@@ -16,8 +17,8 @@ use Rattle.scene.specs.Scene.{Scene, Mesh, meshesOf}
 use Rattle.scene.specs.declared.Settings.{Settings}
 use Rattle.scene.specs.Refusals.{refusal1, refusal2, refusal3, refusal4, refusal5, first, firstOfFive, triplesIn}
 use Rattle.placing.specs.Corners.{Triple, triples, Corners, farIn, cornersIn, cornersOf, cornersAll, corners, anyFar, trianglesOf, triangles, upToFar, placings, refusal6, inRange}
-use Rattle.placing.specs.Passing.{putAll, putHandles, placedOf, Passed}
-use Rattle.placing.specs.Loading.{firstRefusal, answerOf, left, Loading}
+use Rattle.placing.specs.Passing.{putAll, putHandles, placedOf, PassedOver}
+use Rattle.placing.specs.Loading.{firstRefusal, loadedOf, left, Loading}
 use Rattle.placing.specs.declared.Placed.{Placed}
 use Rattle.placing.specs.declared.Placed.the-variants.{Far, Kept}
 use Rattle.placing.specs.declared.Loaded.{Loaded}
@@ -105,12 +106,6 @@ refusal-is : (b : Bool) (p k : ℕ) → refusalOf (cond b (Far p) (Kept k p)) �
 refusal-is true p k = refl
 refusal-is false p k = refl
 
--- zeros as long as another list are zeros as long as themselves
-zeros-own : {A : Type 0} (z : A) (n : ℕ) (l : List A) → l ≡ replicate n z → l ≡ replicate (length l) z
-zeros-own z n l e =
-    let same : length l ≡ n = ap length e ∙ length-replicate n z in
-    e ∙ ap (λ (k : ℕ). replicate k z) (sym same)
-
 placed-is : (b : Bool) (p k : ℕ) → placingsOf (cond b (Far p) (Kept k p)) ≡ p
 placed-is true p k = refl
 placed-is false p k = refl
@@ -145,12 +140,12 @@ module _ (ms : List Mesh) (n : ℕ) (columns : List Float) (handles : List ℕ) 
       }
 
   pub two-passes :
-      (columns₀ : List Float) (handles₀ : List ℕ) (r : Placed) → Passed (cornersAll ms) n columns₀ handles₀ r columns handles → AsTwoPasses (meshTriples ms) n r columns handles
+      (columns₀ : List Float) (handles₀ : List ℕ) (r : Placed) → PassedOver (cornersAll ms) n columns₀ handles₀ r columns handles → AsTwoPasses (meshTriples ms) n r columns handles
   two-passes columns₀ handles₀ r passed =
       as-two r (passed .answer)
       (λ h. (
-        zeros-own zero32 (length columns₀) columns (passed .filled ∙ ap (λ (b : Bool). cond b (replicate (length columns₀) zero32) (putAll columns₀ n 0 (trianglesOf (cornersAll ms)))) h),
-        zeros-own 0 (length handles₀) handles (passed .named ∙ ap (λ (b : Bool). cond b (replicate (length handles₀) 0) (putHandles handles₀ 0 (trianglesOf (cornersAll ms)))) h),
+        zero-of zero32 (length columns₀) columns (passed .filled ∙ ap (λ (b : Bool). cond b (replicate (length columns₀) zero32) (putAll columns₀ n 0 (trianglesOf (cornersAll ms)))) h),
+        zero-of 0 (length handles₀) handles (passed .named ∙ ap (λ (b : Bool). cond b (replicate (length handles₀) 0) (putHandles handles₀ 0 (trianglesOf (cornersAll ms)))) h),
       ))
       (λ h i d k. passed .reads h i d k .triangle)
 
@@ -165,7 +160,7 @@ sixth false false false true b5 b6 e = absurd (let n : ⊥ = omega arith in n)
 sixth false false false false true b6 e = absurd (let n : ⊥ = omega arith in n)
 sixth false false false false false b6 e = refl
 
-loaded-is : (b : Bool) (s : Scene) (n p k : ℕ) → n ≡ length (triangles s) → p ≡ placings s → k ≡ cond b 6 0 → answerOf k s ≡ loadedBy (triplesIn s) (cond b (Far p) (Kept n p))
+loaded-is : (b : Bool) (s : Scene) (n p k : ℕ) → n ≡ length (triangles s) → p ≡ placings s → k ≡ cond b 6 0 → loadedOf k s ≡ loadedBy (triplesIn s) (cond b (Far p) (Kept n p))
 loaded-is true s n p k e f g = rw (g)
 loaded-is false s n p k e f g = rw (g, e, f)
 
@@ -183,8 +178,8 @@ module _ (st : Settings) (c : ℕ) (s : Scene) (lens : List ℕ) where
         passes =
             as-two (meshesOf s) (triplesIn s) columns handles (placedOf (corners s)) refl
             (λ h. (
-              zeros-own zero32 (length columns₀) columns (loading .filled ∙ ap (λ (j : ℕ). left j zero32 columns₀ (putAll columns₀ (triplesIn s) 0 (triangles s))) (k ∙ ap (λ (x : Bool). cond x 6 0) h)),
-              zeros-own 0 (length handles₀) handles (loading .named ∙ ap (λ (j : ℕ). left j 0 handles₀ (putHandles handles₀ 0 (triangles s))) (k ∙ ap (λ (x : Bool). cond x 6 0) h)),
+              zero-of zero32 (length columns₀) columns (loading .filled ∙ ap (λ (j : ℕ). left j zero32 columns₀ (putAll columns₀ (triplesIn s) 0 (triangles s))) (k ∙ ap (λ (x : Bool). cond x 6 0) h)),
+              zero-of 0 (length handles₀) handles (loading .named ∙ ap (λ (j : ℕ). left j 0 handles₀ (putHandles handles₀ 0 (triangles s))) (k ∙ ap (λ (x : Bool). cond x 6 0) h)),
             ))
             (λ h i d b. loading .reads (k ∙ ap (λ (x : Bool). cond x 6 0) h) i d b .triangle);
       }

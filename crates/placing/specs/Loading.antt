@@ -21,9 +21,9 @@ unfoldable pub firstRefusal : Settings → ℕ → Scene → List ℕ → ℕ
 firstRefusal st c s lens = first 1 (refusal1 st c ∷ refusal2 s ∷ refusal3 s ∷ refusal4 s ∷ refusal5 s c lens ∷ refusal6 s ∷ [])
 
 -- the answer: the refusal, or how many triangles, placings and whole triples there are
-abbrev pub answerOf : ℕ → Scene → Loaded
-answerOf zero s = Triangles (length (triangles s)) (placings s) (triplesIn s)
-answerOf (suc k) s = Refused (suc k)
+abbrev pub loadedOf : ℕ → Scene → Loaded
+loadedOf zero s = Triangles (length (triangles s)) (placings s) (triplesIn s)
+loadedOf (suc k) s = Refused (suc k)
 
 -- an area afterwards: as found after the refusals 1 to 5, zero after 6, filled where there is none
 abbrev pub left : {A : Type 0} → ℕ → A → List A → List A → List A
@@ -31,7 +31,7 @@ left k z found filled = cond (eqb k 0) filled (cond (eqb k 6) (replicate (length
 
 -- for k the first refusal: the answer, the areas, and what is read from them
 pub record Loading (k : ℕ) (s : Scene) (columns : List Float) (handles : List ℕ) (r : Loaded) (columns′ : List Float) (handles′ : List ℕ) : Type 0 where
-  pub answer : r ≡ answerOf k s
+  pub answer : r ≡ loadedOf k s
   pub filled : columns′ ≡ left k zero32 columns (putAll columns (triplesIn s) 0 (triangles s))
   pub named : handles′ ≡ left k 0 handles (putHandles handles 0 (triangles s))
   pub reads : k ≡ 0 → (i : ℕ) (d : Triangle) → i < length (triangles s) → Reads columns′ handles′ (triplesIn s) i (getD (triangles s) i d)

@@ -90,7 +90,7 @@ pub record Reads (columns : List Float) (handles : List ℕ) (n i : ℕ) (t : Tr
   pub dots : dotsAtOf columns n i ≡ dotsOf (edgesOf (t .a) (t .b) (t .c))
 
 -- For the corners qs of a scene: the answer, and the areas, which are zero after refusal 6, and otherwise hold the triangles by columns, the rest as found.
-pub record Passed (qs : List Corners) (n : ℕ) (columns : List Float) (handles : List ℕ) (r : Placed) (columns′ : List Float) (handles′ : List ℕ) : Type 0 where
+pub record PassedOver (qs : List Corners) (n : ℕ) (columns : List Float) (handles : List ℕ) (r : Placed) (columns′ : List Float) (handles′ : List ℕ) : Type 0 where
   pub answer : r ≡ placedOf qs
   pub filled : columns′ ≡ cond (anyFar qs) (replicate (length columns) zero32) (putAll columns n 0 (trianglesOf qs))
   pub named : handles′ ≡ cond (anyFar qs) (replicate (length handles) 0) (putHandles handles 0 (trianglesOf qs))

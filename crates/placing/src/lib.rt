@@ -13,7 +13,7 @@ ghost use Rattle.placing.specs.Corners.{farOf, farCorner, farCorners, co
 ghost use Rattle.columns.specs.Columns.{columnCount};
 ghost use Rattle.scene.specs.Limits.{mostTriples};
 ghost use Rattle.placing.specs.Loading.{firstRefusal, Loading};
-ghost use Rattle.placing.specs.Passing.{world, state, placing, stepOf, run, Room, Did, Fits, Passed};
+ghost use Rattle.placing.specs.Passing.{world, state, placing, stepOf, run, Room, Did, Fits, PassedOver};
 
 const FARTHEST: f32 = 10000.0;
 
@@ -288,7 +288,7 @@ pub fn triangles_from_scene(
     requires { ⌜ columnCount * n ≤ length (now triangles) ⌝ }
     requires { ⌜ n ≤ length (now handles) ⌝ }
     ensures { λ r.
-        ⌜ Passed (cornersAll (cut (headers (now (meshes .entry))) (now (transforms .entry)) (now (positions .entry)) (now (indices .entry)))) n
+        ⌜ PassedOver (cornersAll (cut (headers (now (meshes .entry))) (now (transforms .entry)) (now (positions .entry)) (now (indices .entry)))) n
         (now (triangles .entry)) (now (handles .entry)) r (now (triangles .exit)) (now (handles .exit)) ⌝ }
 {
     let st = place_all(

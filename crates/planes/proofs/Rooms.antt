@@ -5,8 +5,8 @@ use mathlib.Core.Path.{_≡_, sym, subst}
 use native.Mathlib.Omega.{arith}
 use lib.Ieee.{Float}
 use mathlib.Core.List.{List}
-use Rattle.patches.specs.Rows.{patchFloats}
-use Rattle.ranked.specs.Areas.{TrianglesLent}
+use Rattle.planes_patches.specs.Rows.{patchFloats}
+use Rattle.planes_ranked.specs.Areas.{TrianglesLent}
 use Rattle.planes.specs.Areas.{seats}
 use Rattle.mirror.specs.Rows.{planeFloats, planeWords}
 

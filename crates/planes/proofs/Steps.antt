@@ -7,10 +7,10 @@ use native.Mathlib.Omega.{arith}
 use lib.ListN.{length, getD}
 use lib.Ieee.{Float}
 use Rattle.vector.specs.declared.Vec3.{Vec3}
-use Rattle.faces.specs.Key.{Key}
-use Rattle.faces.specs.Numbers.{Numbered}
-use Rattle.links.specs.Links.{Numbers}
-use Rattle.groups.specs.Settings.{Settings}
+use Rattle.planes_faces.specs.Key.{Key}
+use Rattle.planes_faces.specs.Numbers.{Numbered}
+use Rattle.planes_links.specs.Links.{Numbers}
+use Rattle.planes_groups.specs.Settings.{Settings}
 
 -- settings of which only the merging counts
 abbrev pub mergeSettings : Bool → Float → Float → Settings

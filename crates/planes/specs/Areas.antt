@@ -3,7 +3,7 @@ use Prim.Native.Nat.{ℕ, _*_, _≤_, _<_}
 use mathlib.Core.List.{List}
 use lib.Ieee.{Float}
 use lib.ListN.{length}
-use Rattle.patches.specs.Rows.{patchFloats}
+use Rattle.planes_patches.specs.Rows.{patchFloats}
 use Rattle.mirror.specs.Rows.{planeFloats, planeWords, edgeFloats}
 
 -- steps 1 to 3. The grid's cells stand in `keys`, the largest triangles in `next` and the flags in `first`.

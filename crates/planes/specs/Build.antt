@@ -3,16 +3,16 @@ use mathlib.Core.Bool.{Bool}
 use mathlib.Core.List.{List, map}
 use Rattle.vector.specs.declared.Ray.{Ray}
 use Rattle.geometry.specs.declared.Triangle.{Triangle}
-use Rattle.patches.specs.Patch.{Patch}
+use Rattle.planes_patches.specs.Patch.{Patch}
 use Rattle.scene.specs.declared.Settings as scene
-use Rattle.groups.specs.Settings.{Settings}
+use Rattle.planes_groups.specs.Settings.{Settings}
 use Rattle.mirror.specs.Plane.{Plane}
-use Rattle.patches.specs.Patches.{patchesOf}
-use Rattle.buried.specs.Buried.{openOf}
-use Rattle.groups.specs.Groups.{groupsOf}
-use Rattle.fit.specs.Fit.{planeOf}
-use Rattle.importance.specs.Importance.{rankedOf}
-use Rattle.borders.specs.Border.{borderedOf}
+use Rattle.planes_patches.specs.Patches.{patchesOf}
+use Rattle.planes_buried.specs.Buried.{openOf}
+use Rattle.planes_groups.specs.Groups.{groupsOf}
+use Rattle.planes_fit.specs.Fit.{planeOf}
+use Rattle.planes_importance.specs.Importance.{rankedOf}
+use Rattle.planes_borders.specs.Border.{borderedOf}
 
 -- what the query's settings say of planes
 abbrev pub planeSettings : scene.Settings → Settings

@@ -1,6 +1,6 @@
-// The mirror planes of a scene, `build_planes`: `planesOf` of specs/Build.antt. Each step has a crate of its own: `faces`, `patches`, `buried`,
-// `links` and `groups`, `fit`, and `ranked` over `importance` and `borders`; here they are called in turn, and an area that a step has done with serves a
-// later one (specs/Areas.antt).
+// The mirror planes of a scene, `build_planes`: `planesOf` of specs/Build.antt. Each step has a crate of its own, so that each is checked alone:
+// `planes_faces`, `planes_patches`, `planes_buried`, `planes_links` and `planes_groups`, `planes_fit`, and `planes_ranked` over `planes_importance` and
+// `planes_borders`. Here they are called in turn, and an area that a step has done with serves a later one (specs/Areas.antt).
 use scene::Settings;
 ghost use mathlib.Core.Path.{_≡_};
 ghost use Prim.Native.Nat.{ℕ, _*_, _/_, _<_, _≤_};
@@ -8,17 +8,17 @@ ghost use lib.ListN.{length};
 ghost use mathlib.Core.List.{[]};
 ghost use Rattle.order.specs.Open.{Open};
 ghost use Rattle.geometry.specs.declared.Triangle.{Triangle};
-ghost use Rattle.build.specs.Tree.{Tree};
-ghost use Rattle.trace.specs.Trace.{Held};
-ghost use Rattle.faces.specs.Key.{vertexKey};
-ghost use Rattle.faces.specs.Numbers as faces;
-ghost use Rattle.patches.specs.Triangles.{trianglesIn};
-ghost use Rattle.patches.specs.Grid.{bucketCount};
-ghost use Rattle.patches.specs.Rows.{patchFloats, patchesIn, Numbered};
-ghost use Rattle.buried.specs.Probe.{probeOf, Traced};
-ghost use Rattle.groups.specs.Settings as groups;
+ghost use Rattle.tree_build.specs.Tree.{Tree};
+ghost use Rattle.tree_trace.specs.Trace.{Held};
+ghost use Rattle.planes_faces.specs.Key.{vertexKey};
+ghost use Rattle.planes_faces.specs.Numbers as faces;
+ghost use Rattle.planes_patches.specs.Triangles.{trianglesIn};
+ghost use Rattle.planes_patches.specs.Grid.{bucketCount};
+ghost use Rattle.planes_patches.specs.Rows.{patchFloats, patchesIn, Numbered};
+ghost use Rattle.planes_buried.specs.Probe.{probeOf, TreeHeld};
+ghost use Rattle.planes_groups.specs.Settings as groups;
 ghost use Rattle.planes.specs.Build.{planeSettings, openPatchesOf, groupPlanesOf, planesOf};
-ghost use Rattle.ranked.specs.Areas.{TrianglesLent, GroupPlanes};
+ghost use Rattle.planes_ranked.specs.Areas.{TrianglesLent, GroupPlanes};
 ghost use Rattle.planes.specs.Areas.{OpenRoom, GroupRoom, PlanesRoom, seats};
 ghost use Rattle.mirror.specs.Rows.{planesIn, PlanesHeld};
 
@@ -62,14 +62,14 @@ fn open_patches(
     requires { ⌜ 0 < count ⌝ }
     ensures { λ r.
         ⌜ ((s : groups.Settings) (tri : ℕ → Triangle) (k : Tree) → s .buried ≡ reach →
-        Traced tri k (now (padded .entry)) (now (nodes .entry)) (now («leaf_order» .entry)) (now (leaves .entry)) (now (handles .entry)) →
+        TreeHeld tri k (now (padded .entry)) (now (nodes .entry)) (now («leaf_order» .entry)) (now (leaves .entry)) (now (handles .entry)) →
         patchesIn (now («plane_floats» .exit)) (now (of .exit)) m r ≡
         openPatchesOf s (probeOf tri k) (trianglesIn (now (triangles .entry)) (now (handles .entry)) n m)) ⌝ }
     ensures { λ r. ⌜ (r ≤ m) × Numbered (now (of .exit)) m r ⌝ }
     ensures { λ _. ⌜ faces.Numbered vertexKey (now (triangles .entry)) n n (now (numbers .exit)) ⌝ }
 {
     let mut heads = fresh_heads();
-    faces::duplicates(
+    planes_faces::duplicates(
         triangles,
         n,
         &mut keys[..3 * n],
@@ -80,7 +80,7 @@ fn open_patches(
         numbers,
         first,
     );
-    let np = patches::coplanar_patches(
+    let np = planes_patches::coplanar_patches(
         triangles,
         handles,
         n,
@@ -92,7 +92,7 @@ fn open_patches(
         plane_floats,
         of,
     );
-    buried::open_patches(
+    planes_buried::open_patches(
         triangles,
         handles,
         n,
@@ -149,7 +149,7 @@ fn group_planes(
         groupPlanesOf s (trianglesIn (now (triangles .entry)) (now (handles .entry)) n m) (patchesIn (now («plane_floats» .entry)) (now (of .entry)) m np)) ⌝ }
     ensures { λ r. ⌜ GroupPlanes m r (now (floats .exit)) (now (adjacency .exit)) (now («plane_triangles» .exit)) (now (first .exit)) ⌝ }
 {
-    let ng = groups::merge_patches(
+    let ng = planes_groups::merge_patches(
         triangles,
         handles,
         n,
@@ -174,7 +174,7 @@ fn group_planes(
         queue,
         offsets,
     );
-    fit::group_planes(
+    planes_fit::group_planes(
         triangles,
         handles,
         n,
@@ -242,7 +242,7 @@ pub fn build_planes(
         (now «plane_triangles») (now «plane_words») (now «plane_floats») (now floats) (now «plane_edges») ⌝ }
     ensures { λ r.
         ⌜ ((tri : ℕ → Triangle) (k : Tree) →
-        Traced tri k (now (padded .entry)) (now (nodes .entry)) (now («leaf_order» .entry)) (now (leaves .entry)) (now (handles .entry)) →
+        TreeHeld tri k (now (padded .entry)) (now (nodes .entry)) (now («leaf_order» .entry)) (now (leaves .entry)) (now (handles .entry)) →
         planesIn (now («plane_floats» .exit)) (now («plane_words» .exit)) (now («plane_triangles» .exit)) (now («plane_edges» .exit)) r ≡
         planesOf (planeSettings settings) (probeOf tri k) (trianglesIn (now (triangles .entry)) (now (handles .entry)) n m)) ⌝ }
     ensures { λ r.
@@ -305,7 +305,7 @@ pub fn build_planes(
         offsets,
         floats,
     );
-    ranked::ranked_planes(
+    planes_ranked::ranked_planes(
         triangles,
         handles,
         n,

@@ -12,16 +12,16 @@ use lib.Ieee.{Float}
 use Rattle.float.specs.Literals.{zero32, one32}
 use Rattle.vector.specs.declared.Vec3.{Vec3}
 use Rattle.geometry.specs.declared.Triangle.{Triangle}
-use Rattle.build.specs.Tree.{Tree}
+use Rattle.tree_build.specs.Tree.{Tree}
 use Rattle.mirror.specs.Plane.{Plane}
-use Rattle.patches.specs.Triangles.{triangleAt}
+use Rattle.planes_patches.specs.Triangles.{triangleAt}
 use Rattle.scene.specs.declared.Settings.{Settings}
 use Rattle.scene.specs.Limits.{mostCandidates, leastCrossings, mostCrossings, betweenOf, countsOf, ratesOf, mergesOf, modelNumbersOf, probeSettingsOf, lowAirOf, highAirOf, laterSettingsOf, settingsOf}
 use Rattle.scene.specs.Scene.{Scene}
 use Rattle.scene.specs.Refusals.{refusal1, refusal2, refusal3, refusal4, refusal5, first}
 use Rattle.scene.specs.Speed.{speedOf}
 use Rattle.placing.specs.Corners.{triangles, placings, refusal6}
-use Rattle.placing.specs.Loading.{firstRefusal, answerOf, left, Loading}
+use Rattle.placing.specs.Loading.{firstRefusal, loadedOf, left, Loading}
 use Rattle.placing.specs.declared.Loaded.{Loaded}
 use Rattle.placing.specs.declared.Loaded.the-variants.{Triangles}
 use Rattle.bounces.specs.Areas.{maxOrder}
@@ -32,7 +32,7 @@ use Rattle.paths.specs.Path.{pathOf}
 use Rattle.paths.specs.declared.Fate.{Fate}
 use Rattle.paths.specs.declared.Fate.the-variants.{TooFar, NotCrossed, OffSurface, TooLong, Faded, Blocked, Faint, Passed}
 use Rattle.paths.proofs.Bound.{path-rays}
-use Rattle.claim.specs.Answer.{Outcome, raysOf, raysFor, found, Answer, answerOf as answerIs}
+use Rattle.claim.specs.Answer.{Outcome, raysOf, raysFor, found, Answer, answerOf}
 use Rattle.claim.specs.Complete.{Complete}
 use Rattle.claim.specs.Query.{Query, refused, given, queryOf}
 use Rattle.claim.proofs.Searching.{query-complete}
@@ -51,11 +51,11 @@ use Rattle.query.specs.Trace.{silentOf, usedOrder, orderOf, limitOf, que
 
 -- ---- what loading answers
 
-refusal-of : (k : ℕ) (s : Scene) → frontOf (answerOf k s) .refusal ≡ k
+refusal-of : (k : ℕ) (s : Scene) → frontOf (loadedOf k s) .refusal ≡ k
 refusal-of zero s = refl
 refusal-of (suc k) s = refl
 
-pub front-refusal : (k : ℕ) (s : Scene) (l : Loaded) (f : Front) → l ≡ answerOf k s → f ≡ frontOf l → f .refusal ≡ k
+pub front-refusal : (k : ℕ) (s : Scene) (l : Loaded) (f : Front) → l ≡ loadedOf k s → f ≡ frontOf l → f .refusal ≡ k
 front-refusal k s l f e g = ap (λ (x : Front). x .refusal) (g ∙ ap frontOf e) ∙ refusal-of k s
 
 -- loaded: how many triangles
@@ -63,7 +63,7 @@ pub record Fronted (s : Scene) (l : Loaded) (f : Front) : Type 0 where
   pub kept : f .kept ≡ length (triangles s)
   pub loaded : l ≡ Triangles (f .kept) (placings s) (f .triples)
 
-pub fronted : (k : ℕ) (s : Scene) (l : Loaded) (f : Front) → l ≡ answerOf k s → f ≡ frontOf l → k ≡ 0 → Fronted s l f
+pub fronted : (k : ℕ) (s : Scene) (l : Loaded) (f : Front) → l ≡ loadedOf k s → f ≡ frontOf l → k ≡ 0 → Fronted s l f
 fronted zero s l f e g z =
     let h = g ∙ ap frontOf e in
     let many : f .kept ≡ length (triangles s) = ap (λ (x : Front). x .kept) h in
@@ -72,7 +72,7 @@ fronted zero s l f e g z =
 fronted (suc k) s l f e g z = absurd (omega arith)
 
 -- with a refusal there are none
-pub none-kept : (k : ℕ) (s : Scene) (l : Loaded) (f : Front) → l ≡ answerOf k s → f ≡ frontOf l → (f .refusal ≡ 0 → ⊥) → f .kept ≡ 0
+pub none-kept : (k : ℕ) (s : Scene) (l : Loaded) (f : Front) → l ≡ loadedOf k s → f ≡ frontOf l → (f .refusal ≡ 0 → ⊥) → f .kept ≡ 0
 none-kept zero s l f e g some = absurd (some (front-refusal 0 s l f e g))
 none-kept (suc k) s l f e g some = ap (λ (x : Front). x .kept) (g ∙ ap frontOf e)
 
@@ -232,10 +232,10 @@ unfolding queryOf
 given-rays on order speed rate limit room path a e = go (ltb room (length (found path 1 (visited on order)))) e
   where
     go :
-        (b : Bool) → elim b as (λ _. Query) [ true ↦ refused 7 | false ↦ given (answerIs on order speed rate limit path) ] ≡ given a →
+        (b : Bool) → elim b as (λ _. Query) [ true ↦ refused 7 | false ↦ given (answerOf on order speed rate limit path) ] ≡ given a →
         a .rays ≡ raysFor path (visited on order)
     go true e = absurd (let z : _≡_ {A = ℕ} 0 1 = cc in omega arith)
-    go false e = let z : answerIs on order speed rate limit path ≡ a = cc in sym (ap (λ (x : Answer). x .rays) z)
+    go false e = let z : answerOf on order speed rate limit path ≡ a = cc in sym (ap (λ (x : Answer). x .rays) z)
 
 -- a call that answers as the definition and leaves the areas as it says is as it promises
 pub traced :

@@ -17,9 +17,9 @@ use Rattle.float.proofs.Numbers.{by-order}
 use Rattle.vector.specs.declared.Vec3.{Vec3}
 use Rattle.vector.specs.Vector.{distance3Of}
 use Rattle.geometry.specs.declared.Triangle.{Triangle}
-use Rattle.build.specs.Tree.{Tree}
+use Rattle.tree_build.specs.Tree.{Tree}
 use Rattle.mirror.specs.Plane.{Plane}
-use Rattle.patches.specs.Triangles.{triangleAt}
+use Rattle.planes_patches.specs.Triangles.{triangleAt}
 use Rattle.scene.specs.declared.Settings.{Settings}
 use Rattle.scene.specs.Scene.{Scene}
 use Rattle.scene.specs.Limits.{settingsOf, laterSettingsOf}

@@ -14,9 +14,58 @@ zero-still z l l′ e same = e ∙ ap (λ (k : ℕ). replicate k z) same
 
 -- records are equal where their fields are
 ap19 :
-    {triangles triangles′ : List Float} {handles handles′ : List ℕ} {tree tree′ : List Float} {nodes nodes′ : List ℕ} {leaf-order leaf-order′ : List ℕ} {keys keys′ : List ℕ} {low-keys low-keys′ : List ℕ} {words words′ : List ℕ} {scratch scratch′ : List ℕ} {index index′ : List ℕ} {numbers numbers′ : List ℕ} {adjacency adjacency′ : List ℕ} {queue queue′ : List ℕ} {offsets offsets′ : List ℕ} {floats floats′ : List Float} {plane-triangles plane-triangles′ : List ℕ} {plane-floats plane-floats′ : List Float} {plane-words plane-words′ : List ℕ} {plane-edges plane-edges′ : List Float} →
-    triangles′ ≡ triangles → handles′ ≡ handles → tree′ ≡ tree → nodes′ ≡ nodes → leaf-order′ ≡ leaf-order → keys′ ≡ keys → low-keys′ ≡ low-keys → words′ ≡ words → scratch′ ≡ scratch → index′ ≡ index → numbers′ ≡ numbers → adjacency′ ≡ adjacency → queue′ ≡ queue → offsets′ ≡ offsets → floats′ ≡ floats → plane-triangles′ ≡ plane-triangles → plane-floats′ ≡ plane-floats → plane-words′ ≡ plane-words → plane-edges′ ≡ plane-edges →
-    _≡_ {A = Work} (record { triangles = triangles′; handles = handles′; tree = tree′; nodes = nodes′; leaf-order = leaf-order′; keys = keys′; low-keys = low-keys′; words = words′; scratch = scratch′; index = index′; numbers = numbers′; adjacency = adjacency′; queue = queue′; offsets = offsets′; floats = floats′; plane-triangles = plane-triangles′; plane-floats = plane-floats′; plane-words = plane-words′; plane-edges = plane-edges′ }) (record { triangles = triangles; handles = handles; tree = tree; nodes = nodes; leaf-order = leaf-order; keys = keys; low-keys = low-keys; words = words; scratch = scratch; index = index; numbers = numbers; adjacency = adjacency; queue = queue; offsets = offsets; floats = floats; plane-triangles = plane-triangles; plane-floats = plane-floats; plane-words = plane-words; plane-edges = plane-edges })
+    {triangles triangles′ : List Float} {handles handles′ : List ℕ} {tree tree′ : List Float} {nodes nodes′ : List ℕ}
+    {leaf-order leaf-order′ : List ℕ} {keys keys′ : List ℕ} {low-keys low-keys′ : List ℕ} {words words′ : List ℕ}
+    {scratch scratch′ : List ℕ} {index index′ : List ℕ} {numbers numbers′ : List ℕ} {adjacency adjacency′ : List ℕ}
+    {queue queue′ : List ℕ} {offsets offsets′ : List ℕ} {floats floats′ : List Float} {plane-triangles plane-triangles′ : List ℕ}
+    {plane-floats plane-floats′ : List Float} {plane-words plane-words′ : List ℕ} {plane-edges plane-edges′ : List Float} →
+    triangles′ ≡ triangles → handles′ ≡ handles → tree′ ≡ tree → nodes′ ≡ nodes → leaf-order′ ≡ leaf-order →
+    keys′ ≡ keys → low-keys′ ≡ low-keys → words′ ≡ words → scratch′ ≡ scratch → index′ ≡ index →
+    numbers′ ≡ numbers → adjacency′ ≡ adjacency → queue′ ≡ queue → offsets′ ≡ offsets → floats′ ≡ floats →
+    plane-triangles′ ≡ plane-triangles → plane-floats′ ≡ plane-floats → plane-words′ ≡ plane-words → plane-edges′ ≡ plane-edges →
+    _≡_ {A = Work}
+    (record {
+      triangles = triangles′;
+      handles = handles′;
+      tree = tree′;
+      nodes = nodes′;
+      leaf-order = leaf-order′;
+      keys = keys′;
+      low-keys = low-keys′;
+      words = words′;
+      scratch = scratch′;
+      index = index′;
+      numbers = numbers′;
+      adjacency = adjacency′;
+      queue = queue′;
+      offsets = offsets′;
+      floats = floats′;
+      plane-triangles = plane-triangles′;
+      plane-floats = plane-floats′;
+      plane-words = plane-words′;
+      plane-edges = plane-edges′;
+    })
+    (record {
+      triangles = triangles;
+      handles = handles;
+      tree = tree;
+      nodes = nodes;
+      leaf-order = leaf-order;
+      keys = keys;
+      low-keys = low-keys;
+      words = words;
+      scratch = scratch;
+      index = index;
+      numbers = numbers;
+      adjacency = adjacency;
+      queue = queue;
+      offsets = offsets;
+      floats = floats;
+      plane-triangles = plane-triangles;
+      plane-floats = plane-floats;
+      plane-words = plane-words;
+      plane-edges = plane-edges;
+    })
 ap19 e0 e1 e2 e3 e4 e5 e6 e7 e8 e9 e10 e11 e12 e13 e14 e15 e16 e17 e18 = rw (e0, e1, e2, e3, e4, e5, e6, e7, e8, e9, e10, e11, e12, e13, e14, e15, e16, e17, e18)
 
 -- the lengths of all work areas are as they were

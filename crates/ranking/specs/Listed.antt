@@ -16,13 +16,13 @@ Once [] = Unit {0}
 Once (c ∷ cs) = ((d : Candidate) → Has d cs → c .number ≡ d .number → ⊥) × Once cs
 
 -- why c, one of the candidates cs, stands in the list `taps`: no better tap of the list duplicates it, and fewer than the limit are better
-pub record Stands (speed rate : Float) (limit : ℕ) (cs taps : List Candidate) (c : Candidate) : Type 0 where
+pub record StandsAmong (speed rate : Float) (limit : ℕ) (cs taps : List Candidate) (c : Candidate) : Type 0 where
   pub among : Has c cs
   pub fresh : (k : Candidate) → Has k taps → better k c ≡ true → duplicates speed rate k c ≡ false
   pub room : ahead better c taps < limit
 
 -- the list of the candidates cs: a candidate stands in it exactly for that reason, the better first, each once
 pub record Listed (speed rate : Float) (limit : ℕ) (cs taps : List Candidate) : Type 0 where
-  pub exactly : (c : Candidate) → Has c taps ↔ Stands speed rate limit cs taps c
+  pub exactly : (c : Candidate) → Has c taps ↔ StandsAmong speed rate limit cs taps c
   pub best-first : BestFirst better taps
   pub once : Once taps

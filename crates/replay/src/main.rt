@@ -6,7 +6,7 @@
 // and 12 floats; candidate room, rows of the material table, separated; source; listener; the answer: refusal, taps, images, rays, bytes), then
 // meshes, transforms, positions, indices and materials, then the packet, four bytes a word, the first the lowest. A line that is longer or
 // shorter than its lengths say, or longer than the areas here, differs.
-mod text;
+mod words;
 
 use answer::Answered;
 use libc::STDOUT_FILENO;
@@ -425,12 +425,12 @@ fn run_words(w: &[u32], f: &[f32], digits: usize) -> bool
 
 // A line: its name, and whether the answer to it is the recorded one.
 fn run_line(line: &[u8]) -> bool {
-    let end = text::name_end(line);
+    let end = words::name_end(line);
     io::write_all(STDOUT_FILENO, &line[..end]);
     let mut w = line_words();
     let mut f = line_floats();
-    let digits = text::hex_words(line, end, &mut w);
-    text::floats_of(&w, &mut f);
+    let digits = words::hex_words(line, end, &mut w);
+    words::floats_of(&w, &mut f);
     run_words(&w, &f, digits)
 }
 
@@ -459,7 +459,7 @@ fn print_total(cases: u64, differ: u64) {
 
 // Whether a line is a remark.
 fn remark(line: &[u8]) -> bool {
-    text::byte_at(line, 0) == b'#'
+    text::byte_at(line, 0, b'\n') == b'#'
 }
 
 // Every line of the text, and the counts.

@@ -1,4 +1,4 @@
--- The keys by which `groups` and `importance` sort have the Rust's order: larger floats first, and of equal ones the lower number.
+-- The keys by which `planes_groups` and `planes_importance` sort have the Rust's order: larger floats first, and of equal ones the lower number.
 --     descending-first     for floats of the format that are not NaN, and numbers below 2^32
 use Prim.Native.Nat.{ℕ, _+_, _-_, _*_, _≤_, _<_}
 use mathlib.Core.Path.{_≡_, refl, sym, ap, _∙_}
@@ -10,7 +10,7 @@ use borrow.Author.Tests.{ltb-true, ltb-false, lt-ltb, le-ltb}
 use Rattle.float.specs.Key.{floatKey}
 use Rattle.ranking.specs.Candidate.{decides}
 use Rattle.ranking.proofs.Keys.{lt-key, key-small}
-use Rattle.groups.specs.Groups.{rankOf, descendingKey}
+use Rattle.planes_groups.specs.Groups.{rankOf, descendingKey}
 use Rattle.rust_words.specs.Falling.{comesFirst}
 
 -- of two pairs of numbers, by whole numbers

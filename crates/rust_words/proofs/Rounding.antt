@@ -1,4 +1,4 @@
--- One rounding: what `faces` makes keys and cells of is `float`'s `roundOf`, held to the range of an `i32`; for corners that pass refusal 6 nothing is held back.
+-- One rounding: what `planes_faces` makes keys and cells of is `float`'s `roundOf`, held to the range of an `i32`; for corners that pass refusal 6 nothing is held back.
 --     whole-held      for every float
 --     vertex-step     for a coordinate up to 10,000 in size our step of a millimetre is the Rust's, counted from -2^31
 --     same-keys       two points within 10,000 have one key of ours exactly when they have one of the Rust's
@@ -18,8 +18,8 @@ use Rattle.bounds.specs.Bounds.{Within}
 use Rattle.bounds.proofs.Rounded.{round-within}
 use Rattle.vector.specs.declared.Vec3.{Vec3}
 use Rattle.float.specs.Round.{halfUp, inRange, end, roundOf}
-use Rattle.faces.specs.Whole.{wholeOf, placeOf}
-use Rattle.faces.specs.Key.{stepOf, keyBy, sameKey, vertexStepsPerMetre, vertexKey}
+use Rattle.planes_faces.specs.Whole.{wholeOf, placeOf}
+use Rattle.planes_faces.specs.Key.{stepOf, keyBy, sameKey, vertexStepsPerMetre, vertexKey}
 use Rattle.rust_words.specs.Keys.{heldTo32, rustStep, RustKey, rustKey, Near}
 
 above : (n : ℕ) → pos (min n 2147483647) ≡ heldTo32 (pos (min n 9223372036854775807))

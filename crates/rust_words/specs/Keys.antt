@@ -4,7 +4,7 @@ use lib.IntN.{ℤ, pos, negsuc}
 use lib.Ieee.{Float, binary32, mul}
 use Rattle.vector.specs.declared.Vec3.{Vec3}
 use Rattle.float.specs.Round.{roundOf}
-use Rattle.faces.specs.Key.{vertexStepsPerMetre}
+use Rattle.planes_faces.specs.Key.{vertexStepsPerMetre}
 use Rattle.bounds.specs.Bounds.{Within}
 
 -- an `i64` held to the range of an `i32`

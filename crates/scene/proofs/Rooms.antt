@@ -1,5 +1,5 @@
 -- The test of the areas, one area after the other, and what areas that pass it have.
-use mathlib.Core.Path.{_≡_, refl, sym}
+use mathlib.Core.Path.{_≡_, refl}
 use mathlib.Core.Bool.{Bool, true, false, _&&_, _||_, true≢false}
 use mathlib.Core.List.{List, [], _∷_, map}
 use Prim.Native.Nat.{ℕ, zero, suc, _+_, _*_, _≤_, _<_}
@@ -9,6 +9,7 @@ use native.Mathlib.Omega.{arith}
 use borrow.Author.Tests.{ltb-false, leb-true}
 use lib.Dec.{ltb, leb}
 use lib.ListN.{length, drop, getD}
+use Rattle.laws.proofs.Bools.{both, neither}
 use Rattle.packet.specs.Limits.{outBytes}
 use Rattle.scene.specs.Areas.{Area, area, areaTable, leastOf, shortIn, shortOf, Roomy, RoomyIn}
 
@@ -54,15 +55,6 @@ abbrev within : ℕ → List ℕ → Bool
 within m [] = true
 within m (x ∷ xs) = leb x m && within m xs
 
-record Both (a b : Bool) : Type 0 where
-  pub one : a ≡ true
-  pub two : b ≡ true
-
-both : (a b : Bool) → (a && b) ≡ true → Both a b
-both true true e = record { one = refl; two = refl }
-both true false e = absurd (true≢false (sym e))
-both false b e = absurd (true≢false (sym e))
-
 at-most : (m : ℕ) (xs : List ℕ) (i : ℕ) → within m xs ≡ true → getD xs i 0 ≤ m
 at-most m [] i e = omega arith
 at-most m (x ∷ xs) zero e = leb-true x m (both (leb x m) (within m xs) e .one)
@@ -86,15 +78,6 @@ small i t c =
     }
 
 -- ---- what areas that pass have
-
-record Neither (a b : Bool) : Type 0 where
-  pub one : a ≡ false
-  pub two : b ≡ false
-
-neither : (a b : Bool) → (a || b) ≡ false → Neither a b
-neither false false e = record { one = refl; two = refl }
-neither false true e = absurd (true≢false e)
-neither true b e = absurd (true≢false e)
 
 room :
     (table : List Area) (ls : List ℕ) (t c : ℕ) (none : Area) → shortIn table t c ls ≡ false → (i : ℕ) → i < length table →

@@ -9,10 +9,10 @@ use lib.ListN.{getD, take, drop}
 use Rattle.order.specs.Sort.{Below}
 use Rattle.scene.specs.Scene.{Scene}
 use Rattle.placing.specs.Corners.{triangles}
-use Rattle.patches.specs.Triangles.{triangleAt}
+use Rattle.planes_patches.specs.Triangles.{triangleAt}
 use Rattle.mirror.specs.Rows.{AllRead}
 use Rattle.segments.specs.Areas.{Traceable}
-use Rattle.buried.specs.Probe.{Traced}
+use Rattle.planes_buried.specs.Probe.{TreeHeld}
 use Rattle.bvh.specs.Bvh.{paddedIn, rowsIn}
 use Rattle.scene_bvh.specs.SceneTree.{treeOf, SceneTree}
 
@@ -44,7 +44,7 @@ module _
         }
 
     -- the buried planes
-    pub traced : Traced (triangleAt (triangles s)) (treeOf (triangles s)) padded nodes perm rows handles
+    pub traced : TreeHeld (triangleAt (triangles s)) (treeOf (triangles s)) padded nodes perm rows handles
     traced =
         record {
           rows = t .tree .reads .rows-of;

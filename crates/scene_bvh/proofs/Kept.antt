@@ -1,7 +1,7 @@
 -- The triangles that are kept of a scene's corners: at most its whole triples, bounded where refusal 6 does not apply, and with handles of
 -- the material table where refusal 3 does not.
 use mathlib.Core.Path.{_≡_, refl, sym, _∙_}
-use mathlib.Core.Bool.{Bool, true, false, cond, not, _||_, true≢false}
+use mathlib.Core.Bool.{Bool, true, false, cond, not, _||_}
 use mathlib.Core.List.{List, [], _∷_, _++_}
 use Prim.Native.Nat.{ℕ, zero, suc, _+_, _*_, _<_, _≤_}
 use native.Mathlib.Nat.{not-suc-le-zero, le-of-suc-le-suc}
@@ -11,6 +11,7 @@ use lib.Dec.{ltb}
 use lib.IntN.{pos}
 use lib.Ieee.{Float, nan, inf, fin, lt, ofBits}
 use lib.ListN.{length, getD, take, drop, length-append}
+use Rattle.laws.proofs.Bools.{neither}
 use Rattle.float.specs.Compare.{absOf, isFinite}
 use Rattle.bounds.specs.Bounds.{Within}
 use Rattle.bounds.proofs.Operations.{tested-within}
@@ -44,15 +45,6 @@ module _ (P : Triangle → Type 0) (Q : Corners → Type 0) (gives : (q : Corner
 
 -- ---- bounds
 
-record Neither (a b : Bool) : Type 0 where
-  pub left : a ≡ false
-  pub right : b ≡ false
-
-neither : (a b : Bool) → (a || b) ≡ false → Neither a b
-neither false false h = record { left = refl; right = refl }
-neither false true h = absurd (true≢false h)
-neither true b h = absurd (true≢false h)
-
 -- 10,000 by its whole number
 far-is : (x : Float) → lt farthest x ≡ lt (fin false 10000 (pos 0)) x
 unfolding lt ofBits
@@ -64,14 +56,14 @@ near-float : (x : Float) → farOf x ≡ false → Within 10000 x
 unfolding farOf
 near-float x h =
     let n = neither (not (isFinite x)) (lt farthest (absOf x)) h in
-    tested-within 10000 x (not-false (isFinite x) (n .left)) (sym (far-is (absOf x)) ∙ n .right)
+    tested-within 10000 x (not-false (isFinite x) (n .one)) (sym (far-is (absOf x)) ∙ n .two)
 
 near-corner : (v : Vec3) → farCorner v ≡ false → Near 10000 v
 unfolding farCorner
 near-corner v h =
     let p = neither (farOf (v .x)) (farOf (v .y) || farOf (v .z)) h in
-    let q = neither (farOf (v .y)) (farOf (v .z)) (p .right) in
-    record { x = near-float (v .x) (p .left); y = near-float (v .y) (q .left); z = near-float (v .z) (q .right) }
+    let q = neither (farOf (v .y)) (farOf (v .z)) (p .two) in
+    record { x = near-float (v .x) (p .one); y = near-float (v .y) (q .one); z = near-float (v .z) (q .two) }
 
 -- the three corners are near
 pub record NearCorners (q : Corners) : Type 0 where
@@ -83,15 +75,15 @@ near-corners : (q : Corners) → farCorners (q .a) (q .b) (q .c) ≡ false → N
 unfolding farCorners
 near-corners q h =
     let p = neither (farCorner (q .a)) (farCorner (q .b) || farCorner (q .c)) h in
-    let r = neither (farCorner (q .b)) (farCorner (q .c)) (p .right) in
-    record { a = near-corner (q .a) (p .left); b = near-corner (q .b) (r .left); c = near-corner (q .c) (r .right) }
+    let r = neither (farCorner (q .b)) (farCorner (q .c)) (p .two) in
+    record { a = near-corner (q .a) (p .one); b = near-corner (q .b) (r .one); c = near-corner (q .c) (r .two) }
 
 all-near : (qs : List Corners) → anyFar qs ≡ false → Each NearCorners qs
 unfolding anyFar Each
 all-near [] h = tt
 all-near (q ∷ qs) h =
     let n = neither (farCorners (q .a) (q .b) (q .c)) (anyFar qs) h in
-    (near-corners q (n .left), all-near qs (n .right))
+    (near-corners q (n .one), all-near qs (n .two))
 
 near-kept : (q : Corners) → NearCorners q → NearTriangle 10000 (triangleOf (q .a) (q .b) (q .c) (q .handle))
 unfolding triangleOf
@@ -130,10 +122,10 @@ module _ (rows : ℕ) where
   known-all [] ts ps is e = tt
   known-all (h ∷ hs) ts ps is e =
       let n = neither (not (ltb (h .handle) rows)) (unknownHandle rows hs) e in
-      let k : h .handle < rows = ltb-true (h .handle) rows (not-false (ltb (h .handle) rows) (n .left)) in
+      let k : h .handle < rows = ltb-true (h .handle) rows (not-false (ltb (h .handle) rows) (n .one)) in
       each-append (cornersOf (h .vertices) (take (3 * h .vertices) ps) (take 16 ts) (h .handle) (triples (take (h .count) is))) _
       (known-of (h .vertices) (take (3 * h .vertices) ps) (take 16 ts) (h .handle) (triples (take (h .count) is)) k)
-      (known-all hs (drop 16 ts) (drop (3 * h .vertices) ps) (drop (h .count) is) (n .right))
+      (known-all hs (drop 16 ts) (drop (3 * h .vertices) ps) (drop (h .count) is) (n .two))
 
   known-kept : (q : Corners) → Known q → triangleOf (q .a) (q .b) (q .c) (q .handle) .«material_handle» < rows
   unfolding triangleOf

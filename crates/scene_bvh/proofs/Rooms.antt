@@ -7,7 +7,7 @@ use lib.Ieee.{Float}
 use lib.ListN.{length, take, drop}
 use lib.Seq.{length-take-le, take-append-seam}
 use Rattle.scene.specs.Scene.{Scene}
-use Rattle.bvh.specs.Bvh.{paddedIn, rowsIn, Lent, BvhOf}
+use Rattle.bvh.specs.Bvh.{paddedIn, rowsIn, BvhLent, BvhOf}
 use Rattle.scene_bvh.specs.SceneTree.{clearedFrom, Roomy, SceneLoaded, SceneTree}
 use Rattle.scene_bvh.proofs.Handles.{cleared-length}
 use Rattle.scene_bvh.proofs.Scenes.{scene-tree}
@@ -20,7 +20,7 @@ module _
     part = length-take-le m perm (k .perm-room)
 
     -- what `build_flat_bvh` asks, of columns of at most n triples
-    pub lent : (q : ℕ) → m ≤ q → q ≤ n → Lent columns handles q extents keys (take m perm) words scratch areas boxes nodes
+    pub lent : (q : ℕ) → m ≤ q → q ≤ n → BvhLent columns handles q extents keys (take m perm) words scratch areas boxes nodes
     lent q least most =
         record {
           wide = omega (arith, k .wide, most);

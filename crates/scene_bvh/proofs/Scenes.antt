@@ -12,6 +12,7 @@ use Rattle.order.specs.Sort.{Below}
 use Rattle.order.specs.Runs.{upTo}
 use Rattle.float.proofs.Numbers.{by-order}
 use Rattle.order.proofs.Laws.{below-none, below-cons}
+use Rattle.order.proofs.Positions.{getD-map-upTo, upTo-length}
 use Rattle.geometry.specs.declared.Triangle.{Triangle}
 use Rattle.geometry.specs.Triangle as triangle
 use Rattle.columns.specs.Columns.{vecAtOf, triangleAtOf}
@@ -21,20 +22,18 @@ use Rattle.scene.specs.Limits.{mostTriples}
 use Rattle.scene.specs.Refusals.{refusal1, refusal2, refusal3, refusal4, refusal5, first, triplesIn, lengthsRight, lengthsRightOf, meshesWhole, transformsRight, positionsRight, indicesRight, materialsRight}
 use Rattle.placing.specs.Corners.{refusal6, corners, triangles}
 use Rattle.placing.specs.Passing.{Reads}
-use Rattle.placing.specs.Loading.{firstRefusal, answerOf, Loading}
+use Rattle.placing.specs.Loading.{firstRefusal, loadedOf, Loading}
 use Rattle.placing.specs.declared.Loaded.{Loaded}
 use Rattle.placing.specs.declared.Loaded.the-variants.{Triangles}
 use Rattle.placing.proofs.Passes.{whole-triples}
 use Rattle.placing.proofs.Accepts.{fits, few}
-use Rattle.build.specs.Tree.{countTo, buildOf, maxDepth}
-use Rattle.trace.specs.Leaf.{RowAt, Rows}
-use Rattle.bvh.specs.Bvh.{aabbOf, centroidOf, finiteOf, Edged, BvhOf}
+use Rattle.tree_build.specs.Tree.{countTo, buildOf, maxDepth}
+use Rattle.tree_trace.specs.Leaf.{RowAt, LeafRows}
+use Rattle.bvh.specs.Bvh.{aabbOf, centroidIn, finiteOf, Edged, BvhOf}
 use Rattle.bvh.specs.Bvh as flat
 use Rattle.bvh.proofs.Agree.{build-agree}
 use Rattle.bvh.proofs.Finite.{NearTriangle, finite-centroids}
-use Rattle.faces.proofs.Corners.{getD-map-upTo}
-use Rattle.faces.proofs.Firsts.{upTo-length}
-use Rattle.patches.specs.Triangles.{noTriangle, triangleAt, boxOf, trianglesIn}
+use Rattle.planes_patches.specs.Triangles.{noTriangle, triangleAt, boxOf, trianglesIn}
 use Rattle.mirror.specs.Rows.{ReadsAs}
 use Rattle.segments.specs.Materials.{materialFloats}
 use Rattle.scene_bvh.specs.SceneTree.{treeOf, clearedFrom, SceneLoaded, TrianglesRead, TreeStands, SceneTree}
@@ -81,7 +80,7 @@ pub record Told (k : ℕ) (s : Scene) (m n : ℕ) : Type 0 where
   pub count : m ≡ length (triangles s)
   pub triples : n ≡ triplesIn s
 
-pub told : (k : ℕ) (s : Scene) (m p n : ℕ) → Triangles m p n ≡ answerOf k s → Told k s m n
+pub told : (k : ℕ) (s : Scene) (m p n : ℕ) → Triangles m p n ≡ loadedOf k s → Told k s m n
 told zero s m p n e = record { none = refl; count = cc; triples = cc }
 told (suc k) s m p n e = let z : _≡_ {A = ℕ} 0 1 = cc in absurd (omega arith)
 
@@ -220,7 +219,7 @@ module _ (s : Scene) (columns : List Float) (found : List ℕ) (n m : ℕ) (f : 
   unfolding triangleAt
   near-all i h = subst (NearTriangle 10000) (sym (triangle-is i h)) (near-triangles (corners s) (f .near) i noTriangle (rw (f .count) at h))
 
-  pub finite : finiteOf (centroidOf columns (clearedFrom m found) n) m ≡ true
+  pub finite : finiteOf (centroidIn columns (clearedFrom m found) n) m ≡ true
   finite = finite-centroids columns (clearedFrom m found) n m 10000 (omega arith) near-all
 
   -- the handle of any number
@@ -249,16 +248,16 @@ module _ (s : Scene) (columns : List Float) (found : List ℕ) (n m : ℕ) (f : 
 
   -- ---- the tree
 
-  pub tree-is : flat.treeOf columns (clearedFrom m found) n m ≡ treeOf (triangles s)
-  unfolding flat.treeOf treeOf aabbOf centroidOf boxOf
+  pub tree-is : flat.treeIn columns (clearedFrom m found) n m ≡ treeOf (triangles s)
+  unfolding flat.treeIn treeOf aabbOf centroidIn boxOf
   tree-is =
       let ts = triangles s in
-      build-agree m (aabbOf columns (clearedFrom m found) n) (λ i. boxOf (triangleAt ts i)) (centroidOf columns (clearedFrom m found) n) (λ i. triangle.centroidOf (triangleAt ts i))
+      build-agree m (aabbOf columns (clearedFrom m found) n) (λ i. boxOf (triangleAt ts i)) (centroidIn columns (clearedFrom m found) n) (λ i. triangle.centroidOf (triangleAt ts i))
       (λ i h. ap boxOf (triangle-is i h)) (λ i h. ap triangle.centroidOf (triangle-is i h)) maxDepth (countTo 0 m) (below-suc m 0 m (omega arith))
       ∙ ap (λ (k : ℕ). buildOf (λ i. boxOf (triangleAt ts i)) (λ i. triangle.centroidOf (triangleAt ts i)) k) (f .count)
 
-  rows-are : (perm : List ℕ) (rows : List Float) → Below m perm → Rows (triangleAtOf columns (clearedFrom m found) n) perm rows → Rows (triangleAt (triangles s)) perm rows
-  unfolding Rows Below
+  rows-are : (perm : List ℕ) (rows : List Float) → Below m perm → LeafRows (triangleAtOf columns (clearedFrom m found) n) perm rows → LeafRows (triangleAt (triangles s)) perm rows
+  unfolding LeafRows Below
   rows-are perm rows inside r k h = subst (RowAt rows k) (triangle-is (getD perm k 0) (inside k h)) (r k h)
 
   pub stands :

@@ -12,9 +12,9 @@ use Rattle.scene.specs.Scene.{Scene}
 use Rattle.placing.specs.Corners.{triangles}
 use Rattle.placing.specs.Loading.{firstRefusal, Loading}
 use Rattle.placing.specs.declared.Loaded.the-variants.{Triangles}
-use Rattle.build.specs.Tree.{Tree, buildOf}
-use Rattle.trace.specs.Trace.{Held}
-use Rattle.patches.specs.Triangles.{triangleAt, boxOf, trianglesIn}
+use Rattle.tree_build.specs.Tree.{Tree, buildOf}
+use Rattle.tree_trace.specs.Trace.{Held}
+use Rattle.planes_patches.specs.Triangles.{triangleAt, boxOf, trianglesIn}
 use Rattle.mirror.specs.Rows.{ReadsAs}
 use Rattle.segments.specs.Materials.{materialFloats}
 use Rattle.segments.specs.Areas.{TreeReads}

@@ -5,9 +5,9 @@ use Prim.Native.Nat.{ℕ}
 use lib.Ieee.{Float}
 use Rattle.geometry.specs.declared.Triangle.{Triangle}
 use Rattle.scene.specs.declared.Settings.{Settings}
-use Rattle.build.specs.Tree.{Tree}
-use Rattle.patches.specs.Triangles.{triangleAt, trianglesIn}
-use Rattle.buried.specs.Probe.{probeOf, Traced}
+use Rattle.tree_build.specs.Tree.{Tree}
+use Rattle.planes_patches.specs.Triangles.{triangleAt, trianglesIn}
+use Rattle.planes_buried.specs.Probe.{probeOf, TreeHeld}
 use Rattle.mirror.specs.Rows.{planesIn}
 use Rattle.planes.specs.Build.{planeSettings, planesOf}
 use Rattle.scene_bvh.specs.SceneTree.{treeOf, TrianglesRead, TreeStands}
@@ -18,7 +18,7 @@ module _ (ts : List Triangle) (columns : List Float) (handles : List ℕ) (n m :
       (st : Settings) (padded : List Float) (nodes perm : List ℕ) (leaves : List Float) (nodes-count : ℕ) (floats : List Float) (words members : List ℕ)
       (edges : List Float) (count : ℕ) →
       TreeStands ts padded nodes perm leaves handles nodes-count →
-      ((tri : ℕ → Triangle) (k : Tree) → Traced tri k padded nodes perm leaves handles →
+      ((tri : ℕ → Triangle) (k : Tree) → TreeHeld tri k padded nodes perm leaves handles →
       planesIn floats words members edges count ≡ planesOf (planeSettings st) (probeOf tri k) (trianglesIn columns handles n m)) →
       planesIn floats words members edges count ≡ planesFor st ts
   unfolding planesFor

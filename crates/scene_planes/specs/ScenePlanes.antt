@@ -10,11 +10,11 @@ use Rattle.scene.specs.declared.Settings.{Settings}
 use Rattle.scene.specs.Scene.{Scene}
 use Rattle.placing.specs.Corners.{triangles}
 use Rattle.bvh.specs.Bvh.{paddedIn, rowsIn}
-use Rattle.patches.specs.Triangles.{triangleAt}
-use Rattle.buried.specs.Probe.{probeOf}
+use Rattle.planes_patches.specs.Triangles.{triangleAt}
+use Rattle.planes_buried.specs.Probe.{probeOf}
 use Rattle.mirror.specs.Plane.{Plane}
 use Rattle.mirror.specs.Rows.{planesIn, PlanesHeld}
-use Rattle.ranked.specs.Areas.{TrianglesLent}
+use Rattle.planes_ranked.specs.Areas.{TrianglesLent}
 use Rattle.planes.specs.Build.{planeSettings, planesOf}
 use Rattle.planes.specs.Areas.{PlanesRoom}
 use Rattle.scene_bvh.specs.SceneTree.{treeOf, clearedFrom, SceneLoaded, SceneTree}

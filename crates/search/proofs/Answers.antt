@@ -13,7 +13,7 @@ use lib.Ieee.{Float, nan}
 use lib.ListN.{take}
 use Rattle.vector.specs.declared.Vec3.{Vec3}
 use Rattle.geometry.specs.declared.Triangle.{Triangle}
-use Rattle.build.specs.Tree.{Tree}
+use Rattle.tree_build.specs.Tree.{Tree}
 use Rattle.order.specs.Runs.{upTo}
 use Rattle.order.proofs.Runs.{In, in-upTo}
 use Rattle.scene.specs.declared.Settings.{Settings}
@@ -44,7 +44,7 @@ abbrev isFail : Outcome → ℕ
 isFail (fails r) = 1
 isFail (passes r f) = 0
 
-never : {A : Type 0} (q r : ℕ) (f : Found) → fails q ≡ passes r f → A
+pub never : {A : Type 0} (q r : ℕ) (f : Found) → fails q ≡ passes r f → A
 never q r f e = absurd (let no : _≡_ {A = ℕ} 1 0 = ap isFail e in omega arith)
 
 abbrev whatOf : Found → Outcome → Found
@@ -77,7 +77,7 @@ module _ (s : Settings) (planes : List Plane) (tri : ℕ → Triangle) (t : Tree
 
 -- ---- rows
 
-map-has : (f : ℕ → Candidate) (i : ℕ) (l : List ℕ) → In i l → Has (f i) (map f l)
+pub map-has : (f : ℕ → Candidate) (i : ℕ) (l : List ℕ) → In i l → Has (f i) (map f l)
 unfolding In
 map-has f i [] k = absurd k
 map-has f i (x ∷ l) (inl e) = inl (ap f e)

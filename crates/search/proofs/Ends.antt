@@ -8,7 +8,7 @@ use native.Mathlib.Nat.{sub-zero}
 use lib.Ieee.{Float}
 use lib.ListN.{length, take}
 use Rattle.geometry.specs.declared.Triangle.{Triangle}
-use Rattle.build.specs.Tree.{Tree}
+use Rattle.tree_build.specs.Tree.{Tree}
 use Rattle.bounces.specs.Areas.{maxOrder, pointFloats, pointIn}
 use Rattle.bounces.proofs.Laws.{image-none}
 use Rattle.sequences.specs.Allowed.{most, below}
@@ -19,7 +19,7 @@ use Rattle.ranking.proofs.Rowing.{held-none}
 use Rattle.claim.specs.Answer.{Outcome}
 use Rattle.claim.specs.Query.{Search, search, visitPath, searched}
 use Rattle.search.specs.declared.Task.{Task}
-use Rattle.search.specs.Contract.{Scene, State, planesOf, Reads, firstsOf, pathIn, runIn, Sound, heldIn, Walked}
+use Rattle.search.specs.Contract.{SearchAreas, State, planesOf, Reads, firstsOf, pathIn, runIn, Sound, heldIn, Walked}
 
 -- with no planes nothing is searched
 pub searched-none :
@@ -40,7 +40,7 @@ pub record Fresh (q : Task) (s : State) : Type 0 where
   pub no-found : s .found ≡ 0
   pub not-over : s .over ≡ false
 
-module _ (S : Scene) (q : Task) (s : State) (new : Fresh q s) where
+module _ (S : SearchAreas) (q : Task) (s : State) (new : Fresh q s) where
   pub sound-fresh : Sound S q 0 s
   sound-fresh = record {
     seq-room = new .seq-room;

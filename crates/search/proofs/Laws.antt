@@ -6,10 +6,11 @@ use mathlib.Core.Logic.{inl, inr}
 use mathlib.Core.List.{List, [], _∷_, _++_}
 use native.Mathlib.Nat.{mul-le-mul}
 use native.Mathlib.Omega.{arith}
-use lib.ListN.{length, getD, take, length-map, length-append}
+use lib.ListN.{length, getD, take, length-map}
 use lib.Dec.{eqb, ltb}
 use lib.Ieee.{Float, lt, le}
 use borrow.Author.Tests.{lt-ltb, le-ltb}
+use Rattle.order.proofs.Positions.{upTo-length}
 use Rattle.vector.specs.declared.Vec3.{Vec3}
 use Rattle.vector.specs.Vector.{length3Of, distance3Of}
 use Rattle.order.specs.Runs.{upTo}
@@ -33,11 +34,6 @@ use denote.Enum.Declared.{tagOf}
 use types.Run.{OneOf}
 use Rattle.search.specs.Outcome.{onOf, foundOf, byFate}
 use Rattle.search.specs.Contract.{squareOf, Beyond, mostPathRays}
-
-upTo-length : (n : ℕ) → length (upTo n) ≡ n
-unfolding upTo
-upTo-length zero = refl
-upTo-length (suc n) = let e = upTo-length n in length-append (upTo n) (n ∷ []) ∙ (let f : length (upTo n) + 1 ≡ suc n = omega arith in f)
 
 -- ---- rays
 

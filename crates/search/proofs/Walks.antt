@@ -28,12 +28,12 @@ use Rattle.paths.proofs.Laws.{path-far, path-lost}
 use Rattle.claim.specs.Answer.{fails}
 use Rattle.search.specs.Outcome.{outcomeOf}
 use Rattle.search.proofs.Laws.{on-length, planes-length, judged-lost, square-far}
-use Rattle.search.specs.Contract.{Scene, State, state, pointPut, squareOf, Beyond, Lost, planesOf, firstsOf, pathIn, runIn, Sound, Ready, Visitable, heldIn, Walked, Visited, withNodes, Skips}
+use Rattle.search.specs.Contract.{SearchAreas, State, state, pointPut, squareOf, Beyond, Lost, planesOf, firstsOf, pathIn, runIn, Sound, SearchReady, Visitable, heldIn, Walked, Visited, withNodes, Skips}
 
 abbrev count : Search → ℕ
 count w = w .images
 
-module _ (S : Scene) (q : Task) where
+module _ (S : SearchAreas) (q : Task) where
   -- ---- the state
 
   module _ (d p : ℕ) (seq seq₁ : List ℕ) (images images₁ : List Float) (t : Tally) (seq-is : seq₁ ≡ set seq d p)
@@ -62,7 +62,7 @@ module _ (S : Scene) (q : Task) where
             rw g (k .planes j e))
 
     pub visitable-push :
-        (fs : List Float) (ws : List ℕ) → Ready S q d (state seq images t) fs ws → p < q .count → t .nodes < q .limit →
+        (fs : List Float) (ws : List ℕ) → SearchReady S q d (state seq images t) fs ws → p < q .count → t .nodes < q .limit →
         Visitable S q (d + 1) (state seq₁ images₁ t) fs ws
     visitable-push fs ws r l room = record {
       some = omega arith;
@@ -108,8 +108,8 @@ module _ (S : Scene) (q : Task) where
   }
 
   pub ready-same :
-      (d d′ : ℕ) (s s′ : State) (fs fs′ : List Float) (ws ws′ : List ℕ) → Ready S q d s fs ws → d′ < q .order → length fs′ ≡ length fs →
-      length ws′ ≡ length ws → Sound S q d′ s′ → Ready S q d′ s′ fs′ ws′
+      (d d′ : ℕ) (s s′ : State) (fs fs′ : List Float) (ws ws′ : List ℕ) → SearchReady S q d s fs ws → d′ < q .order → length fs′ ≡ length fs →
+      length ws′ ≡ length ws → Sound S q d′ s′ → SearchReady S q d′ s′ fs′ ws′
   ready-same d d′ s s′ fs fs′ ws ws′ k h e f g = record {
     deep = h;
     within = k .within;
@@ -257,7 +257,7 @@ module _ (S : Scene) (q : Task) where
     more = q .order - (d + 1)
 
     walked-far :
-        (p : ℕ) (t : Tally) (fs : List Float) (ws : List ℕ) → Ready S q d (state seq images t) fs ws → d + 1 ≡ q .order → p < q .count →
+        (p : ℕ) (t : Tally) (fs : List Float) (ws : List ℕ) → SearchReady S q d (state seq images t) fs ws → d + 1 ≡ q .order → p < q .count →
         t .nodes < q .limit → may on (take d seq) p ≡ true →
         lt (q .beyond) (squareOf (q .listener) (mirrorOf (planeAt (planesOf S q) p) (pointIn images d))) ≡ true →
         Walked S q d (at on more (take d seq) p) (state seq images t) fs ws (state seq images (withNodes t (t .nodes + 1))) fs ws
@@ -280,7 +280,7 @@ module _ (S : Scene) (q : Task) where
 
     skips-step :
         (p : ℕ) (t : Tally) (p₁ : ℕ) (t₁ t₂ : Tally) → Skips S q d seq images p t p₁ t₁ →
-        ((fs : List Float) (ws : List ℕ) → Ready S q d (state seq images t₁) fs ws → d + 1 ≡ q .order →
+        ((fs : List Float) (ws : List ℕ) → SearchReady S q d (state seq images t₁) fs ws → d + 1 ≡ q .order →
         Walked S q d (at on more (take d seq) p₁) (state seq images t₁) fs ws (state seq images t₂) fs ws) →
         Skips S q d seq images p t (p₁ + 1) t₂
     skips-step p t p₁ t₁ t₂ k one = record {

@@ -7,7 +7,7 @@ use lib.ListN.{length, getD, take, set}
 use lib.Dec.{ltb, eqb}
 use lib.Ieee.{Float, lt, le}
 use Rattle.geometry.specs.declared.Triangle.{Triangle}
-use Rattle.build.specs.Tree.{Tree}
+use Rattle.tree_build.specs.Tree.{Tree}
 use Rattle.float.specs.Sqrt.{sqrtOf}
 use Rattle.vector.specs.declared.Vec3.{Vec3}
 use Rattle.vector.specs.Vector.{sub3Of, dot3Of}
@@ -20,9 +20,9 @@ use Rattle.bounces.specs.Bounces.{backOf, planeOn}
 use Rattle.bounces.specs.Image.{imageOf}
 use Rattle.sequences.specs.Allowed.{most, mostPlanes, may, upto, at}
 use Rattle.sequences.specs.Run.{run}
-use Rattle.ranking.specs.Rows.{Rows, candidatesIn}
+use Rattle.ranking.specs.Rows.{CandidateRows, candidatesIn}
 use Rattle.paths.specs.declared.PathCandidate.{PathCandidate}
-use Rattle.paths.specs.Areas.{Lent, ReadAs}
+use Rattle.paths.specs.Areas.{SceneLent, ReadAs}
 use Rattle.claim.specs.Answer.{Outcome, tapOf}
 use Rattle.claim.specs.Query.{Search, search, visitPath}
 use Rattle.search.specs.declared.Task.{Task}
@@ -30,7 +30,7 @@ use Rattle.search.specs.declared.Tally.{Tally}
 use Rattle.search.specs.Outcome.{onOf, foundOf, outcomesOf}
 
 -- the areas of a scene
-pub record Scene : Type 0 where
+pub record SearchAreas : Type 0 where
   pub padded : List Float
   pub nodes : List ℕ
   pub perm : List ℕ
@@ -43,8 +43,8 @@ pub record Scene : Type 0 where
   pub members : List ℕ
   pub edges : List Float
 
-abbrev pub scene : List Float → List ℕ → List ℕ → List Float → List ℕ → List Float → List Float → List Float → List ℕ → List ℕ → List Float → Scene
-scene padded nodes perm rows handles materials columns floats words members edges =
+abbrev pub searchAreas : List Float → List ℕ → List ℕ → List Float → List ℕ → List Float → List Float → List Float → List ℕ → List ℕ → List Float → SearchAreas
+searchAreas padded nodes perm rows handles materials columns floats words members edges =
     record {
       padded = padded;
       nodes = nodes;
@@ -93,13 +93,13 @@ Lost columns n floats words members edges count seq images len listener =
 abbrev pub mostPathRays : ℕ
 mostPathRays = 18 * (mostCrossings + 1) * (maxOrder + 1)
 
-module _ (S : Scene) (q : Task) where
+module _ (S : SearchAreas) (q : Task) where
   -- the planes, what is asked of the areas, and what they read as
   abbrev pub planesOf : List Plane
   planesOf = planesIn (S .floats) (S .words) (S .members) (S .edges) (q .count)
 
   abbrev pub LentAs : Type 0
-  LentAs = Lent (S .padded) (S .nodes) (S .perm) (S .rows) (S .handles) (q .«nodes_count») (S .materials) (S .columns) (q .n) (S .floats) (S .words) (S .members) (S .edges) (q .count)
+  LentAs = SceneLent (S .padded) (S .nodes) (S .perm) (S .rows) (S .handles) (q .«nodes_count») (S .materials) (S .columns) (q .n) (S .floats) (S .words) (S .members) (S .edges) (q .count)
 
   abbrev pub Reads : (ℕ → Triangle) → Tree → Type 0
   Reads tri t = ReadAs (S .padded) (S .nodes) (S .perm) (S .rows) (S .handles) (S .columns) (q .n) (S .floats) (S .words) (S .members) (q .count) tri t
@@ -124,7 +124,7 @@ module _ (S : Scene) (q : Task) where
     pub cost : s .rays ≤ mostPathRays * s .nodes
 
   -- what the search asks at a place
-  pub record Ready (depth : ℕ) (s : State) (fs : List Float) (ws : List ℕ) : Type 0 where
+  pub record SearchReady (depth : ℕ) (s : State) (fs : List Float) (ws : List ℕ) : Type 0 where
     pub deep : depth < q .order
     pub within : q .order ≤ maxOrder
     pub small : q .count ≤ mostPlanes
@@ -132,7 +132,7 @@ module _ (S : Scene) (q : Task) where
     pub crossings : q .settings .«crossing_limit» ≤ mostCrossings
     pub far : Beyond (q .settings .«max_reflection_distance») (q .beyond)
     pub lent : LentAs
-    pub room : Rows (q .room) fs ws
+    pub room : CandidateRows (q .room) fs ws
     pub sound : Sound depth s
 
   -- what a visit of the first `len` planes of the state asks
@@ -143,7 +143,7 @@ module _ (S : Scene) (q : Task) where
     pub crossings : q .settings .«crossing_limit» ≤ mostCrossings
     pub far : Beyond (q .settings .«max_reflection_distance») (q .beyond)
     pub lent : LentAs
-    pub room : Rows (q .room) fs ws
+    pub room : CandidateRows (q .room) fs ws
     pub sound : Sound len s
 
 -- what the search holds
@@ -151,7 +151,7 @@ abbrev pub heldIn : State → List Float → List ℕ → Search
 heldIn s fs ws = search (s .nodes) (s .rays) (candidatesIn (s .found) fs ws) (s .over)
 
 -- the sequences `qs` were run over, for all that the areas read as, and the first `depth` planes of the state stand as they did
-pub record Walked (S : Scene) (q : Task) (depth : ℕ) (qs : List (List ℕ)) (s : State) (fs : List Float) (ws : List ℕ) (r : State) (fs′ : List Float) (ws′ : List ℕ) : Type 0 where
+pub record Walked (S : SearchAreas) (q : Task) (depth : ℕ) (qs : List (List ℕ)) (s : State) (fs : List Float) (ws : List ℕ) (r : State) (fs′ : List Float) (ws′ : List ℕ) : Type 0 where
   pub ran : (tri : ℕ → Triangle) (t : Tree) → Reads S q tri t → heldIn r fs′ ws′ ≡ runIn S q tri t (heldIn s fs ws) qs
   pub stays : take depth (r .seq) ≡ take depth (s .seq)
   pub sound : Sound S q depth r
@@ -165,15 +165,15 @@ abbrev pub withNodes : Tally → ℕ → Tally
 withNodes t n = record { nodes = n; rays = t .rays; found = t .found; over = t .over }
 
 -- at the last place, whatever was run over before: the planes from p up to p′ come to no more than that the tally t is t′
-pub record Skips (S : Scene) (q : Task) (depth : ℕ) (seq : List ℕ) (images : List Float) (p : ℕ) (t : Tally) (p′ : ℕ) (t′ : Tally) : Type 0 where
+pub record Skips (S : SearchAreas) (q : Task) (depth : ℕ) (seq : List ℕ) (images : List Float) (p : ℕ) (t : Tally) (p′ : ℕ) (t′ : Tally) : Type 0 where
   pub walked :
-      (s₀ : State) (fs₀ : List Float) (ws₀ : List ℕ) (fs : List Float) (ws : List ℕ) → Ready S q depth (state seq images t) fs ws →
+      (s₀ : State) (fs₀ : List Float) (ws₀ : List ℕ) (fs : List Float) (ws : List ℕ) → SearchReady S q depth (state seq images t) fs ws →
       depth + 1 ≡ q .order →
       Walked S q depth (upto (at (firstsOf S q) (q .order - (depth + 1)) (take depth (s₀ .seq))) p) s₀ fs₀ ws₀ (state seq images t) fs ws →
       Walked S q depth (upto (at (firstsOf S q) (q .order - (depth + 1)) (take depth (s₀ .seq))) p′) s₀ fs₀ ws₀ (state seq images t′) fs ws
 
 -- the same, up to a plane that may stand there and has not been run over, or all planes
-pub record Skipped (S : Scene) (q : Task) (depth : ℕ) (seq : List ℕ) (images : List Float) (p : ℕ) (t : Tally) (p′ : ℕ) (t′ : Tally) : Type 0 where
+pub record Skipped (S : SearchAreas) (q : Task) (depth : ℕ) (seq : List ℕ) (images : List Float) (p : ℕ) (t : Tally) (p′ : ℕ) (t′ : Tally) : Type 0 where
   pub from : p ≤ p′
   pub within : p′ ≤ q .count
   pub next : p′ < q .count → (t′ .nodes < q .limit) × (may (firstsOf S q) (take depth seq) p′ ≡ true)
@@ -196,7 +196,7 @@ pub record Kept (room len rays : ℕ) (c : PathCandidate) (s : Tally) (fs : List
       (cond (ltb (s .found) room) (not (eqb (s .over) 0)) true)
 
 -- the first `len` planes of the sequence were visited
-pub record Visited (S : Scene) (q : Task) (len : ℕ) (seq : List ℕ) (s : Tally) (fs : List Float) (ws : List ℕ) (r : Tally) (fs′ : List Float) (ws′ : List ℕ) : Type 0 where
+pub record Visited (S : SearchAreas) (q : Task) (len : ℕ) (seq : List ℕ) (s : Tally) (fs : List Float) (ws : List ℕ) (r : Tally) (fs′ : List Float) (ws′ : List ℕ) : Type 0 where
   pub counted : r .nodes ≡ s .nodes + 1
   pub cost : r .rays ≤ s .rays + mostPathRays
   pub few : r .found ≤ q .room

@@ -11,19 +11,20 @@ ghost use mathlib.Core.List.{List};
 ghost use Prim.Native.Nat.{ℕ, _+_, _-_, _*_, _<_, _≤_};
 ghost use lib.ListN.{length, getD, take, set};
 ghost use lib.Ieee.{Float, lt};
+ghost use Rattle.order.specs.Open.{Open};
 ghost use Rattle.geometry.specs.declared.Triangle.{Triangle};
-ghost use Rattle.build.specs.Tree.{Tree};
+ghost use Rattle.tree_build.specs.Tree.{Tree};
 ghost use Rattle.scene.specs.Limits.{mostCrossings};
 ghost use Rattle.mirror.specs.Plane.{noPoint, planeAt};
 ghost use Rattle.mirror.specs.Mirror.{mirrorOf};
 ghost use Rattle.mirror.specs.Rows.{planeFloats, planeWords, planesIn};
 ghost use Rattle.sequences.specs.Allowed as spec;
 ghost use Rattle.bounces.specs.Areas.{PlanesLent, maxOrder, pointFloats, pointIn};
-ghost use Rattle.ranking.specs.Rows.{Rows, candidatesIn};
-ghost use Rattle.paths.specs.Areas.{Lent, ReadAs};
+ghost use Rattle.ranking.specs.Rows.{CandidateRows, candidatesIn};
+ghost use Rattle.paths.specs.Areas.{SceneLent, ReadAs};
 ghost use Rattle.claim.specs.Query.{search, searched};
 ghost use Rattle.search.specs.Outcome.{onOf, outcomesOf};
-ghost use Rattle.search.specs.Contract.{scene, state, countedOf, withNodes, pointPut, firstsOf, squareOf, Beyond, Lost, Ready, Visitable, Walked, Kept, Visited, Skipped};
+ghost use Rattle.search.specs.Contract.{searchAreas, state, countedOf, withNodes, pointPut, firstsOf, squareOf, Beyond, Lost, SearchReady, Visitable, Walked, Kept, Visited, Skipped};
 
 // Floats of a point in an area.
 const POINT_FLOATS: usize = 3;
@@ -181,7 +182,7 @@ fn keep(
 ) -> Tally
     requires { ⌜ (len ≤ maxOrder) × (t .found ≤ room) ⌝ }
     requires { ⌜ (t .nodes < spec.most) × (t .rays + rays < 4294967296) ⌝ }
-    requires { ⌜ Rows room (now «candidate_floats») (now «candidate_words») ⌝ }
+    requires { ⌜ CandidateRows room (now «candidate_floats») (now «candidate_words») ⌝ }
     ensures { λ r.
         ⌜ Kept room len rays c t (now («candidate_floats» .entry)) (now («candidate_words» .entry)) r (now («candidate_floats» .exit))
         (now («candidate_words» .exit)) ⌝ }
@@ -257,11 +258,11 @@ fn judge(
     candidate_floats: &mut [f32],
     candidate_words: &mut [u32],
 ) -> Tally
-    requires { ⌜ Visitable (scene (now padded) (now nodes) (now «leaf_order») (now leaves) (now handles) (now materials) (now triangles) (now «plane_floats»)
+    requires { ⌜ Visitable (searchAreas (now padded) (now nodes) (now «leaf_order») (now leaves) (now handles) (now materials) (now triangles) (now «plane_floats»)
         (now «plane_words») (now «plane_triangles») (now «plane_edges»)) q len (state (now seq) (now images) t) (now «candidate_floats»)
         (now «candidate_words») ⌝ }
     ensures { λ r.
-        ⌜ Visited (scene (now (padded .entry)) (now (nodes .entry)) (now («leaf_order» .entry)) (now (leaves .entry)) (now (handles .entry))
+        ⌜ Visited (searchAreas (now (padded .entry)) (now (nodes .entry)) (now («leaf_order» .entry)) (now (leaves .entry)) (now (handles .entry))
         (now (materials .entry)) (now (triangles .entry)) (now («plane_floats» .entry)) (now («plane_words» .entry)) (now («plane_triangles» .entry))
         (now («plane_edges» .entry))) q len (now (seq .entry)) t (now («candidate_floats» .entry)) (now («candidate_words» .entry)) r
         (now («candidate_floats» .exit)) (now («candidate_words» .exit)) ⌝ }
@@ -372,11 +373,11 @@ fn visit(
     candidate_floats: &mut [f32],
     candidate_words: &mut [u32],
 ) -> Tally
-    requires { ⌜ Visitable (scene (now padded) (now nodes) (now «leaf_order») (now leaves) (now handles) (now materials) (now triangles) (now «plane_floats»)
+    requires { ⌜ Visitable (searchAreas (now padded) (now nodes) (now «leaf_order») (now leaves) (now handles) (now materials) (now triangles) (now «plane_floats»)
         (now «plane_words») (now «plane_triangles») (now «plane_edges»)) q len (state (now seq) (now images) t) (now «candidate_floats»)
         (now «candidate_words») ⌝ }
     ensures { λ r.
-        ⌜ Visited (scene (now (padded .entry)) (now (nodes .entry)) (now («leaf_order» .entry)) (now (leaves .entry)) (now (handles .entry))
+        ⌜ Visited (searchAreas (now (padded .entry)) (now (nodes .entry)) (now («leaf_order» .entry)) (now (leaves .entry)) (now (handles .entry))
         (now (materials .entry)) (now (triangles .entry)) (now («plane_floats» .entry)) (now («plane_words» .entry)) (now («plane_triangles» .entry))
         (now («plane_edges» .entry))) q len (now (seq .entry)) t (now («candidate_floats» .entry)) (now («candidate_words» .entry)) r
         (now («candidate_floats» .exit)) (now («candidate_words» .exit)) ⌝ }
@@ -437,7 +438,7 @@ fn next_near(
     ensures { λ r.
         ⌜ ((padded : List Float) (nodes₁ : List ℕ) (perm : List ℕ) (rows : List Float) (handles : List ℕ) (materials : List Float) (columns : List Float)
         (members : List ℕ) (edges : List Float) →
-        Skipped (scene padded nodes₁ perm rows handles materials columns (now («plane_floats» .entry)) (now («plane_words» .entry)) members edges) q depth
+        Skipped (searchAreas padded nodes₁ perm rows handles materials columns (now («plane_floats» .entry)) (now («plane_words» .entry)) members edges) q depth
         (now (seq .entry)) (now (images .entry)) from t (r .plane) (r .tally)) ⌝ }
 {
     let image = mirror::vec_in(images, POINT_FLOATS * depth);
@@ -486,11 +487,11 @@ fn last_planes(
     candidate_words: &mut [u32],
 ) -> Tally
     requires { ⌜ depth + 1 ≡ q .order ⌝ }
-    requires { ⌜ Ready (scene (now padded) (now nodes) (now «leaf_order») (now leaves) (now handles) (now materials) (now triangles) (now «plane_floats»)
+    requires { ⌜ SearchReady (searchAreas (now padded) (now nodes) (now «leaf_order») (now leaves) (now handles) (now materials) (now triangles) (now «plane_floats»)
         (now «plane_words») (now «plane_triangles») (now «plane_edges»)) q depth (state (now seq) (now images) t) (now «candidate_floats»)
         (now «candidate_words») ⌝ }
     ensures { λ r.
-        let areas = scene (now (padded .entry)) (now (nodes .entry)) (now («leaf_order» .entry)) (now (leaves .entry)) (now (handles .entry))
+        let areas = searchAreas (now (padded .entry)) (now (nodes .entry)) (now («leaf_order» .entry)) (now (leaves .entry)) (now (handles .entry))
         (now (materials .entry)) (now (triangles .entry)) (now («plane_floats» .entry)) (now («plane_words» .entry)) (now («plane_triangles» .entry))
         (now («plane_edges» .entry)) in
         ⌜ Walked areas q depth (spec.below (firstsOf areas q) (q .order - depth) (take depth (now (seq .entry))))
@@ -579,11 +580,11 @@ fn expand_images(
     candidate_floats: &mut [f32],
     candidate_words: &mut [u32],
 ) -> Tally
-    requires { ⌜ Ready (scene (now padded) (now nodes) (now «leaf_order») (now leaves) (now handles) (now materials) (now triangles) (now «plane_floats»)
+    requires { ⌜ SearchReady (searchAreas (now padded) (now nodes) (now «leaf_order») (now leaves) (now handles) (now materials) (now triangles) (now «plane_floats»)
         (now «plane_words») (now «plane_triangles») (now «plane_edges»)) q depth (state (now seq) (now images) t) (now «candidate_floats»)
         (now «candidate_words») ⌝ }
     ensures { λ r.
-        let areas = scene (now (padded .entry)) (now (nodes .entry)) (now («leaf_order» .entry)) (now (leaves .entry)) (now (handles .entry))
+        let areas = searchAreas (now (padded .entry)) (now (nodes .entry)) (now («leaf_order» .entry)) (now (leaves .entry)) (now (handles .entry))
         (now (materials .entry)) (now (triangles .entry)) (now («plane_floats» .entry)) (now («plane_words» .entry)) (now («plane_triangles» .entry))
         (now («plane_edges» .entry)) in
         ⌜ Walked areas q depth (spec.below (firstsOf areas q) (q .order - depth) (take depth (now (seq .entry))))
@@ -698,7 +699,8 @@ fn square_beyond(far: f32) -> f32
     float::infinity()
 }
 
-// The search from nothing: at most 250,000 images of at most `order` planes, and at most `room` candidates, in rows of `candidate_floats` and `candidate_words`.
+// The search from nothing: at most 250,000 images of at most `order` planes, and at most `room` candidates, in rows of `candidate_floats` and `candidate_words`;
+// what stands past their rows is open.
 pub fn search_images(
     padded: &[f32],
     nodes: &[u32],
@@ -722,11 +724,11 @@ pub fn search_images(
     candidate_floats: &mut [f32],
     candidate_words: &mut [u32],
 ) -> Found
-    requires { ⌜ Lent (now padded) (now nodes) (now «leaf_order») (now leaves) (now handles) «nodes_count» (now materials) (now triangles) n (now «plane_floats»)
+    requires { ⌜ SceneLent (now padded) (now nodes) (now «leaf_order») (now leaves) (now handles) «nodes_count» (now materials) (now triangles) n (now «plane_floats»)
         (now «plane_words») (now «plane_triangles») (now «plane_edges») count ⌝ }
     requires { ⌜ (order ≤ maxOrder) × (count ≤ spec.mostPlanes) × (settings .«crossing_limit» ≤ mostCrossings) ⌝ }
-    requires { ⌜ Rows room (now «candidate_floats») (now «candidate_words») ⌝ }
-    ensures { λ r.
+    requires { ⌜ CandidateRows room (now «candidate_floats») (now «candidate_words») ⌝ }
+    ensures searched { λ r.
         ⌜ ((tri : ℕ → Triangle) (t : Tree) →
         ReadAs (now (padded .entry)) (now (nodes .entry)) (now («leaf_order» .entry)) (now (leaves .entry)) (now (handles .entry)) (now (triangles .entry)) n
         (now («plane_floats» .entry)) (now («plane_words» .entry)) (now («plane_triangles» .entry)) count tri t →
@@ -735,7 +737,9 @@ pub fn search_images(
         order room (outcomesOf settings
         (planesIn (now («plane_floats» .entry)) (now («plane_words» .entry)) (now («plane_triangles» .entry)) (now («plane_edges» .entry)) count) tri t
         (now (materials .entry)) source listener)) ⌝ }
-    ensures { λ r. ⌜ r .found ≤ room ⌝ }
+    ensures few { λ r. ⌜ r .found ≤ room ⌝ }
+    ensures rest { λ _.
+        ⌜ Open (now («candidate_floats» .entry)) (now («candidate_floats» .exit)) × Open (now («candidate_words» .entry)) (now («candidate_words» .exit)) ⌝ }
 {
     if order == 0 {
         return Found {

@@ -18,13 +18,13 @@ use Rattle.geometry.specs.declared.Triangle.{Triangle}
 use Rattle.geometry.specs.Aabb.{two}
 use Rattle.bands.specs.declared.Band8.{Band8}
 use Rattle.bands.specs.Band8.{splatOf, zerosOf, mulOf}
-use Rattle.build.specs.Tree.{Tree}
-use Rattle.trace.specs.declared.Closest.{Closest}
-use Rattle.trace.specs.declared.RayHit.{RayHit}
-use Rattle.trace.specs.declared.Hit.{Hit}
-use Rattle.trace.specs.declared.Hit.the-variants.{Nothing, At}
+use Rattle.tree_build.specs.Tree.{Tree}
+use Rattle.tree_trace.specs.declared.Closest.{Closest}
+use Rattle.tree_trace.specs.declared.RayHit.{RayHit}
+use Rattle.tree_trace.specs.declared.Hit.{Hit}
+use Rattle.tree_trace.specs.declared.Hit.the-variants.{Nothing, At}
 use Rattle.geometry.specs.Slab.{intersectTOf}
-use Rattle.trace.specs.Trace.{traceOf, none, intersectOf}
+use Rattle.tree_trace.specs.Trace.{traceTree, none, intersectOf}
 use Rattle.segments.specs.declared.Transmission.{Transmission}
 use Rattle.segments.specs.Segment.{occlusionEps, probeCount, transmission, segmentRayOf, afterOf, walkOf, segmentTransmissionOf, offsetOf, midOf, probeOf, probesOf, segmentSoftTransmissionOf}
 
@@ -39,7 +39,7 @@ pub hit-handle :
     (tri : ℕ → Triangle) (t : Tree) (ray : Ray) (h : RayHit) (P : ℕ → Type 0) →
     ((i : ℕ) → P (tri i .«material_handle»)) → intersectOf tri ray t ≡ At h → P (h .«material_handle»)
 unfolding intersectOf
-hit-handle tri t ray h P all e = rw e at (found (traceOf intersectTOf tri ray t (none ray)) (eqb (traceOf intersectTOf tri ray t (none ray) .found) 0)) where
+hit-handle tri t ray h P all e = rw e at (found (traceTree intersectTOf tri ray t (none ray)) (eqb (traceTree intersectTOf tri ray t (none ray) .found) 0)) where
   found : (c : Closest) (b : Bool) →
       P (handleOr (tri 0 .«material_handle»)
       (cond b Nothing (At (record { distance = c .distance; point = pointAtOf ray (c .distance); triangle = c .index; «material_handle» = tri (c .index) .«material_handle» }))))

@@ -6,11 +6,11 @@ use mathlib.Core.Path.{_≡_}
 use mathlib.Core.List.{List}
 use Rattle.vector.specs.declared.Ray.{Ray}
 use Rattle.geometry.specs.declared.Triangle.{Triangle}
-use Rattle.build.specs.Tree.{Tree}
-use Rattle.build.specs.Areas.{treeAtOf}
-use Rattle.trace.specs.declared.Hit.{Hit}
-use Rattle.trace.specs.Leaf.{Rows}
-use Rattle.trace.specs.Trace.{intersectOf, paddedTreeOf, Held}
+use Rattle.tree_build.specs.Tree.{Tree}
+use Rattle.tree_build.specs.Areas.{treeAtOf}
+use Rattle.tree_trace.specs.declared.Hit.{Hit}
+use Rattle.tree_trace.specs.Leaf.{LeafRows}
+use Rattle.tree_trace.specs.Trace.{intersectOf, paddedTreeOf, Held}
 use Rattle.segments.specs.Materials.{materialFloats}
 
 -- the trace of a tree over triangles
@@ -19,7 +19,7 @@ traceIn tri t ray = intersectOf tri ray t
 
 -- the areas read as the tree t over the triangles tri
 pub record TreeReads (padded : List Float) (nodes perm : List ℕ) (rows : List Float) (handles : List ℕ) (tri : ℕ → Triangle) (t : Tree) : Type 0 where
-  pub rows-of : Rows tri perm rows
+  pub rows-of : LeafRows tri perm rows
   pub handles-of : (i : ℕ) → tri i .«material_handle» ≡ getD handles i 0
   pub tree-of : treeAtOf padded nodes perm 33 0 ≡ paddedTreeOf t
 

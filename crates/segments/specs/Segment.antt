@@ -15,8 +15,8 @@ use Rattle.geometry.specs.Aabb.{two}
 use Rattle.geometry.specs.Triangle.{half}
 use Rattle.bands.specs.declared.Band8.{Band8}
 use Rattle.bands.specs.Band8.{both, splatOf, zerosOf, mulOf}
-use Rattle.trace.specs.declared.Hit.{Hit}
-use Rattle.trace.specs.declared.Hit.the-variants.{Nothing, At}
+use Rattle.tree_trace.specs.declared.Hit.{Hit}
+use Rattle.tree_trace.specs.declared.Hit.the-variants.{Nothing, At}
 use Rattle.segments.specs.declared.Transmission.{Transmission}
 
 -- `OCCLUSION_EPS`, 1e-3

@@ -1,7 +1,7 @@
 // What is left of a sound along a segment: the product of what each surface on the way lets through, averaged over a bundle of nine probes.
 // Each answer counts the traces made for it. A half segment counts `crossing_limit` crossings, and the probes are set `probe_radius` from the middle.
 use bands::Band8;
-use trace::Hit;
+use tree_trace::Hit;
 use vector::Angle;
 use vector::Basis;
 use vector::Ray;
@@ -11,7 +11,7 @@ ghost use Prim.Native.Nat.{ℕ, _+_, _*_, _^_, _<_, _≤_};
 ghost use lib.ListN.{length};
 ghost use Rattle.vector.specs.Vector.{length3Of, normalize3Of};
 ghost use Rattle.geometry.specs.declared.Triangle.{Triangle};
-ghost use Rattle.build.specs.Tree.{Tree};
+ghost use Rattle.tree_build.specs.Tree.{Tree};
 ghost use Rattle.segments.specs.Materials.{materialFloats, bandsIn, clampedOf, transmissionOf, coefficientOf, coefficientsOf, reflectionOf};
 ghost use Rattle.segments.specs.Segment.{transmission, segmentRayOf, walkOf};
 ghost use Rattle.segments.specs.Segment.{segmentTransmissionOf, offsetOf, midOf, addPartOf, probeOf, segmentSoftTransmissionOf};
@@ -150,7 +150,7 @@ fn walk(
         r ≡ walkOf (traceIn tri t) (transmissionOf (now (materials .entry))) dir left origin remaining product rays) ⌝ }
 {
     if remaining > 2.0 * OCCLUSION_EPS {
-        let Hit::At(hit) = trace::intersect(
+        let Hit::At(hit) = tree_trace::intersect(
             padded,
             nodes,
             leaf_order,

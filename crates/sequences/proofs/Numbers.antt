@@ -50,7 +50,7 @@ is-visited on order = record {
 
 -- ---- numbers
 
-in-at : (l : List (List ℕ)) (i : ℕ) → i < length l → In (getD l i []) l
+pub in-at : (l : List (List ℕ)) (i : ℕ) → i < length l → In (getD l i []) l
 in-at [] i h = absurd (omega arith)
 in-at (s ∷ l) zero h = inl refl
 in-at (s ∷ l) (suc i) h = inr (in-at l i (omega arith))

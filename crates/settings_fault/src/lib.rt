@@ -15,9 +15,9 @@ ghost use Rattle.scene.specs.Limits.{betweenOf, aboveZeroOf, modelNumberOf, air
 ghost use Rattle.settings_fault.specs.Fault.{firstFailed, planesWithin, roomWithin, crossingsWithin};
 ghost use Rattle.settings_fault.specs.Fault.{highAirTests, airTests, probeTests, modelTests, mergeTests, rateTests, settingTests, faultOf};
 
-const MOST_PLANES: u32 = 256;
+const MOST_PLANES: u32 = sequences::MAX_PLANES as u32;
 
-const MOST_CANDIDATES: u32 = 250_000;
+const MOST_CANDIDATES: u32 = sequences::MAX_IMAGE_NODES as u32;
 
 const MOST_COEFFICIENT: u32 = 1_000_000;
 
@@ -25,7 +25,7 @@ const LEAST_TEMPERATURE: f32 = -20.0;
 
 const LEAST_CROSSINGS: u32 = 1;
 
-const MOST_CROSSINGS: u32 = 32;
+const MOST_CROSSINGS: u32 = scene::MOST_CROSSINGS;
 
 // ---- one test
 

@@ -11,16 +11,16 @@ use lib.ListN.{set}
 use Rattle.scene.specs.Scene.{Scene}
 use Rattle.placing.specs.declared.Loaded.{Loaded}
 use Rattle.placing.specs.declared.Loaded.the-variants.{Refused, Triangles}
-use Rattle.placing.specs.Loading.{answerOf, Loading}
+use Rattle.placing.specs.Loading.{loadedOf, Loading}
 use Rattle.placing.proofs.Accepts.{counted}
 use Rattle.stages.specs.Loads.{Loads}
 
 -- a refusal is said with its number, which is not 0
-refused-is : (k j : ℕ) (s : Scene) → Refused j ≡ answerOf k s → j ≡ k
+refused-is : (k j : ℕ) (s : Scene) → Refused j ≡ loadedOf k s → j ≡ k
 refused-is zero j s e = let z : _≡_ {A = ℕ} 0 1 = cc in absurd (omega arith)
 refused-is (suc k) j s e = cc
 
-not-zero : (k j : ℕ) (s : Scene) → Refused j ≡ answerOf k s → k ≡ 0 → ⊥
+not-zero : (k j : ℕ) (s : Scene) → Refused j ≡ loadedOf k s → k ≡ 0 → ⊥
 not-zero zero j s e z = let o : _≡_ {A = ℕ} 0 1 = cc in absurd (omega arith)
 not-zero (suc k) j s e z = omega arith
 

@@ -9,8 +9,8 @@ use mathlib.Core.List.{List, [], _∷_}
 use Rattle.float.specs.Literals.{zero32}
 use Rattle.vector.specs.declared.Ray.{Ray}
 use Rattle.vector.specs.Vector.{vec}
-use Rattle.trace.specs.declared.Hit.{Hit}
-use Rattle.trace.specs.declared.Hit.the-variants.{At, Nothing}
+use Rattle.tree_trace.specs.declared.Hit.{Hit}
+use Rattle.tree_trace.specs.declared.Hit.the-variants.{At, Nothing}
 use Rattle.stages.specs.declared.FlatHit.{FlatHit}
 
 -- origin, direction, least and greatest distance

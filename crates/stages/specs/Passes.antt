@@ -7,12 +7,12 @@ use mathlib.Core.List.{List, [], _∷_}
 use Rattle.scene.specs.Scene.{Mesh}
 use Rattle.placing.specs.declared.Placed.{Placed}
 use Rattle.placing.specs.Corners.{cornersAll}
-use Rattle.placing.specs.Passing.{placedOf, Passed}
+use Rattle.placing.specs.Passing.{placedOf, PassedOver}
 use Rattle.placing.specs.TwoPasses.{refusalOf, keptOf, placingsOf}
 
 pub record Passes
     (ms : List Mesh) (n : ℕ) (columns : List Float) (handles found : List ℕ) (r : ℕ) (columns′ : List Float) (handles′ found′ : List ℕ)
     : Type 0 where
-  pub passed : Passed (cornersAll ms) n columns handles (placedOf (cornersAll ms)) columns′ handles′
+  pub passed : PassedOver (cornersAll ms) n columns handles (placedOf (cornersAll ms)) columns′ handles′
   pub refusal : r ≡ refusalOf (placedOf (cornersAll ms))
   pub counts : found′ ≡ sets found 0 (keptOf (placedOf (cornersAll ms)) ∷ placingsOf (placedOf (cornersAll ms)) ∷ [])

@@ -4,7 +4,7 @@ use lib.Ieee.{Float}
 use mathlib.Core.List.{List}
 use Rattle.vector.specs.declared.Vec3.{Vec3}
 use Rattle.geometry.specs.declared.Triangle.{Triangle}
-use Rattle.build.specs.Tree.{Tree}
+use Rattle.tree_build.specs.Tree.{Tree}
 use Rattle.scene.specs.declared.Settings.{Settings}
 use Rattle.mirror.specs.Plane.{Plane}
 use Rattle.claim.specs.Query.{Search, searched}

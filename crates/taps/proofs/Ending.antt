@@ -2,41 +2,34 @@
 -- writer's answer is then the list's packet (`ended`).
 use Prim.Native.Nat.{ℕ, suc, _+_, _*_, _≤_, _<_}
 use mathlib.Core.Path.{_≡_, refl, sym, ap, subst, _∙_}
-use mathlib.Core.Logic.{inl, inr}
 use mathlib.Core.List.{List, [], _∷_, _++_, map}
 use native.Mathlib.Omega.{arith}
 use lib.ListN.{length, getD, take, drop, length-append}
 use lib.Seq.{sets, take-at, getD-take}
 use lib.Ieee.{Float}
 use Rattle.order.specs.Runs.{upTo}
-use Rattle.order.proofs.Runs.{In, in-upTo}
+use Rattle.order.proofs.Runs.{in-upTo}
 use Rattle.packet.specs.declared.Written.{Written}
 use Rattle.packet.specs.Limits.{mostTaps, tapWords, areaWords, outBytes}
 use Rattle.packet.specs.Tap.{Tap, tapsOf, allWords}
 use Rattle.packet.specs.Writer.{writeAnswer, writeOut, writeLength}
 use Rattle.ranking.specs.declared.Candidate.{Candidate}
-use Rattle.ranking.specs.Lists.{Has}
 use Rattle.ranking.specs.Candidate.{ranked}
 use Rattle.ranking.specs.Rows.{candidateAt, candidatesIn, AllRankable, Ranked}
-use Rattle.taps.specs.Tap.{tapOf, packetOf}
+use Rattle.search.proofs.Answers.{map-has}
+use Rattle.taps.specs.Tap.{sentTap, packetOf}
 use Rattle.taps.specs.Sendable.{Sendable}
 use Rattle.taps.specs.Areas.{tapsAt, Pointing}
 use Rattle.taps.proofs.Storing.{stored-back}
 use Rattle.taps.proofs.Sending.{rankable-of, sent-length, sent-bytes, sent-out}
 
-map-has : (f : ℕ → Candidate) (i : ℕ) (l : List ℕ) → In i l → Has (f i) (map f l)
-unfolding In
-map-has f i [] k = absurd k
-map-has f i (x ∷ l) (inl e) = inl (ap f e)
-map-has f i (x ∷ l) (inr k) = inr (map-has f i l k)
-
 map-length : (f : ℕ → Candidate) (l : List ℕ) → length (map f l) ≡ length l
 map-length f [] = refl
 map-length f (x ∷ l) = ap suc (map-length f l)
 
-map-twice : (f : ℕ → Candidate) (l : List ℕ) → map (λ i. tapOf (f i)) l ≡ map tapOf (map f l)
+map-twice : (f : ℕ → Candidate) (l : List ℕ) → map (λ i. sentTap (f i)) l ≡ map sentTap (map f l)
 map-twice f [] = refl
-map-twice f (x ∷ l) = ap (λ (ts : List Tap). tapOf (f x) ∷ ts) (map-twice f l)
+map-twice f (x ∷ l) = ap (λ (ts : List Tap). sentTap (f x) ∷ ts) (map-twice f l)
 
 -- rows that can be sent can be ranked
 pub sendable-rankable : (images n : ℕ) (fs : List Float) (ws : List ℕ) → Sendable images (candidatesIn n fs ws) → AllRankable n fs ws
@@ -75,11 +68,11 @@ module _ (speed rate : Float) (limit n images : ℕ) (fs : List Float) (ws kept 
         sound = (λ i h. s .sound (candidateAt fs ws i) (map-has (candidateAt fs ws) i (upTo n) (in-upTo n i h)));
       }
 
-  taps-are : tapsAt fs ws r kept′ ≡ map tapOf sent
-  taps-are = ap (map (λ i. tapOf (candidateAt fs ws i))) positions-are ∙ map-twice (candidateAt fs ws) (k .positions) ∙ ap (map tapOf) (k .taps)
+  taps-are : tapsAt fs ws r kept′ ≡ map sentTap sent
+  taps-are = ap (map (λ i. sentTap (candidateAt fs ws i))) positions-are ∙ map-twice (candidateAt fs ws) (k .positions) ∙ ap (map sentTap) (k .taps)
 
   module _ (taps taps′ : List ℕ) (area : areaWords ≤ length taps) (same : length taps′ ≡ length taps) (stored : taps′ ≡ sets taps 0 (allWords (tapsAt fs ws r kept′))) where
-    read : tapsOf r taps′ ≡ map tapOf sent
+    read : tapsOf r taps′ ≡ map sentTap sent
     read = ap (tapsOf r) (stored ∙ ap (λ (ts : List Tap). sets taps 0 (allWords ts)) taps-are) ∙ stored-back sent r taps counted (fewer taps area)
 
     module _ (rays : ℕ) (w : Written) (b : ℕ) (out out′ : List ℕ) (room : outBytes ≤ length out) (answer : w ≡ writeAnswer r images rays taps′ out)

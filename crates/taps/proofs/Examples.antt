@@ -8,7 +8,7 @@ use Rattle.vector.specs.Vector.{vec}
 use Rattle.packet.specs.Tap.{bitMap}
 use Rattle.packet.specs.Bytes.{tapsBytes, gainBytes}
 use Rattle.ranking.specs.declared.Candidate.{Candidate}
-use Rattle.taps.specs.Tap.{tapOf, packetOf}
+use Rattle.taps.specs.Tap.{sentTap, packetOf}
 
 abbrev half : Float
 half = ofBits binary32 0x3f00_0000
@@ -29,5 +29,5 @@ one-tap :
     ≡ 1 ∷ 0 ∷ 1 ∷ 0 ∷ 0 ∷ 0 ∷ 36 ∷ 0 ∷ 0 ∷ 0
     ∷ 127 ∷ 1 ∷ 1 ∷ 0 ∷ 0 ∷ 0 ∷ 0 ∷ 0 ∷ 0 ∷ 0 ∷ 0 ∷ 0 ∷ 0 ∷ 0 ∷ 0 ∷ 0 ∷ 128 ∷ 63 ∷ 0 ∷ 128 ∷ 59 ∷ 68
     ∷ 0 ∷ 0 ∷ 0 ∷ 63 ∷ 0 ∷ 0 ∷ 0 ∷ 63 ∷ 0 ∷ 0 ∷ 0 ∷ 63 ∷ 0 ∷ 0 ∷ 0 ∷ 63 ∷ 0 ∷ 0 ∷ 0 ∷ 63 ∷ 0 ∷ 0 ∷ 0 ∷ 63 ∷ 0 ∷ 0 ∷ 0 ∷ 63 ∷ []
-unfolding tapOf tapsBytes gainBytes bitMap ofBits toBits
+unfolding sentTap tapsBytes gainBytes bitMap ofBits toBits
 one-tap = refl

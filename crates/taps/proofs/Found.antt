@@ -17,13 +17,13 @@ use Rattle.float.specs.Literals.{zero32}
 use Rattle.float.specs.Compare.{isFinite}
 use Rattle.vector.specs.declared.Vec3.{Vec3}
 use Rattle.geometry.specs.declared.Triangle.{Triangle}
-use Rattle.build.specs.Tree.{Tree}
+use Rattle.tree_build.specs.Tree.{Tree}
 use Rattle.scene.specs.declared.Settings.{Settings}
 use Rattle.scene.specs.Limits.{ratesOf, modelNumbersOf}
 use Rattle.mirror.specs.Plane.{Plane}
 use Rattle.sequences.specs.Allowed.{visited}
 use Rattle.sequences.specs.Members.{IsAllowed, IsVisited}
-use Rattle.sequences.proofs.Numbers.{is-visited}
+use Rattle.sequences.proofs.Numbers.{is-visited, in-at}
 use Rattle.packet.specs.Limits.{mostOrder}
 use Rattle.ranking.specs.declared.Candidate.{Candidate}
 use Rattle.ranking.specs.Lists.{Has}
@@ -41,9 +41,10 @@ use Rattle.claim.specs.Answer.{Found, Outcome, fails, passes, found}
 use Rattle.claim.specs.Answer as claimed
 use Rattle.claim.specs.Complete as complete
 use Rattle.claim.specs.Query.{Search, search, searched}
-use Rattle.claim.proofs.Whole.{passed-found, found-once, in-at}
+use Rattle.claim.proofs.Whole.{passed-found, found-once}
 use Rattle.claim.proofs.Searching.{searched-is}
 use Rattle.search.specs.Outcome.{foundOf, byFate, outcomeOf, outcomesOf}
+use Rattle.search.proofs.Answers.{never}
 use Rattle.taps.specs.Sendable.{Plain, Level, Sound, Placed, Sendable}
 
 -- ---- a path
@@ -98,13 +99,6 @@ sound-of c k finite n s =
       energy-is = k .energy-is;
       energy-above = k .energy-above;
     }
-
-abbrev isFail : Outcome → ℕ
-isFail (fails r) = 1
-isFail (passes r f) = 0
-
-never : {A : Type 0} (q r : ℕ) (f : Found) → fails q ≡ passes r f → A
-never q r f e = absurd (let no : _≡_ {A = ℕ} 1 0 = ap isFail e in omega arith)
 
 abbrev whatOf : Found → Outcome → Found
 whatOf d (fails r) = d

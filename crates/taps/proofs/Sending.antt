@@ -14,12 +14,11 @@ use lib.Dec.{T, ltb, eqb, nltb→le, ltb→lt}
 use lib.IntN.{pos}
 use lib.Ieee.{Float, nan, inf, fin, binary32, up, down, lt, eq, fits, isNan, ofBits}
 use lib.Ieee.Bits.{ofBits-toBits, toBits-lt}
-use lib.Ieee.Fits.{up-pos, add-fits}
+use lib.Ieee.Fits.{up-pos}
 use borrow.Author.Tests.{lt-ltb, le-ltb, le-leb, ne-eqb}
 use Rattle.float.specs.Key.{floatKey}
 use Rattle.float.specs.Literals.{zero32}
 use Rattle.float.specs.Compare.{isFinite}
-use Rattle.bands.specs.declared.Band8.{Band8}
 use Rattle.bands.specs.Band8.{sumOfSquaresOf}
 use Rattle.packet.specs.Limits.{mostTaps, mostImages, mostOrder, areaWords, outBytes}
 use Rattle.packet.specs.Floats.{finiteBits, positiveBits, zeroBits}
@@ -35,7 +34,8 @@ use Rattle.ranking.specs.Candidate.{decides, better, ranked, Rankable}
 use Rattle.ranking.specs.Listed.{Once, Listed}
 use Rattle.ranking.proofs.Keys.{lt-key}
 use Rattle.ranking.proofs.Laws.{ranked-listed}
-use Rattle.taps.specs.Tap.{bitsOf, tapOf, packetOf}
+use Rattle.paths.proofs.Numbers.{energy-fits}
+use Rattle.taps.specs.Tap.{bitsOf, sentTap, packetOf}
 use Rattle.taps.specs.Sendable.{Plain, Level, Sound, Placed, Sendable}
 use Rattle.taps.proofs.Storing.{plain-number}
 
@@ -118,8 +118,8 @@ gains-valid (x ∷ xs) h =
 
 -- ---- one tap
 
-floats-valid : (c : Candidate) → Sound c → validFloats (tapOf c) ≡ true
-unfolding tapOf
+floats-valid : (c : Candidate) → Sound c → validFloats (sentTap c) ≡ true
+unfolding sentTap
 floats-valid c s =
     let g = s .gains in
     let x = finite-bits (c .direction .x) (s .x) in
@@ -131,8 +131,8 @@ floats-valid c s =
     (g .l0, (g .l1, (g .l2, (g .l3, (g .l4, (g .l5, (g .l6, (g .l7, tt)))))))) in
     λ i. x i && (y i && (z i && (d i && v i)))
 
-in-range : (images : ℕ) (c : Candidate) → Placed images c → inRange images (tapOf c) ≡ true
-unfolding tapOf
+in-range : (images : ℕ) (c : Candidate) → Placed images c → inRange images (sentTap c) ≡ true
+unfolding sentTap
 in-range images c p =
     let a = le-leb 1 (c .order) (p .order-some) in
     let b = le-leb (c .order) mostOrder (p .order-most) in
@@ -141,8 +141,8 @@ in-range images c p =
     λ i. a i && (b i && (d i && e i))
 
 -- the sum of the gains' squares, by their bits, is the energy
-sum-is : (c : Candidate) → Sound c → squaredGainSum (tapOf c) ≡ c .energy
-unfolding tapOf sumOfSquaresOf
+sum-is : (c : Candidate) → Sound c → squaredGainSum (sentTap c) ≡ c .energy
+unfolding sentTap sumOfSquaresOf
 sum-is c s =
     let g = s .gains in
     let back : (x : Float) → Level x → ofBits binary32 (bitsOf x) ≡ x = λ x l. ofBits-toBits binary32 x (l .plain .held) in
@@ -161,10 +161,6 @@ sum-is c s =
     ∙ sym (s .energy-is)
 
 -- ---- what the ranking asks
-
-energy-fits : (g : Band8) → T (fits binary32 (sumOfSquaresOf g))
-unfolding sumOfSquaresOf
-energy-fits g = add-fits binary32 _ _
 
 above-number : (x : Float) → T (lt leastSum x) → T (not (isNan x))
 unfolding lt isNan ofBits
@@ -187,18 +183,18 @@ rankable-of images c few s p =
 
 -- ---- a list
 
-all-of : (p : Tap → Bool) (cs : List Candidate) → ((c : Candidate) → Has c cs → p (tapOf c) ≡ true) → all p (map tapOf cs) ≡ true
+all-of : (p : Tap → Bool) (cs : List Candidate) → ((c : Candidate) → Has c cs → p (sentTap c) ≡ true) → all p (map sentTap cs) ≡ true
 unfolding all
 all-of p [] h = refl
 all-of p (c ∷ cs) h = (λ i. h c (inl refl) i && all-of p cs (λ d k. h d (inr k)) i)
 
-member-none : (n : ℕ) (cs : List Candidate) → ((d : Candidate) → Has d cs → n ≡ d .number → ⊥) → member n (map numberOf (map tapOf cs)) ≡ false
-unfolding tapOf
+member-none : (n : ℕ) (cs : List Candidate) → ((d : Candidate) → Has d cs → n ≡ d .number → ⊥) → member n (map numberOf (map sentTap cs)) ≡ false
+unfolding sentTap
 member-none n [] h = refl
 member-none n (c ∷ cs) h = (λ i. ne-eqb n (c .number) (h c (inl refl)) i || member-none n cs (λ d k. h d (inr k)) i)
 
-numbers-distinct : (cs : List Candidate) → Once cs → distinct (map numberOf (map tapOf cs)) ≡ true
-unfolding distinct tapOf
+numbers-distinct : (cs : List Candidate) → Once cs → distinct (map numberOf (map sentTap cs)) ≡ true
+unfolding distinct sentTap
 numbers-distinct [] o = refl
 numbers-distinct (c ∷ cs) o = (λ i. not (member-none (c .number) cs (o .0) i) && numbers-distinct cs (o .1) i)
 
@@ -226,7 +222,7 @@ none-exceeds (c ∷ []) r b = refl
 none-exceeds (c ∷ d ∷ cs) r b =
     (λ i. not (better-energy c d (r c (inl refl)) (r d (inr (inl refl))) (b .0 d (inl refl)) i) && none-exceeds (d ∷ cs) (λ e k. r e (inr k)) (b .1) i)
 
-sums-are : (cs : List Candidate) → ((c : Candidate) → Has c cs → Sound c) → map squaredGainSum (map tapOf cs) ≡ map (λ (c : Candidate). c .energy) cs
+sums-are : (cs : List Candidate) → ((c : Candidate) → Has c cs → Sound c) → map squaredGainSum (map sentTap cs) ≡ map (λ (c : Candidate). c .energy) cs
 sums-are [] s = refl
 sums-are (c ∷ cs) s = (λ i. sum-is c (s c (inl refl)) i ∷ sums-are cs (λ d k. s d (inr k)) i)
 
@@ -253,7 +249,7 @@ module _ (speed rate : Float) (limit images : ℕ) (cs : List Candidate) (few : 
   pub sent-length : length sent ≤ limit
   sent-length = simp length-take (omega arith)
 
-  pub ranked-sent : firstFailed (tests (length sent) images (map tapOf sent)) ≡ 0
+  pub ranked-sent : firstFailed (tests (length sent) images (map sentTap sent)) ≡ 0
   ranked-sent =
       let l = sent-length in
       rw (
@@ -267,7 +263,7 @@ module _ (speed rate : Float) (limit images : ℕ) (cs : List Candidate) (few : 
         none-exceeds sent (λ c h. rankable c (among c h)) (listed .best-first),
       )
 
-  module _ (rays count : ℕ) (a out : List ℕ) (e : count ≡ length sent) (t : tapsOf count a ≡ map tapOf sent) (area : areaWords ≤ length a) (room : outBytes ≤ length out) where
+  module _ (rays count : ℕ) (a out : List ℕ) (e : count ≡ length sent) (t : tapsOf count a ≡ map sentTap sent) (area : areaWords ≤ length a) (room : outBytes ≤ length out) where
     not-refused : refusedWrite count images a out ≡ 0
     not-refused = by-tests-write count images rays a out area room ∙ (λ i. firstFailed (tests (e i) images (t i))) ∙ ranked-sent
 

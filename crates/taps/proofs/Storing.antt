@@ -19,7 +19,7 @@ use Rattle.packet.specs.Tap as area
 use Rattle.packet.proofs.Runs.{goes-on, sets-front, sets-six}
 use Rattle.ranking.specs.declared.Candidate.{Candidate}
 use Rattle.ranking.specs.Rows.{candidateAt, candidateFloats, candidateWords}
-use Rattle.taps.specs.Tap.{bitsOf, gainBits, tapOf}
+use Rattle.taps.specs.Tap.{bitsOf, gainBits, sentTap}
 use Rattle.taps.specs.Sendable.{Plain}
 use Rattle.taps.specs.Areas.{gainsAt}
 
@@ -54,8 +54,8 @@ pub tap-stored :
     l′
     ≡ sets (set (set (set (set (set (set l at (getD ws (i * candidateWords) 0)) (at + 1) (getD ws (i * candidateWords + 1) 0)) (at + 2) x) (at + 3) y) (at + 4) z) (at + 5) d)
     (at + fixedWords) (gainBits (gainsAt fs (i * candidateFloats))) →
-    l′ ≡ sets l at (wordsOf (tapOf (candidateAt fs ws i)))
-unfolding tapOf candidateAt
+    l′ ≡ sets l at (wordsOf (sentTap (candidateAt fs ws i)))
+unfolding sentTap candidateAt
 tap-stored fs ws i at l l′ x y z d ex ey ez ed e =
     let o : ℕ = getD ws (i * candidateWords) 0 in
     let n : ℕ = getD ws (i * candidateWords + 1) 0 in
@@ -64,18 +64,18 @@ tap-stored fs ws i at l l′ x y z d ex ey ez ed e =
 
 -- ---- the taps in turn
 
-words-length : (c : Candidate) → length (wordsOf (tapOf c)) ≡ tapWords
-unfolding tapOf
+words-length : (c : Candidate) → length (wordsOf (sentTap c)) ≡ tapWords
+unfolding sentTap
 words-length c = refl
 
 module _ (fs : List Float) (ws : List ℕ) where
   -- the taps from the k-th on
   abbrev pub tapsFrom : ℕ → List ℕ → ℕ → List Tap
-  tapsFrom count positions k = map (λ i. tapOf (candidateAt fs ws i)) (drop k (take count positions))
+  tapsFrom count positions k = map (λ i. sentTap (candidateAt fs ws i)) (drop k (take count positions))
 
   pub taps-step :
       (count : ℕ) (positions : List ℕ) (k : ℕ) (l l′ final : List ℕ) → k < count → count ≤ length positions →
-      l′ ≡ sets l (k * tapWords) (wordsOf (tapOf (candidateAt fs ws (getD positions k 0)))) →
+      l′ ≡ sets l (k * tapWords) (wordsOf (sentTap (candidateAt fs ws (getD positions k 0)))) →
       sets l (k * tapWords) (allWords (tapsFrom count positions k)) ≡ final → sets l′ ((k + 1) * tapWords) (allWords (tapsFrom count positions (k + 1))) ≡ final
   unfolding allWords
   taps-step count positions k l l′ final h room e f =
@@ -85,8 +85,8 @@ module _ (fs : List Float) (ws : List ℕ) where
       let cons : drop k (take count positions) ≡ getD positions k 0 ∷ drop (k + 1) (take count positions) = (
       drop-cons (take count positions) k 0 (omega arith)
       ∙ (λ j. getD-take count positions k 0 h j ∷ drop (sym (add-one k) j) (take count positions))) in
-      sym (goes-on l l′ (k * tapWords) ((k + 1) * tapWords) (wordsOf (tapOf c)) (allWords (tapsFrom count positions (k + 1))) e (omega arith))
-      ∙ sym (ap (λ (is : List ℕ). sets l (k * tapWords) (allWords (map (λ i. tapOf (candidateAt fs ws i)) is))) cons)
+      sym (goes-on l l′ (k * tapWords) ((k + 1) * tapWords) (wordsOf (sentTap c)) (allWords (tapsFrom count positions (k + 1))) e (omega arith))
+      ∙ sym (ap (λ (is : List ℕ). sets l (k * tapWords) (allWords (map (λ i. sentTap (candidateAt fs ws i)) is))) cons)
       ∙ f
 
   pub taps-done :
@@ -95,26 +95,26 @@ module _ (fs : List Float) (ws : List ℕ) where
   unfolding allWords
   taps-done count positions k l final h room f =
       let len = length-take-le count positions room in
-      sym (ap (λ (is : List ℕ). sets l (k * tapWords) (allWords (map (λ i. tapOf (candidateAt fs ws i)) is))) (drop-of-length-le (take count positions) {i = k} (omega arith)))
+      sym (ap (λ (is : List ℕ). sets l (k * tapWords) (allWords (map (λ i. sentTap (candidateAt fs ws i)) is))) (drop-of-length-le (take count positions) {i = k} (omega arith)))
       ∙ f
 
 -- ---- read back
 
-read-back : (cs : List Candidate) (r : List ℕ) → tapsOf (length cs) (allWords (map tapOf cs) ++ r) ≡ map tapOf cs
-unfolding tapsOf allWords area.tapOf tapOf
+read-back : (cs : List Candidate) (r : List ℕ) → tapsOf (length cs) (allWords (map sentTap cs) ++ r) ≡ map sentTap cs
+unfolding tapsOf allWords area.storedTap sentTap
 read-back [] r = refl
-read-back (c ∷ cs) r = ap (λ (ts : List Tap). tapOf c ∷ ts) (read-back cs r)
+read-back (c ∷ cs) r = ap (λ (ts : List Tap). sentTap c ∷ ts) (read-back cs r)
 
-all-length : (cs : List Candidate) → length (allWords (map tapOf cs)) ≡ length cs * tapWords
+all-length : (cs : List Candidate) → length (allWords (map sentTap cs)) ≡ length cs * tapWords
 unfolding allWords
 all-length [] = refl
 all-length (c ∷ cs) =
     let w = words-length c in
     let r = all-length cs in
-    length-append (wordsOf (tapOf c)) (allWords (map tapOf cs)) ∙ (let e : length (wordsOf (tapOf c)) + length (allWords (map tapOf cs)) ≡ suc (length cs) * tapWords = omega arith in e)
+    length-append (wordsOf (sentTap c)) (allWords (map sentTap cs)) ∙ (let e : length (wordsOf (sentTap c)) + length (allWords (map sentTap cs)) ≡ suc (length cs) * tapWords = omega arith in e)
 
-pub stored-back : (cs : List Candidate) (n : ℕ) (l : List ℕ) → n ≡ length cs → n * tapWords ≤ length l → tapsOf n (sets l 0 (allWords (map tapOf cs))) ≡ map tapOf cs
+pub stored-back : (cs : List Candidate) (n : ℕ) (l : List ℕ) → n ≡ length cs → n * tapWords ≤ length l → tapsOf n (sets l 0 (allWords (map sentTap cs))) ≡ map sentTap cs
 stored-back cs n l e h =
     let w = all-length cs in
-    ap (tapsOf n) (sets-front l (allWords (map tapOf cs)) (omega arith)) ∙ ap (λ (m : ℕ). tapsOf m (allWords (map tapOf cs) ++ drop (length (allWords (map tapOf cs))) l)) e
-    ∙ read-back cs (drop (length (allWords (map tapOf cs))) l)
+    ap (tapsOf n) (sets-front l (allWords (map sentTap cs)) (omega arith)) ∙ ap (λ (m : ℕ). tapsOf m (allWords (map sentTap cs) ++ drop (length (allWords (map sentTap cs))) l)) e
+    ∙ read-back cs (drop (length (allWords (map sentTap cs))) l)

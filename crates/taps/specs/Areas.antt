@@ -7,7 +7,7 @@ use Rattle.bands.specs.declared.Band8.{Band8}
 use Rattle.packet.specs.Limits.{mostTaps, outBytes}
 use Rattle.packet.specs.Tap.{Tap}
 use Rattle.ranking.specs.Rows.{Sortable, candidateAt, candidatesIn}
-use Rattle.taps.specs.Tap.{tapOf}
+use Rattle.taps.specs.Tap.{sentTap}
 use Rattle.taps.specs.Sendable.{Sound, Sendable}
 
 -- the gains of a row that starts at p
@@ -26,7 +26,7 @@ gainsAt fs p =
 
 -- the taps of the rows at the first `count` positions
 abbrev pub tapsAt : List Float → List ℕ → ℕ → List ℕ → List Tap
-tapsAt fs ws count positions = map (λ i. tapOf (candidateAt fs ws i)) (take count positions)
+tapsAt fs ws count positions = map (λ i. sentTap (candidateAt fs ws i)) (take count positions)
 
 -- the first `count` positions are those of rows that are sound
 pub record Pointing (n count : ℕ) (fs : List Float) (ws positions : List ℕ) : Type 0 where

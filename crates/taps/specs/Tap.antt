@@ -17,8 +17,8 @@ gainBits g =
     bitsOf (g .b0) ∷ bitsOf (g .b1) ∷ bitsOf (g .b2) ∷ bitsOf (g .b3) ∷ bitsOf (g .b4) ∷ bitsOf (g .b5) ∷ bitsOf (g .b6) ∷ bitsOf (g .b7) ∷ []
 
 -- "a bit map first .., order (1), number (4), direction (12), delay (4)", and the gains
-unfoldable pub tapOf : Candidate → Tap
-tapOf c =
+unfoldable pub sentTap : Candidate → Tap
+sentTap c =
     record {
       bits = bitMap (gainBits (c .gains));
       order = c .order;
@@ -32,4 +32,4 @@ tapOf c =
 
 -- the packet of the candidates in turn
 abbrev pub packetOf : ℕ → ℕ → List Candidate → List ℕ
-packetOf images rays cs = encode images rays (map tapOf cs)
+packetOf images rays cs = encode images rays (map sentTap cs)

@@ -13,8 +13,8 @@ ghost use Rattle.packet.specs.Limits.{mostTaps, tapWords, fixedWords, areaWords
 ghost use Rattle.packet.specs.Tap.{wordsOf, allWords};
 ghost use Rattle.packet.specs.Writer.{writeLength};
 ghost use Rattle.ranking.specs.Candidate.{ranked};
-ghost use Rattle.ranking.specs.Rows.{candidateFloats, candidateAt, candidatesIn, Rows};
-ghost use Rattle.taps.specs.Tap.{bitsOf, gainBits, tapOf, packetOf};
+ghost use Rattle.ranking.specs.Rows.{candidateFloats, candidateAt, candidatesIn, CandidateRows};
+ghost use Rattle.taps.specs.Tap.{bitsOf, gainBits, sentTap, packetOf};
 ghost use Rattle.taps.specs.Sendable.{Level8, Sound};
 ghost use Rattle.taps.specs.Areas.{gainsAt, tapsAt, Pointing, Sends};
 
@@ -64,12 +64,12 @@ fn put_tap(
     taps: &mut [u32],
     k: usize,
 )
-    requires { ⌜ Rows n (now «candidate_floats») (now «candidate_words») ⌝ }
+    requires { ⌜ CandidateRows n (now «candidate_floats») (now «candidate_words») ⌝ }
     requires { ⌜ (i < n) × (k * tapWords + tapWords ≤ length (now taps)) ⌝ }
     requires { ⌜ Sound (candidateAt (now «candidate_floats») (now «candidate_words») i) ⌝ }
     ensures { λ _.
         ⌜ now (taps .exit) ≡
-        sets (now (taps .entry)) (k * tapWords) (wordsOf (tapOf (candidateAt (now («candidate_floats» .entry)) (now («candidate_words» .entry)) i))) ⌝ }
+        sets (now (taps .entry)) (k * tapWords) (wordsOf (sentTap (candidateAt (now («candidate_floats» .entry)) (now («candidate_words» .entry)) i))) ⌝ }
 {
     let p = i * CANDIDATE_FLOATS;
     let at = k * TAP_WORDS;
@@ -91,7 +91,7 @@ fn put_taps(
     count: usize,
     taps: &mut [u32],
 )
-    requires { ⌜ Rows n (now «candidate_floats») (now «candidate_words») ⌝ }
+    requires { ⌜ CandidateRows n (now «candidate_floats») (now «candidate_words») ⌝ }
     requires { ⌜ Pointing n count (now «candidate_floats») (now «candidate_words») (now positions) ⌝ }
     requires { ⌜ count * tapWords ≤ length (now taps) ⌝ }
     ensures { λ _.

@@ -9,6 +9,7 @@ use lib.ListN.{length, getD, take, drop, drop-of-length-le}
 use lib.Seq.{drop-cons, take-suc, take-all}
 use lib.Dec.{eqb}
 use borrow.Author.Tests.{eq-eqb, ne-eqb}
+use Rattle.text.specs.Lines.{lineLength}
 use Rattle.text.specs.Numbers.{wordEnd, push, pointAt, hexDigit, allHex}
 
 -- a fold over the bytes passed, with one byte more
@@ -48,6 +49,29 @@ module _ (l : List ℕ) (i : ℕ) where
   pub point-end : length l ≤ i → i + pointAt (drop i l) ≡ pointAt l → i ≡ pointAt l
   unfolding pointAt
   point-end h inv = let z : pointAt (drop i l) ≡ 0 = ap pointAt (drop-of-length-le l h) in omega arith
+
+-- ---- a line's end
+
+module _ (l : List ℕ) (i m : ℕ) where
+  pub line-here : i < length l → i + lineLength (drop i l) ≡ m → getD l i 0 ≡ 10 → i + 1 ≡ m
+  unfolding lineLength
+  line-here h inv e =
+      let z : lineLength (drop i l) ≡ 1 =
+      ap lineLength (drop-cons l i 0 h) ∙ ap (λ (b : Bool). suc (cond b 0 (lineLength (drop (suc i) l)))) (eq-eqb (getD l i 0) 10 e) in
+      omega arith
+
+  pub line-on : i < length l → i + lineLength (drop i l) ≡ m → (getD l i 0 ≡ 10 → ⊥) → i + 1 + lineLength (drop (i + 1) l) ≡ m
+  unfolding lineLength
+  line-on h inv e =
+      let z : lineLength (drop i l) ≡ suc (lineLength (drop (i + 1) l)) =
+      ap lineLength (drop-cons l i 0 h)
+      ∙ ap (λ (b : Bool). suc (cond b 0 (lineLength (drop (suc i) l)))) (ne-eqb (getD l i 0) 10 e)
+      ∙ ap (λ (n : ℕ). suc (lineLength (drop n l))) (sym (add-one i)) in
+      omega arith
+
+  pub line-last : length l ≤ i → i + lineLength (drop i l) ≡ m → i ≡ m
+  unfolding lineLength
+  line-last h inv = let z : lineLength (drop i l) ≡ 0 = ap lineLength (drop-of-length-le l h) in omega arith
 
 -- ---- hexadecimal digits
 

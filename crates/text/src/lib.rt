@@ -1,18 +1,20 @@
-// Text that a person writes and reads: tokens with their lines, whole numbers, floats as decimals or by their bits, and numbers with a fixed
-// count of decimals.
+// Text that a person writes and reads: bytes and lines, tokens with their lines, whole numbers, hexadecimal digits, floats as decimals or by
+// their bits, and numbers with a fixed count of decimals.
 //
-// Proved: `whole`, `decimal`, `float_in` and `float_of` answer exactly what specs/Numbers.antt says of the bytes, what is no number included, and
-// `put_fixed` writes the bytes of specs/Fixed.antt and no others. Of tokens it is proved that they lie within the text.
+// Proved: `whole`, `decimal`, `float_in`, `float_of` and `hex_digit` answer exactly what specs/Numbers.antt says of the bytes, what is no number
+// included, `line_end` what specs/Lines.antt says, and `put_fixed` writes the bytes of specs/Fixed.antt and no others. Of tokens it is proved
+// that they lie within the text.
 ghost use mathlib.Core.Path.{_≡_};
 ghost use mathlib.Core.Bool.{true};
 ghost use mathlib.Core.List.{foldl};
-ghost use Prim.Native.Nat.{_+_, _^_, _≤_, _<_, min};
-ghost use lib.ListN.{length};
+ghost use Prim.Native.Nat.{_+_, _/_, _^_, _≤_, _<_, min};
+ghost use lib.ListN.{length, getD, set, drop};
 ghost use lib.Ieee.{binary32, ofBits};
 ghost use Rattle.listing.specs.Request.{isDigit, isDecimal};
 ghost use Rattle.listing.specs.Text.{Wrote};
 ghost use Rattle.text.specs.Numbers as numbers;
 ghost use Rattle.text.specs.Fixed as fixed;
+ghost use Rattle.text.specs.Lines.{lineLength};
 use listing::is_decimal;
 use listing::put;
 use listing::put_digits;
@@ -43,6 +45,34 @@ pub enum Word {
 pub enum Number {
     Real(f32),
     NoReal,
+}
+
+// ---- bytes and lines
+
+// The byte at place k; past the end, `other`.
+pub fn byte_at(s: &[u8], k: usize, other: u8) -> u8
+    ensures { λ r. ⌜ r ≡ getD (now (s .entry)) k other ⌝ }
+{
+    if k < s.len() {
+        return s[k];
+    }
+    other
+}
+
+// The place after the line that `at` is in.
+pub fn line_end(s: &[u8], at: usize) -> usize
+    requires { ⌜ at < length (now s) ⌝ }
+    ensures { λ r. ⌜ r ≡ at + lineLength (drop at (now (s .entry))) ⌝ }
+    ensures within { λ r. ⌜ (at < r) × (r ≤ length (now (s .entry))) ⌝ }
+{
+    let mut i = at;
+    while i < s.len() {
+        if s[i] == b'\n' {
+            return i + 1;
+        }
+        i += 1;
+    }
+    i
 }
 
 // ---- whole numbers
@@ -217,7 +247,7 @@ fn decimal(word: &[u8]) -> Number
 // ---- floats by their bits
 
 // The value of a hexadecimal digit, 16 for another byte.
-fn hex_digit(b: u8) -> u8
+pub fn hex_digit(b: u8) -> u8
     ensures { λ r. ⌜ r ≡ numbers.hexDigit b ⌝ }
 {
     if b < b'0' {
@@ -253,6 +283,16 @@ fn push_hex(n: u32, b: u8) -> u32
     ensures { λ r. ⌜ r ≡ numbers.pushHex n b ⌝ }
 {
     n % 0x1000_0000 * 16 + (hex_digit(b) % 16) as u32
+}
+
+// Hexadecimal digit number k of words, eight to a word; nothing where there is no such word.
+pub fn put_hex(words: &mut [u32], k: usize, b: u8)
+    ensures { λ _. ⌜ now (words .exit) ≡ set (now (words .entry)) (k / 8) (numbers.pushHex (getD (now (words .entry)) (k / 8) 0) b) ⌝ }
+{
+    let i = k / 8;
+    if i < words.len() {
+        words[i] = push_hex(words[i], b);
+    }
 }
 
 // The last eight digits as a number.

@@ -13,17 +13,17 @@ use lib.ListN.{length, getD, take, length-map, length-take}
 use Rattle.vector.specs.declared.Vec3.{Vec3}
 use Rattle.vector.specs.declared.Ray.{Ray}
 use Rattle.geometry.specs.declared.Triangle.{Triangle}
-use Rattle.patches.specs.Triangles.{triangleAt}
-use Rattle.buried.specs.Probe.{probeOf}
+use Rattle.planes_patches.specs.Triangles.{triangleAt}
+use Rattle.planes_buried.specs.Probe.{probeOf}
 use Rattle.scene.specs.declared.Settings.{Settings}
 use Rattle.scene.specs.Speed.{speedOf}
 use Rattle.scene_bvh.specs.SceneTree.{treeOf}
 use Rattle.placing.specs.Corners.{triangles}
 use Rattle.placing.specs.Loading.{firstRefusal}
 use Rattle.mirror.specs.Plane.{Plane, planeAt}
-use Rattle.groups.specs.Settings as groups
-use Rattle.importance.specs.Importance.{rankingOf, rankedOf}
-use Rattle.borders.specs.Border.{borderedOf}
+use Rattle.planes_groups.specs.Settings as groups
+use Rattle.planes_importance.specs.Importance.{rankingOf, rankedOf}
+use Rattle.planes_borders.specs.Border.{borderedOf}
 use Rattle.planes.specs.Build.{planeSettings, planesOf, groupPlanesOf, openPatchesOf}
 use Rattle.bounces.specs.Image.{liesOnOf}
 use Rattle.sequences.specs.Allowed.{mostOrder, mostPlanes}

@@ -19,12 +19,12 @@ use Rattle.answer.specs.Query.{pathFor}
 use Rattle.answer.specs.declared.Answered.{Answered}
 use Rattle.query.specs.Areas.{Work}
 use Rattle.query.specs.Trace.{callOf, Traced}
-use Rattle.numbering.specs.Walls.{found, answerOf}
+use Rattle.numbering.specs.Walls.{found, sequenceAnswer}
 
 -- `sequence_of` takes t's number; the path by way of the walls that it answers passes, and what that path gives is t
 pub record NumberedWalls (on : List ℕ) (order : ℕ) (path : List ℕ → Outcome) (t : Candidate) : Type 0 where
   pub walls : List ℕ
-  pub answer : answerOf (length on) order on (t .number) ≡ found walls
+  pub answer : sequenceAnswer (length on) order on (t .number) ≡ found walls
   pub rays : ℕ
   pub what : Found
   pub passing : path walls ≡ passes rays what

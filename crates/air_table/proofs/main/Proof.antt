@@ -1,4 +1,4 @@
--- `air_table::main` is safe and ends.
+-- `air_table::main` is safe and ends: s is at most 400, and each turn brings it nearer.
 use borrow.Author.Needs.{needs}
 use Prim.Native.Nat.{_+_, _-_, _≤_, _<_}
 use mathlib.Core.Path.{_≡_, refl, sym, _∙_}

@@ -1,3 +1,4 @@
+-- `answer::send` meets its contract: the refusal handed in, refusal 7, or the ranked candidates as a packet.
 use mathlib.Core.Path.{_≡_, refl, sym, ap, _∙_}
 use borrow.Author.Needs.{needs}
 use Prim.Native.Nat.{ℕ}
@@ -13,8 +14,6 @@ use Rattle.answer.proofs.Answering.{over-answer, given-answer, sent-ans
 use Rattle.answer.proofs.send.Statement.{statement}
 use Rattle.answer.proofs.send.Tie as tie
 
--- `answer::send` meets its contract: the refusal handed in, refusal 7, or the ranked candidates as a packet.
-
 returns : tie.Need-returns
 returns c = let a = c .before .before .before .before .before .before .before .before .before .args in let f = a .found in let st = a .settings in
     let w = claim.search (f .images) (f .rays) (candidatesIn (f .found) (a .candidate-floats .now) (a .candidate-words .now)) (f .over) in
@@ -29,11 +28,17 @@ returns-2 c = let a = c .before .before .before .before .before .before .before 
     record { answer = c .refused2 .ensures ∙ ap answeredOf e; output = ap (λ (q : Query). outputOf q (a .out .now)) e }
 
 write-taps-requires : tie.Need-write-taps-requires
-write-taps-requires c κs = let a = c .before .before .before .before .before .before .before .before .before .before .before .before .before .before .before .before .args in let f = a .found in
-    sends-limit (f .found) (limitOf (a .settings)) (c .before .before .before .before .before .before .list-limit .result) (f .images) (a .candidate-floats .now) (a .candidate-words .now) (a .keys .now) (a .queue .now) (a .words .now) (a .scratch .now) (a .out .now) (c .before .before .before .before .before .before .list-limit .ensures) (c .before .before .before .before .before .before .before .before .before .before .before .before .before .before .before .before .pre (c .before .before .before .before .before .before .before .before .if1 .left))
+write-taps-requires c κs =
+    let b16 = c .before .before .before .before .before .before .before .before .before .before .before .before .before .before .before .before in
+    let a = b16 .args in let f = a .found in
+    sends-limit (f .found) (limitOf (a .settings)) (c .before .before .before .before .before .before .list-limit .result) (f .images) (a .candidate-floats .now) (a .candidate-words .now) (a .keys .now) (a .queue .now) (a .words .now) (a .scratch .now) (a .out .now) (c .before .before .before .before .before .before .list-limit .ensures) (b16 .pre
+    (c .before .before .before .before .before .before .before .before .if1 .left))
 
 returns-3 : tie.Need-returns-3
-returns-3 c = let a = c .before .before .before .before .before .before .before .before .before .before .before .before .before .before .before .before .before .before .before .before .before .before .before .before .before .before .before .args in let f = a .found in let st = a .settings in let limit = c .before .before .before .before .before .before .before .before .before .before .before .before .before .before .before .before .before .list-limit .result in let v = c .before .before .before .before .before .before .before .before .before .before .before .before .before .before .before .before .speed-of-sound in let t = c .before .before .before .before .before .before .before .before .before .before .write-taps in
+returns-3 c =
+    let a = c .before .before .before .before .before .before .before .before .before .before .before .before .before .before .before .before .before .before .before .before .before .before .before .before .before .before .before .args in let f = a .found in let st = a .settings in let limit = c .before .before .before .before .before .before .before .before .before
+    .before .before .before .before .before .before .before .before .list-limit .result in let v = c .before .before .before .before .before
+    .before .before .before .before .before .before .before .before .before .before .before .speed-of-sound in let t = c .before .before .before .before .before .before .before .before .before .before .write-taps in
     let cs = candidatesIn (f .found) (a .candidate-floats .now) (a .candidate-words .now) in
     let w = claim.search (f .images) (f .rays) cs (f .over) in
     let q = ended (speedOf (st .«temperature_celsius»)) (st .«sample_rate») (limitOf st) w in

@@ -1,4 +1,4 @@
--- `exports::curve_of` meets its contract: by its one test.
+-- `arguments::curve_of` meets its contract: by its one test.
 use borrow.Author.Tests.{eq-eqb, ne-eqb}
 use Rattle.arguments.specs.Model.{curveOf}
 use Rattle.arguments.proofs.curve_of.Statement.{statement}

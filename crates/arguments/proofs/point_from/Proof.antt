@@ -1,4 +1,4 @@
--- `exports::point_from` meets its contract: by computation.
+-- `arguments::point_from` meets its contract: by computation.
 use mathlib.Core.Path.{refl}
 use borrow.Author.Needs.{needs}
 use Rattle.arguments.specs.Point.{pointFrom}

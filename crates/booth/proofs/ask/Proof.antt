@@ -1,10 +1,9 @@
+-- `booth::ask` meets its contract: each part is within its area.
 use native.Mathlib.Omega.{arith}
 use mathlib.Core.Path.{sym}
 use lib.Seq.{length-take-le}
 use Rattle.booth.proofs.ask.Statement.{statement}
 use Rattle.booth.proofs.ask.Tie as tie
-
--- `booth::ask` meets its contract: each part is within its area.
 
 mul-rows : tie.Need-mul-rows
 mul-rows c = omega (arith, c .limited .ensures)
@@ -19,19 +18,28 @@ mul-coordinates : tie.Need-mul-coordinates
 mul-coordinates c = omega (arith, c .limited4 .ensures)
 
 slice-aggregate-trace-and-name : tie.Need-slice-aggregate-trace-and-name
-slice-aggregate-trace-and-name c = sym (length-take-le _ _ (omega (arith, c .before .before .before .before .before .before .before .before .before .before .before .limited2 .ensures, c .before .before .before .before .before .before .before .before .before .before .before .before .before .before .before .before .before .before .before .before .before .before .before .before .before .before .before .before .pre .0)))
+slice-aggregate-trace-and-name c = sym (length-take-le _ _ (omega
+    (arith, c .before .before .before .before .before .before .before .before .before .before .before .limited2 .ensures, c .before .before .before .before .before .before .before .before .before .before .before .before .before .before .before .before .before .before .before .before .before .before .before .before .before .before .before .before .pre .0)))
 
 slice-aggregate-trace-and-name-2 : tie.Need-slice-aggregate-trace-and-name-2
-slice-aggregate-trace-and-name-2 c = sym (length-take-le _ _ (omega (arith, c .before .before .before .before .before .before .before .before .before .before .limited3 .ensures, c .before .before .before .before .before .before .before .before .before .before .before .before .before .before .before .before .before .before .before .before .before .before .before .before .before .before .before .before .before .pre .1)))
+slice-aggregate-trace-and-name-2 c = sym (length-take-le _ _ (omega
+    (arith, c .before .before .before .before .before .before .before .before .before .before .limited3 .ensures, c .before .before .before .before .before .before .before .before .before .before .before .before .before .before .before .before .before .before .before .before .before .before .before .before .before .before .before .before .before .pre .1)))
 
 slice-aggregate-trace-and-name-3 : tie.Need-slice-aggregate-trace-and-name-3
-slice-aggregate-trace-and-name-3 c = sym (length-take-le _ _ (omega (arith, c .before .before .before .before .before .before .before .before .before .limited4 .ensures, c .before .before .before .before .before .before .before .before .before .before .before .before .before .before .before .before .before .before .before .before .before .before .before .before .before .before .before .before .before .before .pre .2)))
+slice-aggregate-trace-and-name-3 c = sym (length-take-le _ _ (omega
+    (arith, c .before .before .before .before .before .before .before .before .before .limited4 .ensures, c .before .before .before .before .before .before .before .before .before .before .before .before .before .before .before .before .before .before .before .before .before .before .before .before .before .before .before .before .before .before .pre .2)))
 
 slice-aggregate-trace-and-name-4 : tie.Need-slice-aggregate-trace-and-name-4
-slice-aggregate-trace-and-name-4 c = sym (length-take-le _ _ (omega (arith, c .before .before .before .before .before .before .before .before .limited5 .ensures, c .before .before .before .before .before .before .before .before .before .before .before .before .before .before .before .before .before .before .before .before .before .before .before .before .before .before .before .before .before .before .before .pre .3)))
+slice-aggregate-trace-and-name-4 c = sym (length-take-le _ _ (omega
+    (arith, c .before .before .before .before .before .before .before .before .limited5 .ensures, c .before .before .before .before .before .before .before .before .before .before .before .before .before .before .before .before .before .before .before .before .before .before .before .before .before .before .before .before .before .before .before .pre .3)))
 
 slice-aggregate-trace-and-name-5 : tie.Need-slice-aggregate-trace-and-name-5
-slice-aggregate-trace-and-name-5 c = sym (length-take-le _ _ (omega (arith, c .before .before .before .before .before .before .before .before .before .before .before .before .before .before .before .before .before .limited .ensures, c .before .before .before .before .before .before .before .before .before .before .before .before .before .before .before .before .before .before .before .before .before .before .before .before .before .before .before .before .before .before .before .before .pre .4)))
+slice-aggregate-trace-and-name-5 c = sym (length-take-le _ _ (omega (
+  arith,
+  c .before .before .before .before .before .before .before .before .before .before .before .before .before .before .before .before .before .limited .ensures,
+  c .before .before .before .before .before .before .before .before .before .before .before .before .before .before .before .before .before .before .before .before .before .before .before .before .before
+      .before .before .before .before .before .before .before .pre .4,
+)))
 
 same-length : tie.Need-same-length
 same-length c = c .before .before .before .before .before .before .before .before .trace-and-name .kept .0

@@ -1,8 +1,7 @@
+-- `booth::describe` meets its contract: the planes have room in their areas.
 use borrow.Author.Needs.{needs}
 use Rattle.booth.proofs.describe.Statement.{statement}
 use Rattle.booth.proofs.describe.Tie as tie
-
--- `booth::describe` meets its contract: the planes have room in their areas.
 
 pub describe-spec : {M : Type 1} → statement M
 describe-spec =

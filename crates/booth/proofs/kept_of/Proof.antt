@@ -1,10 +1,9 @@
+-- `booth::kept_of` meets its contract: each part is within the scene.
 use borrow.Author.Needs.{needs}
 use mathlib.Core.Path.{sym}
 use lib.Seq.{length-take-le}
 use Rattle.booth.proofs.kept_of.Statement.{statement}
 use Rattle.booth.proofs.kept_of.Tie as tie
-
--- `booth::kept_of` meets its contract: each part is within the scene.
 
 pub kept-of-spec : {M : Type 1} → statement M
 kept-of-spec =

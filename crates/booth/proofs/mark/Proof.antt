@@ -1,11 +1,10 @@
+-- `booth::mark` meets its contract: the part is within the bytes, and has as many as there are planes.
 use borrow.Author.Needs.{needs}
 use mathlib.Core.Path.{sym}
 use native.Mathlib.Omega.{arith}
 use lib.Seq.{length-take-le}
 use Rattle.booth.proofs.mark.Statement.{statement}
 use Rattle.booth.proofs.mark.Tie as tie
-
--- `booth::mark` meets its contract: the part is within the bytes, and has as many as there are planes.
 
 slice-aggregate-mark-planes : tie.Need-slice-aggregate-mark-planes
 slice-aggregate-mark-planes c = sym (length-take-le _ _ (c .before .if1 .taken))

@@ -1,8 +1,7 @@
+-- `booth::name_walls` meets its contract: each area has its length, and the planes have room in theirs.
 use mathlib.Core.Path.{sym, _∙_}
 use Rattle.booth.proofs.name_walls.Statement.{statement}
 use Rattle.booth.proofs.name_walls.Tie as tie
-
--- `booth::name_walls` meets its contract: each area has its length, and the planes have room in theirs.
 
 slice-aggregate-planes-of : tie.Need-slice-aggregate-planes-of
 slice-aggregate-planes-of c = sym (c .before .before .before .before .before .before .before .before .before .before .before .before .before .before .before .before .before .before .before .before .before .before .fresh-triangles .ensures)
@@ -56,7 +55,9 @@ slice-aggregate-planes-of-17 : tie.Need-slice-aggregate-planes-of-17
 slice-aggregate-planes-of-17 c = sym (c .before .before .before .before .before .before .before .before .before .before .before .before .before .before .before .before .before .before .before .before .before .before .before .before .fresh-plane-edges .ensures)
 
 slice-aggregate-describe : tie.Need-slice-aggregate-describe
-slice-aggregate-describe c = sym (c .before .before .before .before .before .before .before .before .before .before .before .before .before .before .before .before .before .before .before .before .before .before .before .before .before .planes-of .kept .1 .1 .1 .1 .1 .1 .1 .1 .1 .1 .1 .1 .1 .1 .1 .0 ∙ c .before .before .before .before .before .before .before .before .before .before .before .before .before .before .before .before .before .before .before .before .before .before .before .before .before .before .before .before .before .before .before .before .before .before .before .before .before .before .before .before .before .before .before .before .before .before .before .before .before .before .before .fresh-plane-triangles .ensures)
+slice-aggregate-describe c = sym (c .before .before .before .before .before .before .before .before .before .before .before .before .before .before .before .before .before .before .before .before .before .before .before .before .before .planes-of .kept .1 .1 .1 .1 .1 .1 .1 .1 .1 .1 .1 .1 .1 .1 .1 .0
+    ∙ c .before .before .before .before .before .before .before .before .before .before .before .before .before .before .before .before .before .before .before .before .before .before .before .before .before .before .before .before .before .before .before .before .before .before .before .before .before .before .before .before .before .before .before .before .before
+    .before .before .before .before .before .before .fresh-plane-triangles .ensures)
 
 describe-requires : tie.Need-describe-requires
 describe-requires c κs = let p = c .before .before .before .before .before .before .before .before .before .before .before .before .before .before .before .before .before .before .before .before .before .before .before .before .before .planes-of .ensures in (p .floats-room, p .words-room)

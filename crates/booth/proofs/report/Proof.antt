@@ -1,9 +1,8 @@
+-- `booth::report` meets its contract: the packet is within the output, and the planes' bytes are within theirs.
 use mathlib.Core.Path.{sym}
 use lib.Seq.{length-take-le}
 use Rattle.booth.proofs.report.Statement.{statement}
 use Rattle.booth.proofs.report.Tie as tie
-
--- `booth::report` meets its contract: the packet is within the output, and the planes' bytes are within theirs.
 
 slice-aggregate-print-table : tie.Need-slice-aggregate-print-table
 slice-aggregate-print-table c = sym (length-take-le _ _ (c .before .before .if2 .left))

@@ -1,9 +1,8 @@
+-- `booth::run_all` meets its contract: each turn is one scene more.
 use borrow.Author.Needs.{needs}
 use Prim.Native.Nat.{_-_}
 use Rattle.booth.proofs.run_all.Statement.{statement}
 use Rattle.booth.proofs.run_all.Tie as tie
-
--- `booth::run_all` meets its contract: each turn is one scene more.
 
 abbrev Inv-loop : tie.InvT-loop
 Inv-loop k count by-time i₀ i = Unit {0}

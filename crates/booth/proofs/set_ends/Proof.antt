@@ -1,3 +1,4 @@
+-- `booth::set_ends` meets its contract: each turn is one mesh more.
 use borrow.Author.Needs.{needs}
 use native.Mathlib.Omega.{arith}
 use Prim.Native.Nat.{_-_}
@@ -5,8 +6,6 @@ use mathlib.Core.Path.{_≡_}
 use lib.ListN.{length}
 use Rattle.booth.proofs.set_ends.Statement.{statement}
 use Rattle.booth.proofs.set_ends.Tie as tie
-
--- `booth::set_ends` meets its contract: each turn is one mesh more.
 
 abbrev Inv-loop : tie.InvT-loop
 Inv-loop ends₀ w f meshes transforms positions indices materials vertices₀ corners₀ j₀ ends vertices corners j = length ends ≡ length ends₀

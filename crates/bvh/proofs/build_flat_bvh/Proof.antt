@@ -3,7 +3,7 @@ use mathlib.Core.Path.{refl}
 use native.Mathlib.Omega.{arith}
 use Prim.Native.Nat.{_*_, _≤_}
 use lib.ListN.{length}
-use Rattle.split.proofs.Laws.{below-wider}
+use Rattle.order.proofs.Laws.{below-more}
 use Rattle.bvh.proofs.Laws as law
 use Rattle.bvh.proofs.build_flat_bvh.Statement.{statement}
 use Rattle.bvh.proofs.build_flat_bvh.Tie as tie
@@ -36,14 +36,15 @@ same-length-8 : tie.Need-same-length-8
 same-length-8 c = c .before .before .before .before .before .before .before .before .before .before .before .before .before .before .before .before .before .build-tree .kept .1 .1 .1 .1 .1 .1 .1 .1 .1 .1 .0
 
 returns : tie.Need-returns
-returns c = (
-  record {
-    built = λ f. absurd (law.nothing-built _ _ _ _ _ _ _ _ (c .before .before .before .before .before .before .before .before .before .before .before .before .before .before .before .before .before .build-tree .ensures) (c .if1 .taken) f);
-    traced = λ f. absurd (law.nothing-built _ _ _ _ _ _ _ _ (c .before .before .before .before .before .before .before .before .before .before .before .before .before .before .before .before .before .build-tree .ensures) (c .if1 .taken) f);
-    none = λ _. refl;
-  },
-  (same-length c, same-length-2 c, same-length-4 c, same-length-5 c, same-length-6 c),
-)
+returns c =
+    let b17 = c .before .before .before .before .before .before .before .before .before .before .before .before .before .before .before .before .before in (
+      record {
+        built = λ f. absurd (law.nothing-built _ _ _ _ _ _ _ _ (b17 .build-tree .ensures) (c .if1 .taken) f);
+        traced = λ f. absurd (law.nothing-built _ _ _ _ _ _ _ _ (b17 .build-tree .ensures) (c .if1 .taken) f);
+        none = λ _. refl;
+      },
+      (same-length c, same-length-2 c, same-length-4 c, same-length-5 c, same-length-6 c),
+    )
 
 put-traced-requires : tie.Need-put-traced-requires
 put-traced-requires c κs =
@@ -52,7 +53,7 @@ put-traced-requires c κs =
     let size = w .size in
     let most = w .most in
     let q = c .before .before .before .before .before .before .before .before .before .before .before .before .before .before .before .before .before .before .before .before .before .before .before .before .before .before .before .before .before .before .before .before .before .before .before .before .before .before .before .before .pre .1 in
-    ((L .wide, below-wider _ _ _ (L .fewer) (w .inside), omega arith), (w .boxes-room, omega arith))
+    ((L .wide, below-more _ _ _ (L .fewer) (w .inside), omega arith), (w .boxes-room, omega arith))
 
 same-length-9 : tie.Need-same-length-9
 same-length-9 c = c .before .before .before .before .before .before .before .before .before .before .before .before .before .before .before .before .before .before .before .before .before .before .before .build-tree .kept .1 .1 .1 .0
@@ -91,7 +92,9 @@ returns-2 c =
     let room : 22 * m ≤ length t = let e = c .before .before .put-traced .kept .1 .1 .1 .1 .1 .0 in omega arith in (
       record {
         built = λ _. w;
-        traced = λ _. law.traced-in (a .triangles .now) (a .handles .now) (a .n) m (c .before .before .before .before .before .before .before .before .before .before .before .before .before .before .before .before .before .before .before .before .before .before .before .build-tree .last .1 .1 .1 .1 .1 .1 .1 .1 .1 .0) (c .before .before .before .before .before .before .before .before .before .before .before .before .before .before .before .before .before .before .before .before .before .before .before .build-tree .last .1 .1 .1 .1 .1 .1 .1 .1 .1 .1 .0) (c .before .before .before .before .before .before .before .before .before .before .before .before .before .before .before .before .before .before .before .before .before .before .before .build-tree .last .1 .1 .1 .1 .1 .0) t (c .before .before .before .before .before .before .before .before .before .before .before .before .before .before .before .before .before .before .before .before .before .before .before .build-tree .result)
+        traced = λ _. law.traced-in (a .triangles .now) (a .handles .now) (a .n) m (c .before .before .before .before .before .before .before .before .before .before .before .before .before .before .before .before .before .before .before .before .before .before .before .build-tree .last .1 .1 .1 .1 .1 .1 .1 .1 .1 .0) (c .before .before .before .before .before .before
+            .before .before .before .before .before .before .before .before .before .before .before .before .before .before .before .before .before .build-tree .last .1 .1 .1 .1 .1 .1 .1 .1 .1 .1 .0) (c .before .before .before .before .before .before .before .before .before .before .before .before .before .before .before .before .before .before .before .before .before
+            .before .before .build-tree .last .1 .1 .1 .1 .1 .0) t (c .before .before .before .before .before .before .before .before .before .before .before .before .before .before .before .before .before .before .before .before .before .before .before .build-tree .result)
             w room (c .before .before .put-traced .ensures .0) (c .before .before .put-traced .ensures .1);
         none = λ f. c .before .before .before .before .before .before .before .before .before .before .before .before .before .before .before .before .before .before .before .before .before .before .before .build-tree .ensures .none f;
       },

@@ -3,7 +3,7 @@ use mathlib.Core.Path.{refl, sym, _∙_}
 use native.Mathlib.Omega.{arith}
 use lib.ListN.{length}
 use Rattle.bvh.proofs.Laws as law
-use Rattle.bvh.specs.Bvh.{centroidOf}
+use Rattle.bvh.specs.Bvh.{centroidIn}
 use Rattle.bvh.proofs.build_tree.Statement.{statement}
 use Rattle.bvh.proofs.build_tree.Tie as tie
 
@@ -116,8 +116,10 @@ build-sah-requires c κs =
       record { wide = omega arith; few = few; some = some; within = omega arith; size = ep; inside = c .before .before .before .before .before .before .before .before .before .before .before .before .before .number .ensures .1 },
       (
         record {
-          keyed = law.keyed-in (c .before .before .before .before .before .before .before .before .before .before .before .before .before .before .before .before .before .before .before .before .before .before .put-extents .last .1 .1 .1 .1 .0) (centroidOf (a .triangles .now) (a .handles .now) (a .n)) m (c .before .before .before .before .before .before .before .before .before .before .before .before .before .before .before .before .before .before .put-all-keys .last .1 .1 .1 .1 .0)
-              (λ i h. c .before .before .before .before .before .before .before .before .before .before .before .before .before .before .before .before .before .before .before .before .before .before .put-extents .ensures i h .1) (omega arith) (c .before .before .before .before .before .before .before .before .before .before .before .before .before .before .before .before .before .before .put-all-keys .ensures .1 (c .before .before .before .before .before .before .before .before .before .before .before .before .before .before .before .if1 .taken));
+          keyed = law.keyed-in (c .before .before .before .before .before .before .before .before .before .before .before .before .before .before .before .before .before .before .before .before .before .before .put-extents .last .1 .1 .1 .1 .0) (centroidIn (a .triangles .now) (a .handles .now) (a .n)) m (c .before .before .before .before .before .before .before .before
+              .before .before .before .before .before .before .before .before .before .before .put-all-keys .last .1 .1 .1 .1 .0)
+              (λ i h. c .before .before .before .before .before .before .before .before .before .before .before .before .before .before .before .before .before .before .before .before .before .before .put-extents .ensures i h .1) (omega arith) (c .before .before .before .before .before .before .before .before .before .before .before .before .before .before .before
+              .before .before .before .put-all-keys .ensures .1 (c .before .before .before .before .before .before .before .before .before .before .before .before .before .before .before .if1 .taken));
           words-room = L .words-room;
           scratch-room = L .scratch-room;
           areas-room = L .areas-room;
@@ -160,10 +162,17 @@ returns c =
     let r5 = L .boxes-room in
     let r6 = L .nodes-room in
     record {
-      built = λ _. law.stands (a .triangles .now) (a .handles .now) (a .n) m (c .before .before .before .before .before .before .before .before .before .before .before .before .build-sah .result) (c .before .before .before .before .before .before .before .before .before .before .before .before .before .before .before .before .before .before .before .before .before .before .before .before .before .before .before .before .before .before .before .before .before .before .before .put-extents .last .1 .1 .1 .1 .0) (c .before .before .before .before .before .before .before .before .before .before .before .before .before .before .before .before .before .before .before .before .before .before .before .before .before .before .number .last .0) (c .before .before .before .before .before .before .before .before .before .before .before .before .build-sah .last .1 .1 .1 .1 .1 .1 .1 .1 .0)
-          (a .boxes .now) (c .before .before .before .before .before .before .before .before .before .before .before .before .build-sah .last .1 .1 .1 .1 .1 .1 .1 .1 .1 .1 .1 .1 .0) (a .nodes .now) (c .before .before .before .before .before .before .before .before .before .before .before .before .build-sah .last .1 .1 .1 .1 .1 .1 .1 .1 .1 .1 .1 .1 .1 .0) (c .before .before .before .before .before .before .before .before .before .before .before .before .before .before .before .before .before .before .before .before .before .before .before .before .before .before .before .before .before .before .before .before .before .before .before .put-extents .ensures)
-          (c .before .before .before .before .before .before .before .before .before .before .before .before .before .before .before .before .before .before .before .before .before .before .before .before .before .before .number .kept .0) (c .before .before .before .before .before .before .before .before .before .before .before .before .build-sah .kept .1 .1 .1 .1 .1 .1 .1 .1 .0 ∙ c .before .before .before .before .before .before .before .before .before .before .before .before .before .before .before .before .before .before .before .before .before .before .before .before .before .before .number .kept .0) (c .before .before .before .before .before .before .before .before .before .before .before .before .before .before .before .before .before .before .before .before .before .before .before .before .before .before .number .ensures .0) (c .before .before .before .before .before .before .before .before .before .before .before .before .before .before .before .before .before .before .before .before .before .before .before .before .before .before .number .ensures .1) (omega arith) (omega arith) (c .before .before .before .before .before .before .before .before .before .before .before .before .build-sah .ensures .0);
-      none = λ f. law.not-both (sym f ∙ sym (c .before .before .before .before .before .before .before .before .before .before .before .before .before .before .before .before .before .before .before .before .before .before .before .before .before .before .before .before .before .before .before .put-all-keys .ensures .0) ∙ c .before .before .before .before .before .before .before .before .before .before .before .before .before .before .before .before .before .before .before .before .before .before .before .before .before .before .before .before .if1 .taken);
+      built = λ _. law.stands (a .triangles .now) (a .handles .now) (a .n) m (c .before .before .before .before .before .before .before .before .before .before .before .before .build-sah .result) (c .before .before .before .before .before .before .before .before .before .before .before .before .before .before .before .before .before .before .before .before .before
+          .before .before .before .before .before .before .before .before .before .before .before .before .before .before .put-extents .last .1 .1 .1 .1 .0) (c .before .before .before .before .before .before .before .before .before .before .before .before .before .before .before .before .before .before .before .before .before .before .before .before .before
+          .before .number .last .0) (c .before .before .before .before .before .before .before .before .before .before .before .before .build-sah .last .1 .1 .1 .1 .1 .1 .1 .1 .0)
+          (a .boxes .now) (c .before .before .before .before .before .before .before .before .before .before .before .before .build-sah .last .1 .1 .1 .1 .1 .1 .1 .1 .1 .1 .1 .1 .0) (a .nodes .now) (c .before .before .before .before .before .before .before .before .before .before .before .before .build-sah .last .1 .1 .1 .1 .1 .1 .1 .1 .1 .1 .1 .1 .1 .0) (c .before
+          .before .before .before .before .before .before .before .before .before .before .before .before .before .before .before .before .before .before .before .before .before .before .before .before .before .before .before .before .before .before .before .before .before .before .put-extents .ensures)
+          (c .before .before .before .before .before .before .before .before .before .before .before .before .before .before .before .before .before .before .before .before .before .before .before .before .before .before .number .kept .0) (c .before .before .before .before .before .before .before .before .before .before .before .before .build-sah .kept .1 .1 .1 .1 .1 .1 .1
+          .1 .0 ∙ c .before .before .before .before .before .before .before .before .before .before .before .before .before .before .before .before .before .before .before .before .before .before .before .before .before .before .number .kept .0) (c .before .before .before .before .before .before .before .before .before .before .before .before .before .before .before
+          .before .before .before .before .before .before .before .before .before .before .before .number .ensures .0) (c .before .before .before .before .before .before .before .before .before .before .before .before .before .before .before .before .before .before .before .before .before .before .before .before .before .before .number .ensures .1) (omega arith)
+          (omega arith) (c .before .before .before .before .before .before .before .before .before .before .before .before .build-sah .ensures .0);
+      none = λ f. law.not-both (sym f ∙ sym (c .before .before .before .before .before .before .before .before .before .before .before .before .before .before .before .before .before .before .before .before .before .before .before .before .before .before .before .before .before .before .before .put-all-keys .ensures .0)
+          ∙ c .before .before .before .before .before .before .before .before .before .before .before .before .before .before .before .before .before .before .before .before .before .before .before .before .before .before .before .before .if1 .taken);
     }
 
 same-length-9 : tie.Need-same-length-9

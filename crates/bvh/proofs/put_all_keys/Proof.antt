@@ -3,7 +3,7 @@ use borrow.Author.Needs.{needs}
 use mathlib.Core.Path.{sym, _∙_}
 use native.Mathlib.Omega.{arith}
 use Rattle.bvh.proofs.Laws as law
-use Rattle.bvh.specs.Bvh.{centroidOf}
+use Rattle.bvh.specs.Bvh.{centroidIn}
 use Rattle.bvh.proofs.put_all_keys.Statement.{statement}
 use Rattle.bvh.proofs.put_all_keys.Tie as tie
 
@@ -34,7 +34,7 @@ same-length c = c .before .before .put-axis3 .kept .1 .1 .1 .1 .1 .1 .1 .0 ∙ c
 returns : tie.Need-returns
 returns c =
     let a = c .before .before .before .before .before .before .before .before .before .before .before .before .before .before .before .before .before .args in
-    let mid = centroidOf (a .triangles .now) (a .handles .now) (a .n) in
+    let mid = centroidIn (a .triangles .now) (a .handles .now) (a .n) in
     let x = c .before .before .before .before .before .before .before .before .before .before .before .before .put-axis in
     let y = c .before .before .before .before .before .before .before .put-axis2 in
     let z = c .before .before .put-axis3 in (
@@ -49,7 +49,7 @@ same-length-2 c = c .before .before .before .put-axis2 .kept .1 .1 .1 .1 .1 .1 .
 returns-2 : tie.Need-returns-2
 returns-2 c =
     let a = c .before .before .before .before .before .before .before .before .before .before .before .before .before .args in
-    let mid = centroidOf (a .triangles .now) (a .handles .now) (a .n) in
+    let mid = centroidIn (a .triangles .now) (a .handles .now) (a .n) in
     (law.finite-second mid (a .count) (sym (c .before .before .before .before .before .before .before .before .put-axis .ensures .0) ∙ c .before .before .before .before .before .if1 .taken) (sym (c .before .before .before .put-axis2 .ensures .0) ∙ c .if2 .left), λ e. law.not-both e)
 
 same-length-3 : tie.Need-same-length-3
@@ -58,7 +58,7 @@ same-length-3 c = c .before .before .before .put-axis .kept .1 .1 .1 .1 .1 .1 .1
 returns-3 : tie.Need-returns-3
 returns-3 c =
     let a = c .before .before .before .before .before .before .before .before .args in
-    let mid = centroidOf (a .triangles .now) (a .handles .now) (a .n) in
+    let mid = centroidIn (a .triangles .now) (a .handles .now) (a .n) in
     (law.finite-first mid (a .count) (sym (c .before .before .before .put-axis .ensures .0) ∙ c .if1 .left), λ e. law.not-both e)
 
 pub put-all-keys-spec : {M : Type 1} → statement M

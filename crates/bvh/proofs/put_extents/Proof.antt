@@ -7,7 +7,7 @@ use Rattle.bvh.proofs.Laws as law
 use Rattle.geometry.specs.declared.Triangle.{Triangle}
 use Rattle.geometry.specs.Aabb.{fromCornersOf}
 use Rattle.geometry.specs.Triangle as triangle
-use Rattle.bvh.specs.Bvh.{aabbOf, centroidOf}
+use Rattle.bvh.specs.Bvh.{aabbOf, centroidIn}
 use Rattle.bvh.proofs.put_extents.Statement.{statement}
 use Rattle.bvh.proofs.put_extents.Tie as tie
 
@@ -33,7 +33,7 @@ loop-less : tie.Need-loop-less Inv-loop μ-loop
 loop-less c = let t = c .before .before .before .before .before .before .before .loop-test .taken in omega arith
 
 loop-again : tie.Need-loop-again Inv-loop μ-loop
-unfolding aabbOf centroidOf
+unfolding aabbOf centroidIn
 loop-again c =
     let a = c .before .before .before .before .before .before .before .before .before .before .before .before .args in
     let p = c .before .before .before .before .before .before .before .before .before .before .before .before .pre in

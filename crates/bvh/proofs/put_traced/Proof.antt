@@ -8,8 +8,8 @@ use lib.Ieee.{Float}
 use lib.ListN.{length, drop}
 use lib.Seq.{length-take-le, length-front}
 use borrow.Rule.Slice.PartMut.{mid-len}
-use Rattle.build.specs.Areas.{boxAtOf}
-use Rattle.trace.specs.Leaf.{cornerAtOf, edgesAtOf}
+use Rattle.tree_build.specs.Areas.{boxAtOf}
+use Rattle.tree_trace.specs.Leaf.{cornerAtOf, edgesAtOf}
 use Rattle.bvh.proofs.Parts.{both-back}
 use Rattle.bvh.proofs.put_traced.Statement.{statement}
 use Rattle.bvh.proofs.put_traced.Tie as tie

@@ -1,3 +1,4 @@
+-- `clearing::blank_u32` meets its contract: what lies before i became zero, and what was zero stays so.
 use Prim.Native.Nat.{_≤_, _-_}
 use mathlib.Core.Path.{_≡_, refl, subst}
 use native.Mathlib.Omega.{arith}
@@ -9,8 +10,6 @@ use Rattle.clearing.specs.Runs.{Wiped}
 use Rattle.clearing.proofs.Wiping.{wiped-none, wiped-more}
 use Rattle.clearing.proofs.blank_u32.Statement.{statement}
 use Rattle.clearing.proofs.blank_u32.Tie as tie
-
--- `clearing::blank_u32` meets its contract: what lies before i became zero, and what was zero stays so.
 
 abbrev Inv-loop : tie.InvT-loop
 Inv-loop area₀ from to i₀ area i = (i ≤ to) × (length area ≡ length area₀) × Wiped 0 0 area₀ area from i

@@ -1,11 +1,10 @@
+-- `clearing::clear_pair` meets its contract: both areas by that of `wipe_u32` (`zero-of`).
 use native.Mathlib.Omega.{arith}
 use borrow.Author.Needs.{needs}
 use lib.ListN.{length}
-use Rattle.clearing.proofs.Zero.{zero-of}
+use Rattle.laws.proofs.Lists.{zero-of}
 use Rattle.clearing.proofs.clear_pair.Statement.{statement}
 use Rattle.clearing.proofs.clear_pair.Tie as tie
-
--- `clearing::clear_pair` meets its contract.
 
 returns : tie.Need-returns
 returns c = (zero-of 0 (length (c .before .before .before .before .before .before .before .before .before .before .args .a .now)) _ (c .before .before .before .before .before .before .wipe-u32 .ensures), zero-of 0 (length (c .before .before .before .before .before .before .before .before .before .before .args .b .now)) _ (c .before .before .wipe-u322 .ensures))

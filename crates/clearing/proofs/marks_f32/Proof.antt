@@ -1,3 +1,4 @@
+-- `clearing::marks_f32` meets its contract: as long as no bit was met, all that was read of either run is zero.
 use Prim.Native.Nat.{_≤_, _-_, _+_}
 use mathlib.Core.Path.{_≡_}
 use native.Mathlib.Omega.{arith}
@@ -7,8 +8,6 @@ use Rattle.float.specs.Literals.{zero32}
 use Rattle.clearing.proofs.Wiping.{or-left, or-right, Quarters, quarters-none, quarters-more, quarters-all}
 use Rattle.clearing.proofs.marks_f32.Statement.{statement}
 use Rattle.clearing.proofs.marks_f32.Tie as tie
-
--- `clearing::marks_f32` meets its contract: as long as no bit was met, all that was read of either run is zero.
 
 abbrev Inv-loop : tie.InvT-loop
 Inv-loop area near far marks₀ k₀ marks k = (k ≤ 16) × (marks ≡ 0 → Quarters zero32 nan area near k × Quarters zero32 nan area far k)

@@ -1,3 +1,4 @@
+-- `clearing::marks_u32` meets its contract: as long as no bit was met, all that was read of either run is zero.
 use Prim.Native.Nat.{_≤_, _-_}
 use mathlib.Core.Path.{_≡_}
 use native.Mathlib.Omega.{arith}
@@ -6,8 +7,6 @@ use Rattle.clearing.specs.Runs.{Run}
 use Rattle.clearing.proofs.Wiping.{run-none, run-all, marks-more}
 use Rattle.clearing.proofs.marks_u32.Statement.{statement}
 use Rattle.clearing.proofs.marks_u32.Tie as tie
-
--- `clearing::marks_u32` meets its contract: as long as no bit was met, all that was read of either run is zero.
 
 abbrev Inv-loop : tie.InvT-loop
 Inv-loop area near far marks₀ k₀ marks k = (k ≤ 64) × (marks ≡ 0 → Run 0 0 area near k × Run 0 0 area far k)

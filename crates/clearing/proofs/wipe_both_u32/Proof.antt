@@ -1,3 +1,4 @@
+-- `clearing::wipe_both_u32` meets its contract: no mark means that both runs are zero (`both-kept`); else both are blanked (`both-wiped`).
 use mathlib.Core.Path.{refl, sym, _∙_}
 use native.Mathlib.Omega.{arith}
 use borrow.Author.Needs.{needs}
@@ -6,8 +7,6 @@ use Rattle.float.specs.Literals.{zero32}
 use Rattle.clearing.proofs.Wiping.{both-kept, both-wiped}
 use Rattle.clearing.proofs.wipe_both_u32.Statement.{statement}
 use Rattle.clearing.proofs.wipe_both_u32.Tie as tie
-
--- `clearing::wipe_both_u32` meets its contract.
 
 returns : tie.Need-returns
 returns c = both-kept 0 0 _ _ _ (c .before .marks-u32 .ensures (c .if1 .taken))

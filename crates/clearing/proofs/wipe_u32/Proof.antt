@@ -1,3 +1,4 @@
+-- `clearing::wipe_u32` meets its contract: k spans of either half are zero, then what lies behind both.
 use Prim.Native.Nat.{_-_}
 use mathlib.Core.Path.{refl, _∙_}
 use native.Mathlib.Omega.{arith}
@@ -8,8 +9,6 @@ use Rattle.float.specs.Literals.{zero32}
 use Rattle.clearing.proofs.Wiping.{Halves, halves-none, halves-more, halves-all}
 use Rattle.clearing.proofs.wipe_u32.Statement.{statement}
 use Rattle.clearing.proofs.wipe_u32.Tie as tie
-
--- `clearing::wipe_u32` meets its contract: k spans of either half are zero, then what lies behind both.
 
 abbrev Inv-loop : tie.InvT-loop
 Inv-loop area₀ m k₀ area k = Halves 0 0 area₀ area m k

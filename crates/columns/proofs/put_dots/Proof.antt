@@ -1,3 +1,4 @@
+-- `columns::put_dots` meets its contract: four stores, one to a column (`dots-stored`).
 use Prim.Native.Nat.{ℕ, _+_, _*_}
 use mathlib.Core.Path.{_≡_, refl, ap}
 use native.Mathlib.Omega.{arith}
@@ -6,8 +7,6 @@ use lib.ListN.{length-set}
 use Rattle.columns.proofs.Storing.{dots-stored}
 use Rattle.columns.proofs.put_dots.Statement.{statement}
 use Rattle.columns.proofs.put_dots.Tie as tie
-
--- `columns::put_dots` meets its contract.
 
 slice-write-triangles-2 : tie.Need-slice-write-triangles-2
 slice-write-triangles-2 c = simp length-set (omega arith)

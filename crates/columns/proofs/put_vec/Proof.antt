@@ -1,3 +1,4 @@
+-- `columns::put_vec` meets its contract: three stores, one to a column (`vec-stored`).
 use Prim.Native.Nat.{ℕ, _+_, _*_}
 use mathlib.Core.Path.{_≡_, refl, ap}
 use native.Mathlib.Omega.{arith}
@@ -7,8 +8,6 @@ use Rattle.columns.specs.Columns.{putColumns}
 use Rattle.columns.proofs.Storing.{vec-stored}
 use Rattle.columns.proofs.put_vec.Statement.{statement}
 use Rattle.columns.proofs.put_vec.Tie as tie
-
--- `columns::put_vec` meets its contract.
 
 slice-write-triangles-2 : tie.Need-slice-write-triangles-2
 slice-write-triangles-2 c = simp length-set (omega arith)

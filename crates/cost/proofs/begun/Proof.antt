@@ -1,4 +1,4 @@
--- `cost::begun` meets its contract.
+-- `cost::begun` meets its contract: by its test, the lesser of 1 and what is left.
 use Prim.Native.Nat.{min}
 use mathlib.Core.Path.{_≡_}
 use native.Mathlib.Omega.{arith}

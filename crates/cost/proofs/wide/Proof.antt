@@ -1,4 +1,4 @@
--- `cost::wide` meets its contract.
+-- `cost::wide` meets its contract: a word of 32 bits is its own number, below 2 ^ 32.
 use mathlib.Core.Path.{_≡_, refl}
 use native.Mathlib.Omega.{arith}
 use Rattle.cost.proofs.wide.Statement.{statement}

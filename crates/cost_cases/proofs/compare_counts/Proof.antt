@@ -1,4 +1,4 @@
--- `cost_cases::compare_counts` is safe and ends.
+-- `cost_cases::compare_counts` is safe and ends: k is at most 8, within the counts, and each turn brings it nearer.
 use borrow.Author.Needs.{needs}
 use Prim.Native.Nat.{_+_, _-_, _≤_, _<_}
 use mathlib.Core.Path.{_≡_, refl, sym, _∙_}

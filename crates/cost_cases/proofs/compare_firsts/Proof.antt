@@ -1,4 +1,4 @@
--- `cost_cases::compare_firsts` is safe and ends.
+-- `cost_cases::compare_firsts` is safe and ends: the mask has a byte for each plane, the records keep their length, and each turn is one more.
 use borrow.Author.Needs.{needs}
 use Prim.Native.Nat.{_+_, _-_, _≤_, _<_}
 use mathlib.Core.Path.{_≡_, refl, sym, _∙_}

@@ -1,4 +1,4 @@
--- `cost_cases::compare_order` is safe and ends.
+-- `cost_cases::compare_order` is safe and ends: by the arms of its match; the records keep their length.
 use borrow.Author.Needs.{needs}
 use Prim.Native.Nat.{_+_, _-_, _≤_, _<_}
 use mathlib.Core.Path.{_≡_, refl, sym, _∙_}

@@ -1,4 +1,4 @@
--- `cost_cases::compare_orders` is safe and ends.
+-- `cost_cases::compare_orders` is safe and ends: the order is at most 9, the records keep their length, and each turn is one order more.
 use borrow.Author.Needs.{needs}
 use Prim.Native.Nat.{_+_, _-_, _≤_, _<_}
 use mathlib.Core.Path.{_≡_, refl, sym, _∙_}

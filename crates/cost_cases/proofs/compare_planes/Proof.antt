@@ -1,4 +1,4 @@
--- `cost_cases::compare_planes` is safe and ends.
+-- `cost_cases::compare_planes` is safe and ends: at most 6 planes are handed on, the records keep their length, and each turn is one plane more.
 use borrow.Author.Needs.{needs}
 use Prim.Native.Nat.{_+_, _-_, _≤_, _<_}
 use mathlib.Core.Path.{_≡_, refl, sym, _∙_}

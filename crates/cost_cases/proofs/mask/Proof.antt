@@ -1,4 +1,4 @@
--- `cost_cases::mask` is safe and ends.
+-- `cost_cases::mask` meets its contract: the list keeps its length 6, and each turn is one plane more.
 use borrow.Author.Needs.{needs}
 use Prim.Native.Nat.{_+_, _-_, _≤_, _<_}
 use mathlib.Core.Path.{_≡_, refl, sym, _∙_}

@@ -1,3 +1,4 @@
+-- `front::at_most` meets its contract: by its test, the lesser of the two.
 use native.Mathlib.Omega.{arith}
 use Rattle.front.proofs.at_most.Statement.{statement}
 use Rattle.front.proofs.at_most.Tie as tie

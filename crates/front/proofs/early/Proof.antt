@@ -1,3 +1,4 @@
+-- `front::early` meets its contract: by its test; where it fails, k is 0.
 use borrow.Author.Tests.{lt-ltb}
 use native.Mathlib.Omega.{arith}
 use mathlib.Core.Path.{_≡_}

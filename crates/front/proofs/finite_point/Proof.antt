@@ -1,3 +1,4 @@
+-- `front::finite_point` meets its contract: coordinate by coordinate, by that of `is_finite`.
 use Rattle.front.specs.Asked.{finitePoint}
 use Rattle.front.proofs.finite_point.Statement.{statement}
 use Rattle.front.proofs.finite_point.Tie as tie

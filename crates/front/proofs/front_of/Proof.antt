@@ -1,3 +1,4 @@
+-- `front::front_of` meets its contract: arm by arm.
 use borrow.Author.Needs.{needs}
 use Rattle.front.proofs.front_of.Statement.{statement}
 use Rattle.front.proofs.front_of.Tie as tie

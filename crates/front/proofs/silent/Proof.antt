@@ -1,3 +1,4 @@
+-- `front::silent` meets its contract: test by test, by that of `finite_point`.
 use Rattle.front.specs.Asked.{silentOf}
 use Rattle.front.proofs.silent.Statement.{statement}
 use Rattle.front.proofs.silent.Tie as tie

@@ -1,11 +1,10 @@
+-- `mirror::locate_on_plane` meets its contract: the point's spot, weighed.
 use native.Mathlib.Omega.{arith}
 use borrow.Author.Needs.{needs}
 use Rattle.mirror.specs.Rows.{trisOf, borderOf}
 use Rattle.mirror.proofs.Laws.{locate-surface}
 use Rattle.mirror.proofs.locate_on_plane.Statement.{statement}
 use Rattle.mirror.proofs.locate_on_plane.Tie as tie
-
--- `mirror::locate_on_plane` meets its contract: the point's spot, weighed.
 
 surface-requires : tie.Need-surface-requires
 surface-requires c κs = (c .before .before .before .pre .0, (c .before .before .before .pre .1 .members-room, c .before .before .before .pre .1 .below))

@@ -1,3 +1,4 @@
+-- `mirror::surface` meets its contract: the run that is lent is the plane's.
 use mathlib.Core.Path.{_≡_}
 use Prim.Native.Nat.{ℕ, _+_, _-_}
 use native.Mathlib.Omega.{arith}
@@ -6,8 +7,6 @@ use Rattle.mirror.specs.Locate.{surfaceOf}
 use Rattle.mirror.specs.Rows.{trisOf}
 use Rattle.mirror.proofs.surface.Statement.{statement}
 use Rattle.mirror.proofs.surface.Tie as tie
-
--- `mirror::surface` meets its contract: the run that is lent is the plane's.
 
 -- the run's length, as the code works it out
 run : (first count : ℕ) → first + count - first ≡ count

@@ -1,4 +1,4 @@
--- `numbering_cases::compare_all` is safe and ends.
+-- `numbering_cases::compare_all` is safe and ends: n is at most `images`, and each turn brings it nearer.
 use Prim.Native.Nat.{_-_, _≤_}
 use native.Mathlib.Omega.{arith}
 use Rattle.numbering_cases.proofs.compare_all.Statement.{statement}

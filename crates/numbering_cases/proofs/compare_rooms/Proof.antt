@@ -1,4 +1,4 @@
--- `numbering_cases::compare_rooms` is safe and ends.
+-- `numbering_cases::compare_rooms` is safe and ends: the records keep their length, and each turn is one case of 640 more.
 use Prim.Native.Nat.{_-_}
 use mathlib.Core.Path.{_≡_, refl, _∙_}
 use native.Mathlib.Omega.{arith}

@@ -1,4 +1,4 @@
--- `numbering_cases::print_planes` is safe and ends.
+-- `numbering_cases::print_planes` is safe and ends: i is below 8 where a plane is read, and each turn brings it nearer.
 use Prim.Native.Nat.{_-_, _≤_}
 use native.Mathlib.Omega.{arith}
 use Rattle.numbering_cases.proofs.print_planes.Statement.{statement}

@@ -7,7 +7,7 @@ use mathlib.Core.List.{map}
 use native.Mathlib.Omega.{arith}
 use lib.ListN.{length, drop}
 use Rattle.packet.specs.Limits.{headBytes, tapWords}
-use Rattle.packet.specs.Tap.{tapOf}
+use Rattle.packet.specs.Tap.{storedTap}
 use Rattle.packet.specs.Bytes.{holdsTaps, tapsIn}
 use Rattle.packet.specs.Refusals.{all, validFloats}
 use Rattle.packet.specs.Helpers.{inArea}
@@ -50,7 +50,7 @@ returns c =
     let a = c7 .args in
     let l = c4 .loop in
     let h = back-head (a .count) (l .i) (l .at) (a .b .now) (a .taps .now) (c3 .loop-test .taken) (l .inv .3) in
-    sym (l .inv .4 ∙ floats-no (a .count) (l .i) (l .at) (a .b .now) (c3 .loop-test .taken) (sym (floats-in (l .at) (a .b .now) (tapOf (drop (l .i * tapWords) (a .taps .now))) (h .0)) ∙ sym (c .before .has-valid-floats .ensures) ∙ c .if1 .left))
+    sym (l .inv .4 ∙ floats-no (a .count) (l .i) (l .at) (a .b .now) (c3 .loop-test .taken) (sym (floats-in (l .at) (a .b .now) (storedTap (drop (l .i * tapWords) (a .taps .now))) (h .0)) ∙ sym (c .before .has-valid-floats .ensures) ∙ c .if1 .left))
 
 shared-slice-read-tap-size : tie.Need-shared-slice-read-tap-size Inv-loop μ-loop
 shared-slice-read-tap-size c =
@@ -88,7 +88,7 @@ loop-again c =
       omega arith,
       ap (λ (k : ℕ). holdsTaps (a .count - (l .i + 1)) (drop (l .at + k) (a .b .now))) s ∙ holds-next (a .count) (l .i) (l .at) (a .b .now) (c5 .loop-test .taken) (l .inv .2),
       h .1 ∙ ap (λ (k : ℕ). map inArea (tapsIn (a .count - (l .i + 1)) (drop (l .at + k) (a .b .now)))) (sym s),
-      l .inv .4 ∙ floats-yes (a .count) (l .i) (l .at) (a .b .now) (c5 .loop-test .taken) (sym (floats-in (l .at) (a .b .now) (tapOf (drop (l .i * tapWords) (a .taps .now))) (h .0)) ∙ sym (c3 .has-valid-floats .ensures) ∙ c2 .if1 .taken)
+      l .inv .4 ∙ floats-yes (a .count) (l .i) (l .at) (a .b .now) (c5 .loop-test .taken) (sym (floats-in (l .at) (a .b .now) (storedTap (drop (l .i * tapWords) (a .taps .now))) (h .0)) ∙ sym (c3 .has-valid-floats .ensures) ∙ c2 .if1 .taken)
           ∙ ap (λ (k : ℕ). all validFloats (tapsIn (a .count - (l .i + 1)) (drop (l .at + k) (a .b .now)))) (sym s),
     )
 

@@ -39,7 +39,8 @@ returns c =
     let c8 = c7 .before in
     let c9 = c8 .before in
     let c14 = c9 .before .before .before .before .before in
-    let a = c14 .args in c2 .read-gains .ensures ∙ read-tap-sets (a .area .now) (a .b .now) (a .base) (a .at) (c9 .wide .result) (c8 .read-word .result) (c7 .read-word2 .result) (c6 .read-word3 .result) (c5 .read-word4 .result) (c4 .read-word5 .result) (c9 .wide .ensures .0) (c8 .read-word .ensures) (c7 .read-word2 .ensures) (c6 .read-word3 .ensures) (c5 .read-word4 .ensures) (c4 .read-word5 .ensures)
+    let a = c14 .args in c2 .read-gains .ensures ∙ read-tap-sets (a .area .now) (a .b .now) (a .base) (a .at) (c9 .wide .result) (c8 .read-word .result) (c7 .read-word2 .result) (c6 .read-word3 .result) (c5 .read-word4 .result) (c4 .read-word5 .result) (c9 .wide .ensures .0) (c8 .read-word .ensures) (c7 .read-word2 .ensures) (c6 .read-word3 .ensures) (c5 .read-word4 .ensures)
+    (c4 .read-word5 .ensures)
 
 pub read-tap-spec : {M : Type 1} → statement M
 read-tap-spec =

@@ -5,7 +5,7 @@ use native.Mathlib.Omega.{arith}
 use borrow.Author.Needs.{needs}
 use lib.Seq.{slice}
 use Rattle.geometry.specs.declared.Triangle.{Triangle}
-use Rattle.build.specs.Tree.{Tree}
+use Rattle.tree_build.specs.Tree.{Tree}
 use Rattle.segments.specs.Areas.{TreeReads}
 use Rattle.paths.specs.Visibility.{goAllOf, wayOf}
 use Rattle.paths.specs.Areas.{softIn}
@@ -29,8 +29,9 @@ loop-holds c =
 
 go-requires : tie.Need-go-requires Inv-loop μ-loop
 go-requires c κs =
-    let a = c .before .before .before .before .before .before .before .before .before .before .args in
-    let h = c .before .before .before .before .before .before .before .before .before .before .pre in
+    let b10 = c .before .before .before .before .before .before .before .before .before .before in
+    let a = b10 .args in
+    let h = b10 .pre in
     (h .0, ways-fit (18 * (a .crossing-limit + 1)) (a .order) (c .before .before .loop .k) (c .before .before .before .begin .result .rays) (c .before .before .loop .w .rays) (c .before .before .loop .inv .2) (c .before .before .before .begin .ensures .1) (h .1 .0 .0) (h .1 .1))
 
 loop-less : tie.Need-loop-less Inv-loop μ-loop
@@ -46,13 +47,15 @@ loop-again c =
             ← c .before .before .before .loop .inv .1 tri t h,
             ← c .go .ensures .0 tri t h,
           ),
-      ways-more (18 * (a .crossing-limit + 1)) (c .before .before .before .before .begin .result .rays) (a .order - c .before .before .before .loop .k) (a .order - (c .before .before .before .loop .k - 1)) (c .before .before .before .loop .w .rays) (c .go .result .rays) (c .before .before .before .loop .inv .2) (c .go .ensures .1) (omega (arith, c .before .before .before .loop .inv .0, c .before .before .loop-test .taken)),
+      ways-more (18 * (a .crossing-limit + 1)) (c .before .before .before .before .begin .result .rays) (a .order - c .before .before .before .loop .k) (a .order - (c .before .before .before .loop .k - 1)) (c .before .before .before .loop .w .rays) (c .go .result .rays) (c .before .before .before .loop .inv .2) (c .go .ensures .1) (omega
+          (arith, c .before .before .before .loop .inv .0, c .before .before .loop-test .taken)),
     )
 
 go-requires-2 : tie.Need-go-requires-2 Inv-loop μ-loop
 go-requires-2 c κs =
-    let a = c .before .before .before .before .before .before .before .before .before .args in
-    let h = c .before .before .before .before .before .before .before .before .before .pre in
+    let b9 = c .before .before .before .before .before .before .before .before .before in
+    let a = b9 .args in
+    let h = b9 .pre in
     (h .0, ways-fit (18 * (a .crossing-limit + 1)) (a .order) (c .before .loop .k) (c .before .before .begin .result .rays) (c .before .loop .w .rays) (c .before .loop .inv .2) (c .before .before .begin .ensures .1) (h .1 .0 .0) (h .1 .1))
 
 returns : tie.Need-returns Inv-loop μ-loop
@@ -60,7 +63,8 @@ unfolding wayOf
 returns c =
     let end : c .before .before .loop .k ≡ 0 = omega (arith, c .before .loop-test .left) in (
       λ tri t h. rw (← c .before .before .before .begin .ensures .0, ← rw end at (c .before .before .loop .inv .1 tri t h), ← c .go2 .ensures .0 tri t h),
-      ways-all (18 * (c .before .before .before .before .before .before .before .before .before .before .args .crossing-limit + 1)) (c .before .before .before .before .before .before .before .before .before .before .args .order) (c .before .before .loop .k) (c .before .before .before .begin .result .rays) (c .before .before .loop .w .rays) (c .go2 .result .rays) (c .before .before .loop .inv .2) (c .before .before .before .begin .ensures .1) end (c .go2 .ensures .1),
+      ways-all (18 * (c .before .before .before .before .before .before .before .before .before .before .args .crossing-limit + 1)) (c .before .before .before .before .before .before .before .before .before .before .args .order) (c .before .before .loop .k) (c .before .before .before .begin .result .rays) (c .before .before .loop .w .rays) (c .go2 .result .rays) (c
+          .before .before .loop .inv .2) (c .before .before .before .begin .ensures .1) end (c .go2 .ensures .1),
     )
 
 pub go-all-spec : {M : Type 1} → statement M

@@ -27,14 +27,18 @@ array-copy-out-last : tie.Need-array-copy-out-last
 array-copy-out-last c = omega (arith, c .before .before .before .before .before .before .before .before .before .before .before .before .pre .1 .0)
 
 reflected-requires : tie.Need-reflected-requires
-reflected-requires c κs = ((c .before .before .before .before .before .before .before .before .before .before .before .before .before .pre .1 .0 .1, c .before .before .before .before .before .before .before .before .before .before .before .before .before .pre .1 .1 (c .before .before .before .before .before .before .if1 .taken) .tris-room), c .before .before .before .before .before .before .before .before .before .before .before .before .before .pre .0 .materials-room)
+reflected-requires c κs =
+    let b13 = c .before .before .before .before .before .before .before .before .before .before .before .before .before in
+    ((b13 .pre .1 .0 .1, b13 .pre .1 .1 (c .before .before .before .before .before .before .if1 .taken) .tris-room), b13 .pre .0 .materials-room)
 
 returns : tie.Need-returns
 unfolding bouncedOf trailOf
 returns c =
-    let a = c .before .before .before .before .before .before .before .before .before .before .before .before .before .before .before .before .before .args in (
+    let b7 = c .before .before .before .before .before .before .before in
+    let b17 = b7 .before .before .before .before .before .before .before .before .before .before in
+    let a = b17 .args in (
       λ tri t h.
-          let way : c .before .before .before .before .before .before .before .go-all .result ≡ wayOf (softIn (a .s .«crossing_limit») (a .s .«probe_radius») tri t (a .materials .now)) (a .listener) (a .source) (take (a .order) (a .trail .points)) = c .before .before .before .before .before .before .before .go-all .ensures .0 tri t h in
+          let way : b7 .go-all .result ≡ wayOf (softIn (a .s .«crossing_limit») (a .s .«probe_radius») tri t (a .materials .now)) (a .listener) (a .source) (take (a .order) (a .trail .points)) = b7 .go-all .ensures .0 tri t h in
           rw (
             eq-eqb _ _ (c .before .before .before .before .before .before .before .before .before .before .if1 .taken),
             ← way,
@@ -42,11 +46,11 @@ returns c =
             c .before .before .before .before .before .if2 .taken,
             ← c .before .before .before .reflected .ensures tri (h .handles-of),
             ← c .before .before .gains .ensures,
-            last-taken (a .trail .points) (a .order) (c .before .before .before .before .before .before .before .before .before .before .before .before .before .before .before .before .before .pre .1 .0 .0),
+            last-taken (a .trail .points) (a .order) (b17 .pre .1 .0 .0),
             ← c .before .arrived .ensures,
             ← c .counted .ensures,
           ),
-      rw (c .counted .ensures) (c .before .before .before .before .before .before .before .go-all .ensures .1),
+      rw (c .counted .ensures) (b7 .go-all .ensures .1),
     )
 
 returns-2 : tie.Need-returns-2

@@ -14,7 +14,17 @@ array-copy-out-image : tie.Need-array-copy-out-image
 array-copy-out-image c = omega (arith, c .before .before .before .before .before .before .before .before .before .before .before .pre .1 .0)
 
 back-requires : tie.Need-back-requires
-back-requires c κs = (c .before .before .before .before .before .before .before .before .before .before .before .before .before .before .before .before .pre .0 .planes, ((omega arith, c .before .before .before .before .before .before .before .before .before .before .before .before .before .before .before .before .pre .1 .0 .1), (c .before .before .before .before .before .before .before .before .before .before .before .before .before .before .before .before .pre .1 .1 .0, c .no-bounces .ensures .0)))
+back-requires c κs = (
+  c .before .before .before .before .before .before .before .before .before .before .before .before .before .before .before .before .pre .0 .planes,
+  (
+    (omega arith, c .before .before .before .before .before .before .before .before .before .before .before .before .before .before .before .before .pre .1 .0 .1),
+    (
+      c .before .before .before .before .before .before .before
+          .before .before .before .before .before .before .before .before .before .pre .1 .1 .0,
+      c .no-bounces .ensures .0,
+    ),
+  ),
+)
 
 judge-requires : tie.Need-judge-requires
 judge-requires c κs =
@@ -27,7 +37,8 @@ returns c =
     let planes = planesIn (a .plane-floats .now) (a .plane-words .now) (a .plane-triangles .now) (a .plane-edges .now) (a .count) in (
       λ tri t h.
           rw (c .judge .ensures .0 tri t (h .tree), rw (c .before .before .no-bounces .ensures .1, slice-empty (a .order) (c .before .before .no-bounces .result .points), slice-empty (a .order) (c .before .before .no-bounces .result .tris)) at (c .before .back .ensures .0 tri (h .planes)))
-          (path-near (a .s) planes tri t (a .materials .now) (a .source) (a .listener) (a .seq) (λ j. getD (a .t17) j noPoint) (a .order) (omega (arith, c .before .before .before .before .before .before .before .before .before .before .before .before .before .before .before .before .before .before .pre .1 .0)) (c .before .before .before .before .before .before .before .before .before .before .before .before .before .before .before .before .before .before .pre .1 .1 .1) (rw (c .before .before .before .before .before .distance3 .ensures) at (c .before .before .before .if1 .taken))),
+          (path-near (a .s) planes tri t (a .materials .now) (a .source) (a .listener) (a .seq) (λ j. getD (a .t17) j noPoint) (a .order) (omega (arith, c .before .before .before .before .before .before .before .before .before .before .before .before .before .before .before .before .before .before .pre .1 .0)) (c .before .before .before .before .before .before .before
+          .before .before .before .before .before .before .before .before .before .before .before .pre .1 .1 .1) (rw (c .before .before .before .before .before .distance3 .ensures) at (c .before .before .before .if1 .taken))),
       c .judge .ensures .1,
     )
 
@@ -35,7 +46,8 @@ returns-2 : tie.Need-returns-2
 returns-2 c =
     let a = c .before .before .before .before .before .before .before .before .before .before .before .before .before .before .before .before .args in
     let planes = planesIn (a .plane-floats .now) (a .plane-words .now) (a .plane-triangles .now) (a .plane-edges .now) (a .count) in (
-      λ tri t h. rw (c .counted .ensures) (path-far (a .s) planes tri t (a .materials .now) (a .source) (a .listener) (a .seq) (λ j. getD (a .t17) j noPoint) (a .order) (omega (arith, c .before .before .before .before .before .before .before .before .before .before .before .before .before .before .before .before .pre .1 .0)) (c .before .before .before .before .before .before .before .before .before .before .before .before .before .before .before .before .pre .1 .1 .1) (rw (c .before .before .before .distance3 .ensures) at (c .before .if1 .left))),
+      λ tri t h. rw (c .counted .ensures) (path-far (a .s) planes tri t (a .materials .now) (a .source) (a .listener) (a .seq) (λ j. getD (a .t17) j noPoint) (a .order) (omega (arith, c .before .before .before .before .before .before .before .before .before .before .before .before .before .before .before .before .pre .1 .0)) (c .before .before .before .before .before
+          .before .before .before .before .before .before .before .before .before .before .before .pre .1 .1 .1) (rw (c .before .before .before .distance3 .ensures) at (c .before .if1 .left))),
       rw (c .counted .ensures) (omega arith),
     )
 

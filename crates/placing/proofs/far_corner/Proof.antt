@@ -1,10 +1,9 @@
+-- `placing::far_corner` meets its contract: coordinate by coordinate, by the contract of `far`.
 use mathlib.Core.Bool.{or-assoc}
 use mathlib.Core.Path.{_∙_}
 use Rattle.placing.specs.Corners.{farCorner, farOf}
 use Rattle.placing.proofs.far_corner.Statement.{statement}
 use Rattle.placing.proofs.far_corner.Tie as tie
-
--- `placing::far_corner` meets its contract: coordinate by coordinate, by the contract of `far`.
 
 returns : tie.Need-returns
 unfolding farCorner

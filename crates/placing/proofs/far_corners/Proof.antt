@@ -1,10 +1,9 @@
+-- `placing::far_corners` meets its contract: corner by corner, by the contract of `far_corner`.
 use mathlib.Core.Bool.{or-assoc}
 use mathlib.Core.Path.{_∙_}
 use Rattle.placing.specs.Corners.{farCorners, farCorner}
 use Rattle.placing.proofs.far_corners.Statement.{statement}
 use Rattle.placing.proofs.far_corners.Tie as tie
-
--- `placing::far_corners` meets its contract: corner by corner, by the contract of `far_corner`.
 
 returns : tie.Need-returns
 unfolding farCorners

@@ -1,3 +1,4 @@
+-- `query::trace_early_reflections` meets its contract: what loading answers decides, and each way ends as the definition says.
 use mathlib.Core.Path.{_≡_, refl, sym, ap, subst, _∙_}
 use mathlib.Core.Bool.{true, false}
 use mathlib.Core.List.{List, [], _∷_}
@@ -21,8 +22,6 @@ use Rattle.query.proofs.Call.{front-refusal, fronted, none-kept, within
 use Rattle.query.proofs.trace_early_reflections.Statement.{statement}
 use Rattle.query.proofs.trace_early_reflections.Tie as tie
 
--- `query::trace_early_reflections` meets its contract: what loading answers decides, and each way ends as the definition says.
-
 load-scene-requires : tie.Need-load-scene-requires
 load-scene-requires c κs = (omega arith, omega arith)
 
@@ -33,7 +32,8 @@ same-length-2 : tie.Need-same-length-2
 same-length-2 c = c .before .before .before .before .before .before .before .before .load-scene .kept .1 .1 .1 .1 .1 .1 .1 .1 .1 .1 .0
 
 returns : tie.Need-returns
-returns c = let a = c .before .before .before .before .before .before .before .before .before .before .before .before .before .before .before .before .before .before .before .before .before .before .before .before .before .before .before .before .before .before .before .before .before .before .before .before .args in let st = a .settings in let g = c .before .before .before .before .before .before .before .before .load-scene in let f = c .before .before .before .front-of in
+returns c = let a = c .before .before .before .before .before .before .before .before .before .before .before .before .before .before .before .before .before .before .before .before .before .before .before .before .before .before .before .before .before .before .before .before .before .before .before .before .args in let st = a .settings in let g = c .before .before
+    .before .before .before .before .before .before .load-scene in let f = c .before .before .before .front-of in
     let s = scene (a .meshes .now) (a .transforms .now) (a .positions .now) (a .indices .now) (a .materials .now) (a .rows-count) in
     let w = work (a .triangles .now) (a .handles .now) (a .tree .now) (a .nodes .now) (a .leaf-order .now) (a .keys .now) (a .low-keys .now) (a .words .now) (a .scratch .now) (a .index .now) (a .numbers .now) (a .adjacency .now) (a .queue .now) (a .offsets .now) (a .floats .now) (a .plane-triangles .now) (a .plane-floats .now) (a .plane-words .now) (a .plane-edges .now) in
     let lens = lengthsOf w (a .out .now) in
@@ -44,13 +44,19 @@ returns c = let a = c .before .before .before .before .before .before .before .b
     let some = early-some k e in
     let less = early-less k e in
     traced st (a .c) s (a .source) (a .listener) (a .separated) (c .refused .result) (a .out .now) (a .out .now) w
-    (work (g .last .1 .1 .1 .1 .1 .1 .1 .1 .1 .0) (g .last .1 .1 .1 .1 .1 .1 .1 .1 .1 .1 .0) (a .tree .now) (a .nodes .now) (a .leaf-order .now) (a .keys .now) (a .low-keys .now) (a .words .now) (a .scratch .now) (a .index .now) (a .numbers .now) (a .adjacency .now) (a .queue .now) (a .offsets .now) (a .floats .now) (a .plane-triangles .now) (a .plane-floats .now) (a .plane-words .now) (a .plane-edges .now))
+    (work (g .last .1 .1 .1 .1 .1 .1 .1 .1 .1 .0) (g .last .1 .1 .1 .1 .1 .1 .1 .1 .1 .1 .0) (a .tree .now) (a .nodes .now) (a .leaf-order .now) (a .keys .now) (a .low-keys .now) (a .words .now) (a .scratch .now) (a .index .now) (a .numbers .now) (a .adjacency .now) (a .queue .now) (a .offsets .now) (a .floats .now) (a .plane-triangles .now) (a .plane-floats .now)
+    (a .plane-words .now) (a .plane-edges .now))
     (refused-answers k (queryIn st (a .c) s (a .source) (a .listener) (a .separated)) (c .refused .result) (a .out .now) (a .out .now) some
     (c .refused .ensures ∙ ap (λ j. answeredOf (refused j)) is) refl)
     (scene-found k w (g .last .1 .1 .1 .1 .1 .1 .1 .1 .1 .0) (g .last .1 .1 .1 .1 .1 .1 .1 .1 .1 .1 .0) (l .filled ∙ left-found k _ _ _ some less) (l .named ∙ left-found k _ _ _ some less) e)
 
 answer-loaded-requires : tie.Need-answer-loaded-requires
-answer-loaded-requires c κs = let model = c .before .before .before .before .before .before .before .before .before .before .before .before .before .before .before .before .before .before .before .before .before .before .before .before .before .before .before .before .before .before .before .before .before .before .before .before .before .before .before .before .before .before .before .before .before .before .before .before .before .before .before .before .before .before .before .good .1 .1 .1 .1 .1 .1 .1 .1 .1 .1 .1 .1 .1 .1 .1 .1 .1 .1 .1 .1 .0 .1 .1 .1 .1 .1 .1 .1 .1 .1 .1 .1 .1 .1 .0 .1 .1 in let a = c .before .before .before .before .before .before .before .before .before .before .before .before .before .before .before .before .before .before .before .before .before .before .before .before .before .before .before .before .before .before .before .before .before .before .before .before .before .before .before .before .before .before .before .before .before .before .before .before .before .before .before .before .before .before .before .args in let st = a .settings in let g = c .before .before .before .before .before .before .before .before .before .before .before .before .before .before .before .before .before .before .before .before .before .before .before .before .before .before .before .load-scene in let f = c .before .before .before .before .before .before .before .before .before .before .before .before .before .before .before .before .before .before .before .before .before .before .front-of in
+answer-loaded-requires c κs =
+    let model = c .before .before .before .before .before .before .before .before .before .before .before .before .before .before .before .before .before .before .before .before .before .before .before .before .before .before .before .before .before .before .before .before .before .before .before .before .before .before .before .before .before .before .before .before
+    .before .before .before .before .before .before .before .before .before .before .before .good .1 .1 .1 .1 .1 .1 .1 .1 .1 .1 .1 .1 .1 .1 .1 .1 .1 .1 .1 .1 .0 .1 .1 .1 .1 .1 .1 .1 .1 .1 .1 .1 .1 .1 .0 .1 .1 in let a = c .before .before .before .before .before .before .before .before .before .before .before .before .before .before .before .before .before .before
+    .before .before .before .before .before .before .before .before .before .before .before .before .before .before .before .before .before .before .before .before .before .before .before .before .before .before .before .before .before .before .before .before .before .before .before .before .before .args in let st = a .settings in let g = c .before .before
+    .before .before .before .before .before .before .before .before .before .before .before .before .before .before .before .before .before .before .before .before
+    .before .before .before .before .before .load-scene in let f = c .before .before .before .before .before .before .before .before .before .before .before .before .before .before .before .before .before .before .before .before .before .before .front-of in
     let s = scene (a .meshes .now) (a .transforms .now) (a .positions .now) (a .indices .now) (a .materials .now) (a .rows-count) in
     let w = work (a .triangles .now) (a .handles .now) (a .tree .now) (a .nodes .now) (a .leaf-order .now) (a .keys .now) (a .low-keys .now) (a .words .now) (a .scratch .now) (a .index .now) (a .numbers .now) (a .adjacency .now) (a .queue .now) (a .offsets .now) (a .floats .now) (a .plane-triangles .now) (a .plane-floats .now) (a .plane-words .now) (a .plane-edges .now) in
     let lens = lengthsOf w (a .out .now) in
@@ -105,10 +111,14 @@ answer-loaded-requires c κs = let model = c .before .before .before .before .be
     )
 
 same-length-3 : tie.Need-same-length-3
-same-length-3 c = let g = c .before .before .before .before .before .before .before .before .before .before .before .before .before .before .before .before .before .before .before .before .before .before .before .before .before .before .before .before .before .before .before .before .before .before .before .before .before .before .before .before .before .before .before .before .before .before .before .before .before .before .before .before .before .before .before .before .before .before .before .before .before .before .before .before .before .before .before .before .load-scene in _∙_ {b = length (g .last .1 .1 .1 .1 .1 .1 .1 .1 .1 .0)} (c .before .before .before .before .before .before .before .before .before .before .before .before .before .before .before .before .before .before .before .before .before .before .before .before .before .before .before .before .before .before .before .before .before .before .before .before .before .before .before .before .answer-loaded .kept .0) (g .kept .1 .1 .1 .1 .1 .1 .1 .1 .1 .0)
+same-length-3 c = let g = c .before .before .before .before .before .before .before .before .before .before .before .before .before .before .before .before .before .before .before .before .before .before .before .before .before .before .before .before .before .before .before .before .before .before .before .before .before .before .before .before .before .before .before
+    .before .before .before .before .before .before .before .before .before .before .before .before .before .before .before .before .before .before .before .before .before .before .before .before .before .load-scene in _∙_ {b = length (g .last .1 .1 .1 .1 .1 .1 .1 .1 .1 .0)} (c .before .before .before .before .before .before .before .before .before .before .before
+    .before .before .before .before .before .before .before .before .before .before .before .before .before .before .before .before .before .before .before .before .before .before .before .before .before .before .before .before .before .answer-loaded .kept .0) (g .kept .1 .1 .1 .1 .1 .1 .1 .1 .1 .0)
 
 same-length-4 : tie.Need-same-length-4
-same-length-4 c = let g = c .before .before .before .before .before .before .before .before .before .before .before .before .before .before .before .before .before .before .before .before .before .before .before .before .before .before .before .before .before .before .before .before .before .before .before .before .before .before .before .before .before .before .before .before .before .before .before .before .before .before .before .before .before .before .before .before .before .before .before .before .before .before .before .before .before .before .before .before .load-scene in _∙_ {b = length (g .last .1 .1 .1 .1 .1 .1 .1 .1 .1 .1 .0)} (c .before .before .before .before .before .before .before .before .before .before .before .before .before .before .before .before .before .before .before .before .before .before .before .before .before .before .before .before .before .before .before .before .before .before .before .before .before .before .before .before .answer-loaded .kept .1 .0) (g .kept .1 .1 .1 .1 .1 .1 .1 .1 .1 .1 .0)
+same-length-4 c = let g = c .before .before .before .before .before .before .before .before .before .before .before .before .before .before .before .before .before .before .before .before .before .before .before .before .before .before .before .before .before .before .before .before .before .before .before .before .before .before .before .before .before .before .before
+    .before .before .before .before .before .before .before .before .before .before .before .before .before .before .before .before .before .before .before .before .before .before .before .before .before .load-scene in _∙_ {b = length (g .last .1 .1 .1 .1 .1 .1 .1 .1 .1 .1 .0)} (c .before .before .before .before .before .before .before .before .before .before .before
+    .before .before .before .before .before .before .before .before .before .before .before .before .before .before .before .before .before .before .before .before .before .before .before .before .before .before .before .before .before .answer-loaded .kept .1 .0) (g .kept .1 .1 .1 .1 .1 .1 .1 .1 .1 .1 .0)
 
 same-length-5 : tie.Need-same-length-5
 same-length-5 c = c .before .before .before .before .before .before .before .before .before .before .before .before .before .before .before .before .before .before .before .before .before .before .before .before .before .before .before .before .before .before .before .before .before .before .before .before .before .before .before .before .answer-loaded .kept .1 .1 .0
@@ -144,36 +154,54 @@ same-length-15 : tie.Need-same-length-15
 same-length-15 c = c .before .before .before .before .before .before .before .before .before .before .before .before .before .before .before .before .before .before .before .before .before .before .before .before .before .before .before .before .before .before .before .before .before .before .before .before .before .before .before .before .answer-loaded .kept .1 .1 .1 .1 .1 .1 .1 .1 .1 .1 .1 .1 .0
 
 same-length-16 : tie.Need-same-length-16
-same-length-16 c = c .before .before .before .before .before .before .before .before .before .before .before .before .before .before .before .before .before .before .before .before .before .before .before .before .before .before .before .before .before .before .before .before .before .before .before .before .before .before .before .before .answer-loaded .kept .1 .1 .1 .1 .1 .1 .1 .1 .1 .1 .1 .1 .1 .0
+same-length-16 c = c .before .before .before .before .before .before .before .before .before .before .before .before .before .before .before .before .before .before .before .before .before .before .before .before .before .before .before .before .before .before .before .before .before .before .before .before .before .before .before .before .answer-loaded .kept .1 .1 .1 .1 .1
+    .1 .1 .1 .1 .1 .1 .1 .1 .0
 
 same-length-17 : tie.Need-same-length-17
-same-length-17 c = c .before .before .before .before .before .before .before .before .before .before .before .before .before .before .before .before .before .before .before .before .before .before .before .before .before .before .before .before .before .before .before .before .before .before .before .before .before .before .before .before .answer-loaded .kept .1 .1 .1 .1 .1 .1 .1 .1 .1 .1 .1 .1 .1 .1 .0
+same-length-17 c = c .before .before .before .before .before .before .before .before .before .before .before .before .before .before .before .before .before .before .before .before .before .before .before .before .before .before .before .before .before .before .before .before .before .before .before .before .before .before .before .before .answer-loaded .kept .1 .1 .1 .1 .1
+    .1 .1 .1 .1 .1 .1 .1 .1 .1 .0
 
 same-length-18 : tie.Need-same-length-18
-same-length-18 c = c .before .before .before .before .before .before .before .before .before .before .before .before .before .before .before .before .before .before .before .before .before .before .before .before .before .before .before .before .before .before .before .before .before .before .before .before .before .before .before .before .answer-loaded .kept .1 .1 .1 .1 .1 .1 .1 .1 .1 .1 .1 .1 .1 .1 .1 .0
+same-length-18 c = c .before .before .before .before .before .before .before .before .before .before .before .before .before .before .before .before .before .before .before .before .before .before .before .before .before .before .before .before .before .before .before .before .before .before .before .before .before .before .before .before .answer-loaded .kept .1 .1 .1 .1 .1
+    .1 .1 .1 .1 .1 .1 .1 .1 .1 .1 .0
 
 same-length-19 : tie.Need-same-length-19
-same-length-19 c = c .before .before .before .before .before .before .before .before .before .before .before .before .before .before .before .before .before .before .before .before .before .before .before .before .before .before .before .before .before .before .before .before .before .before .before .before .before .before .before .before .answer-loaded .kept .1 .1 .1 .1 .1 .1 .1 .1 .1 .1 .1 .1 .1 .1 .1 .1 .0
+same-length-19 c = c .before .before .before .before .before .before .before .before .before .before .before .before .before .before .before .before .before .before .before .before .before .before .before .before .before .before .before .before .before .before .before .before .before .before .before .before .before .before .before .before .answer-loaded .kept .1 .1 .1 .1 .1
+    .1 .1 .1 .1 .1 .1 .1 .1 .1 .1 .1 .0
 
 same-length-20 : tie.Need-same-length-20
-same-length-20 c = c .before .before .before .before .before .before .before .before .before .before .before .before .before .before .before .before .before .before .before .before .before .before .before .before .before .before .before .before .before .before .before .before .before .before .before .before .before .before .before .before .answer-loaded .kept .1 .1 .1 .1 .1 .1 .1 .1 .1 .1 .1 .1 .1 .1 .1 .1 .1 .0
+same-length-20 c = c .before .before .before .before .before .before .before .before .before .before .before .before .before .before .before .before .before .before .before .before .before .before .before .before .before .before .before .before .before .before .before .before .before .before .before .before .before .before .before .before .answer-loaded .kept .1 .1 .1 .1 .1
+    .1 .1 .1 .1 .1 .1 .1 .1 .1 .1 .1 .1 .0
 
 same-length-21 : tie.Need-same-length-21
-same-length-21 c = c .before .before .before .before .before .before .before .before .before .before .before .before .before .before .before .before .before .before .before .before .before .before .before .before .before .before .before .before .before .before .before .before .before .before .before .before .before .before .before .before .answer-loaded .kept .1 .1 .1 .1 .1 .1 .1 .1 .1 .1 .1 .1 .1 .1 .1 .1 .1 .1 .0
+same-length-21 c = c .before .before .before .before .before .before .before .before .before .before .before .before .before .before .before .before .before .before .before .before .before .before .before .before .before .before .before .before .before .before .before .before .before .before .before .before .before .before .before .before .answer-loaded .kept .1 .1 .1 .1 .1
+    .1 .1 .1 .1 .1 .1 .1 .1 .1 .1 .1 .1 .1 .0
 
 same-length-22 : tie.Need-same-length-22
-same-length-22 c = c .before .before .before .before .before .before .before .before .before .before .before .before .before .before .before .before .before .before .before .before .before .before .before .before .before .before .before .before .before .before .before .before .before .before .before .before .before .before .before .before .answer-loaded .kept .1 .1 .1 .1 .1 .1 .1 .1 .1 .1 .1 .1 .1 .1 .1 .1 .1 .1 .1 .0
+same-length-22 c = c .before .before .before .before .before .before .before .before .before .before .before .before .before .before .before .before .before .before .before .before .before .before .before .before .before .before .before .before .before .before .before .before .before .before .before .before .before .before .before .before .answer-loaded .kept .1 .1 .1 .1 .1
+    .1 .1 .1 .1 .1 .1 .1 .1 .1 .1 .1 .1 .1 .1 .0
 
 returns-2 : tie.Need-returns-2
-returns-2 c = let u = c .before .before .before .before .before .before .before .before .before .before .before .before .before .before .before .before .before .before .before .before .before .before .before .before .before .before .before .before .before .before .before .before .before .before .before .before .before .before .before .before .answer-loaded in let a = c .before .before .before .before .before .before .before .before .before .before .before .before .before .before .before .before .before .before .before .before .before .before .before .before .before .before .before .before .before .before .before .before .before .before .before .before .before .before .before .before .before .before .before .before .before .before .before .before .before .before .before .before .before .before .before .before .before .before .before .before .before .before .before .before .before .before .before .before .before .before .before .before .before .before .before .before .before .before .before .before .before .before .before .before .before .before .before .before .before .before .before .before .before .before .before .before .args in let st = a .settings in let g = c .before .before .before .before .before .before .before .before .before .before .before .before .before .before .before .before .before .before .before .before .before .before .before .before .before .before .before .before .before .before .before .before .before .before .before .before .before .before .before .before .before .before .before .before .before .before .before .before .before .before .before .before .before .before .before .before .before .before .before .before .before .before .before .before .before .before .before .before .load-scene in let f = c .before .before .before .before .before .before .before .before .before .before .before .before .before .before .before .before .before .before .before .before .before .before .before .before .before .before .before .before .before .before .before .before .before .before .before .before .before .before .before .before .before .before .before .before .before .before .before .before .before .before .before .before .before .before .before .before .before .before .before .before .before .before .before .front-of in
+returns-2 c = let u = c .before .before .before .before .before .before .before .before .before .before .before .before .before .before .before .before .before .before .before .before .before .before .before .before .before .before .before .before .before .before .before .before .before .before .before .before .before .before .before .before .answer-loaded in let a = c
+    .before .before .before .before .before .before .before .before .before .before .before .before .before .before .before .before .before .before .before .before .before .before .before .before .before .before .before .before .before .before .before .before .before .before .before .before .before .before .before .before .before .before .before .before .before .before
+    .before .before .before .before .before .before .before .before .before .before .before .before .before .before .before .before .before .before .before .before .before .before .before .before .before .before .before .before .before .before .before .before .before .before .before .before .before .before .before .before .before .before .before .before .before
+    .before .before .before .before .before .args in let st = a .settings in let g = c .before .before .before .before .before .before .before .before .before .before .before .before .before .before .before .before .before .before .before .before .before .before .before .before .before .before .before .before .before .before .before .before .before .before
+    .before .before .before .before .before .before .before .before .before .before .before .before .before .before .before .before .before .before .before .before .before .before .before .before .before .before .before .before .before .before .before .before .before .before .load-scene in let f = c .before .before .before .before .before .before .before
+    .before .before .before .before .before .before .before .before .before .before .before .before .before .before .before .before .before .before .before .before .before .before .before .before .before .before .before .before .before .before .before .before .before .before .before .before .before .before .before .before .before .before .before .before
+    .before .before .before .before .before .before .before .before .before .before .before .before .front-of in
     let s = scene (a .meshes .now) (a .transforms .now) (a .positions .now) (a .indices .now) (a .materials .now) (a .rows-count) in
     let w = work (a .triangles .now) (a .handles .now) (a .tree .now) (a .nodes .now) (a .leaf-order .now) (a .keys .now) (a .low-keys .now) (a .words .now) (a .scratch .now) (a .index .now) (a .numbers .now) (a .adjacency .now) (a .queue .now) (a .offsets .now) (a .floats .now) (a .plane-triangles .now) (a .plane-floats .now) (a .plane-words .now) (a .plane-edges .now) in
     let lens = lengthsOf w (a .out .now) in
     let k = firstRefusal st (a .c) s lens in
     let l = g .ensures in
     let is = front-refusal k s (g .result) (f .result) (l .answer) (f .ensures) in
-    let e : earlyOf k ≡ false = sym (ap (λ (j : ℕ). earlyOf j) is) ∙ sym (c .before .before .before .before .before .before .before .before .before .before .before .before .before .before .before .before .before .before .before .before .before .before .before .before .before .before .before .before .before .before .before .before .before .before .before .before .before .before .before .before .before .before .before .before .before .before .before .before .before .before .before .before .before .before .before .before .before .before .before .before .before .before .early .ensures) ∙ c .before .before .before .before .before .before .before .before .before .before .before .before .before .before .before .before .before .before .before .before .before .before .before .before .before .before .before .before .before .before .before .before .before .before .before .before .before .before .before .before .before .before .before .before .before .before .before .before .before .before .before .before .before .before .before .before .before .before .before .before .before .if1 .left in
-    let left = work (u .last .0) (u .last .1 .0) (u .last .1 .1 .0) (u .last .1 .1 .1 .0) (u .last .1 .1 .1 .1 .0) (u .last .1 .1 .1 .1 .1 .0) (u .last .1 .1 .1 .1 .1 .1 .0) (u .last .1 .1 .1 .1 .1 .1 .1 .0) (u .last .1 .1 .1 .1 .1 .1 .1 .1 .0) (u .last .1 .1 .1 .1 .1 .1 .1 .1 .1 .0) (u .last .1 .1 .1 .1 .1 .1 .1 .1 .1 .1 .0) (u .last .1 .1 .1 .1 .1 .1 .1 .1 .1 .1 .1 .0) (u .last .1 .1 .1 .1 .1 .1 .1 .1 .1 .1 .1 .1 .0) (u .last .1 .1 .1 .1 .1 .1 .1 .1 .1 .1 .1 .1 .1 .0) (u .last .1 .1 .1 .1 .1 .1 .1 .1 .1 .1 .1 .1 .1 .1 .0) (u .last .1 .1 .1 .1 .1 .1 .1 .1 .1 .1 .1 .1 .1 .1 .1 .0) (u .last .1 .1 .1 .1 .1 .1 .1 .1 .1 .1 .1 .1 .1 .1 .1 .1 .0) (u .last .1 .1 .1 .1 .1 .1 .1 .1 .1 .1 .1 .1 .1 .1 .1 .1 .1 .0) (u .last .1 .1 .1 .1 .1 .1 .1 .1 .1 .1 .1 .1 .1 .1 .1 .1 .1 .1 .0) in
+    let e : earlyOf k ≡ false = sym (ap (λ (j : ℕ). earlyOf j) is) ∙ sym
+    (c .before .before .before .before .before .before .before .before .before .before .before .before .before .before .before .before .before .before .before .before .before .before .before .before .before .before .before .before .before .before .before .before .before .before .before .before .before .before .before .before .before .before .before .before .before
+    .before .before .before .before .before .before .before .before .before .before .before .before .before .before .before .before .before .early .ensures) ∙ c .before .before .before .before .before .before .before .before .before .before .before .before .before .before .before .before .before .before .before .before .before .before .before .before .before .before
+    .before .before .before .before .before .before .before .before .before .before .before .before .before .before .before .before .before .before .before .before .before .before .before .before .before .before .before .before .before .before .before .before .before .before .before .if1 .left in
+    let left = work (u .last .0) (u .last .1 .0) (u .last .1 .1 .0) (u .last .1 .1 .1 .0) (u .last .1 .1 .1 .1 .0) (u .last .1 .1 .1 .1 .1 .0) (u .last .1 .1 .1 .1 .1 .1 .0) (u .last .1 .1 .1 .1 .1 .1 .1 .0) (u .last .1 .1 .1 .1 .1 .1 .1 .1 .0) (u .last .1 .1 .1 .1 .1 .1 .1 .1 .1 .0) (u .last .1 .1 .1 .1 .1 .1 .1 .1 .1 .1 .0) (u .last .1 .1 .1 .1 .1 .1 .1 .1 .1 .1 .1 .0)
+    (u .last .1 .1 .1 .1 .1 .1 .1 .1 .1 .1 .1 .1 .0) (u .last .1 .1 .1 .1 .1 .1 .1 .1 .1 .1 .1 .1 .1 .0) (u .last .1 .1 .1 .1 .1 .1 .1 .1 .1 .1 .1 .1 .1 .1 .0) (u .last .1 .1 .1 .1 .1 .1 .1 .1 .1 .1 .1 .1 .1 .1 .1 .0) (u .last .1 .1 .1 .1 .1 .1 .1 .1 .1 .1 .1 .1 .1 .1 .1 .1 .0) (u .last .1 .1 .1 .1 .1 .1 .1 .1 .1 .1 .1 .1 .1 .1 .1 .1 .1 .0)
+    (u .last .1 .1 .1 .1 .1 .1 .1 .1 .1 .1 .1 .1 .1 .1 .1 .1 .1 .1 .0) in
     traced st (a .c) s (a .source) (a .listener) (a .separated) (u .result) (a .out .now) (u .last .1 .1 .1 .1 .1 .1 .1 .1 .1 .1 .1 .1 .1 .1 .1 .1 .1 .1 .1 .0) w left
     (loaded-answers st (a .c) s lens (a .source) (a .listener) (a .separated) (f .result .refusal) (f .result .kept) (u .result) (a .out .now) (u .last .1 .1 .1 .1 .1 .1 .1 .1 .1 .1 .1 .1 .1 .1 .1 .1 .1 .1 .1 .0) is
     (λ none. let fr = fronted k s (g .result) (f .result) (l .answer) (f .ensures) (sym is ∙ none) in fr .kept)

@@ -27,10 +27,79 @@ run-words-spec =
     (λ c κs. tt)
     (λ c κs. tt)
     (λ c. tt)
-    (λ c. omega (arith, c .before .before .before .before .before .before .before .before .before .before .before .limited .ensures, c .before .before .before .before .before .before .before .before .before .limited2 .ensures, c .before .before .before .before .before .before .before .limited3 .ensures, c .before .before .before .before .before .limited4 .ensures, c .before .before .before .limited5 .ensures, c .before .limited6 .ensures))
-    (λ c. omega (arith, c .before .before .before .before .before .before .before .before .before .before .before .limited .ensures, c .before .before .before .before .before .before .before .before .before .limited2 .ensures, c .before .before .before .before .before .before .before .limited3 .ensures, c .before .before .before .before .before .limited4 .ensures, c .before .before .before .limited5 .ensures, c .before .limited6 .ensures))
-    (λ c. omega (arith, c .before .before .before .before .before .before .before .before .before .before .before .limited .ensures, c .before .before .before .before .before .before .before .before .before .limited2 .ensures, c .before .before .before .before .before .before .before .limited3 .ensures, c .before .before .before .before .before .limited4 .ensures, c .before .before .before .limited5 .ensures, c .before .limited6 .ensures))
+    (λ c. omega (
+      arith,
+      c .before .before .before .before .before .before .before .before .before .before .before .limited .ensures,
+      c .before .before .before .before .before .before .before .before .before .limited2 .ensures,
+      c .before .before .before .before .before .before .before .limited3 .ensures,
+      c .before .before .before .before .before .limited4 .ensures,
+      c
+          .before .before .before .limited5 .ensures,
+      c .before .limited6 .ensures,
+    ))
+    (λ c. omega (
+      arith,
+      c .before .before .before .before .before .before .before .before .before .before .before .limited .ensures,
+      c .before .before .before .before .before .before .before .before .before .limited2 .ensures,
+      c .before .before .before .before .before .before .before .limited3 .ensures,
+      c .before .before .before .before .before .limited4 .ensures,
+      c
+          .before .before .before .limited5 .ensures,
+      c .before .limited6 .ensures,
+    ))
+    (λ c. omega (
+      arith,
+      c .before .before .before .before .before .before .before .before .before .before .before .limited .ensures,
+      c .before .before .before .before .before .before .before .before .before .limited2 .ensures,
+      c .before .before .before .before .before .before .before .limited3 .ensures,
+      c .before .before .before .before .before .limited4 .ensures,
+      c
+          .before .before .before .limited5 .ensures,
+      c .before .limited6 .ensures,
+    ))
     (λ c κs. tt)
     (λ c. tt)
-    (λ c κs. let p = c .before .before .before .before .before .before .before .before .before .before .before .before .before .before .before .before .pre in (omega arith, omega arith, omega arith, omega arith, omega arith, omega (arith, c .before .before .before .before .before .before .before .before .before .before .before .before .limited .ensures, c .before .before .before .before .before .before .before .before .before .before .limited2 .ensures, c .before .before .before .before .before .before .before .before .limited3 .ensures, c .before .before .before .before .before .before .limited4 .ensures, c .before .before .before .before .limited5 .ensures, c .before .if1 .left, p .0, p .1), omega (arith, c .before .before .before .before .before .before .before .before .before .before .before .before .limited .ensures, c .before .before .before .before .before .before .before .before .before .before .limited2 .ensures, c .before .before .before .before .before .before .before .before .limited3 .ensures, c .before .before .before .before .before .before .limited4 .ensures, c .before .before .before .before .limited5 .ensures, c .before .if1 .left, p .0, p .1), omega (arith, c .before .before .before .before .before .before .before .before .before .before .before .before .limited .ensures, c .before .before .before .before .before .before .before .before .before .before .limited2 .ensures, c .before .before .before .before .before .before .before .before .limited3 .ensures, c .before .before .before .before .before .before .limited4 .ensures, c .before .before .before .before .limited5 .ensures, c .before .if1 .left, p .0, p .1)))
+    (λ c κs. let p = c .before .before .before .before .before .before .before .before .before .before .before .before .before .before .before .before .pre in (
+      omega arith,
+      omega arith,
+      omega arith,
+      omega arith,
+      omega arith,
+      omega (
+        arith,
+        c .before .before .before .before .before .before .before .before .before .before .before .before .limited .ensures,
+        c .before .before .before .before .before .before .before .before .before .before .limited2 .ensures,
+        c .before .before .before .before .before .before .before .before .limited3 .ensures,
+        c .before .before .before .before .before
+            .before .limited4 .ensures,
+        c .before .before .before .before .limited5 .ensures,
+        c .before .if1 .left,
+        p .0,
+        p .1,
+      ),
+      omega (
+        arith,
+        c .before .before .before .before .before .before .before .before .before .before .before .before .limited .ensures,
+        c .before .before .before .before .before .before .before .before .before .before .limited2 .ensures,
+        c .before .before .before .before .before .before .before .before .limited3 .ensures,
+        c .before .before .before .before .before
+            .before .limited4 .ensures,
+        c .before .before .before .before .limited5 .ensures,
+        c .before .if1 .left,
+        p .0,
+        p .1,
+      ),
+      omega (
+        arith,
+        c .before .before .before .before .before .before .before .before .before .before .before .before .limited .ensures,
+        c .before .before .before .before .before .before .before .before .before .before .limited2 .ensures,
+        c .before .before .before .before .before .before .before .before .limited3 .ensures,
+        c .before .before .before .before .before
+            .before .limited4 .ensures,
+        c .before .before .before .before .limited5 .ensures,
+        c .before .if1 .left,
+        p .0,
+        p .1,
+      ),
+    ))
     (λ c. tt))

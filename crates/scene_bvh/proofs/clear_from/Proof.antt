@@ -1,4 +1,4 @@
--- `clear_from` meets its contract: the part cleared and put back (`cleared-is`).
+-- `scene_bvh::clear_from` meets its contract: the part cleared and put back (`cleared-is`).
 use borrow.Author.Needs.{needs}
 use Prim.Native.Nat.{_-_}
 use lib.ListN.{length}

@@ -1,9 +1,8 @@
+-- `search::all_planes` meets its contract: a list of eight is its eight elements.
 use native.Mathlib.Omega.{arith}
 use Rattle.search.proofs.Points.{eight-all}
 use Rattle.search.proofs.all_planes.Statement.{statement}
 use Rattle.search.proofs.all_planes.Tie as tie
-
--- `search::all_planes` meets its contract: a list of eight is its eight elements.
 
 shared-slice-read-t3 : tie.Need-shared-slice-read-t3
 shared-slice-read-t3 c = omega (arith, c .before .pre)

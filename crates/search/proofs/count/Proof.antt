@@ -1,9 +1,8 @@
+-- `search::count` meets its contract: field by field.
 use mathlib.Core.Path.{refl}
 use native.Mathlib.Omega.{arith}
 use Rattle.search.proofs.count.Statement.{statement}
 use Rattle.search.proofs.count.Tie as tie
-
--- `search::count` meets its contract: field by field.
 
 add-t5 : tie.Need-add-t5
 add-t5 c = omega (arith, c .before .pre .0)

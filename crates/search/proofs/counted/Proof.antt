@@ -90,7 +90,8 @@ module _ {M : Type 1} (𝓤 : URA M) (H : Heap 𝓤) (A : Atoms 𝓤) (W : Given
       spelt ! T-Tally.the-row (Is T-Tally.the-row) (shows 𝓤 H A T-Tally.the-row) (LL.vals T-Tally.the-type T′-Tally.the-laws) (LL.tells T-Tally.the-type T′-Tally.the-laws) fullShare g vs l 0 $
       use1 W (‵ (fat fullShare T′-Tally.mir l 0 (LL.val T-Tally.the-type T′-Tally.the-laws g))) (W .laws .raw-at fullShare T′-Tally.mir l 0 (LL.val T-Tally.the-type T′-Tally.the-laws g)) $ frame ! $ done !)
 
-module _ {M : Type 1} (𝓤 : URA M) (H : Heap 𝓤) (A : Atoms 𝓤) (W : Given 𝓤 H A) (at-mem : Memory → SProp 𝓤) (run : Routine → Fun 𝓤) (h : Tally) (rays : ℕ) (found : ℕ) (over : ℕ) (is : Is T-Tally.the-row h (LL.val T-Tally.the-type T′-Tally.the-laws h ∷ [])) (is-rays : Is (u32) rays (vint w32 rays ∷ [])) (is-found : Is (usize) found (vint w64 found ∷ [])) (is-over : Is (usize) over (vint w64 over ∷ [])) where
+module _ {M : Type 1} (𝓤 : URA M) (H : Heap 𝓤) (A : Atoms 𝓤) (W : Given 𝓤 H A) (at-mem : Memory → SProp 𝓤) (run : Routine → Fun 𝓤) (h : Tally) (rays : ℕ) (found : ℕ) (over : ℕ) (is : Is T-Tally.the-row h (LL.val T-Tally.the-type T′-Tally.the-laws h ∷ [])) (is-rays : Is (u32) rays (vint w32 rays ∷ [])) (is-found : Is (usize) found (vint w64 found ∷ [])) (is-over : Is
+    (usize) over (vint w64 over ∷ [])) where
   abbrev Post : Val → SProp 𝓤
   Post = walkOf 𝓤 H A self.ended stayed (self.clauses 𝓤 H A at-mem run) .post ((tt, tt, tt, (h, (rays, (found, (over, tt)))), (LL.val T-Tally.the-type T′-Tally.the-laws h ∷ [], (vint w32 rays ∷ [], (vint w64 found ∷ [], (vint w64 over ∷ [], tt))))), tt)
 

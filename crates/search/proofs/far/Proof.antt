@@ -1,7 +1,6 @@
+-- `search::far` meets its contract: the square of the way from the image to the listener.
 use Rattle.search.proofs.far.Statement.{statement}
 use Rattle.search.proofs.far.Tie as tie
-
--- `search::far` meets its contract: the square of the way from the image to the listener.
 
 returns : tie.Need-returns
 returns c = rw (c .dot3 .ensures, c .before .sub3 .ensures)

@@ -1,10 +1,9 @@
+-- `search::first_images` meets its contract: the source stands first.
 use mathlib.Core.Path.{refl}
 use borrow.Author.Needs.{needs}
 use Rattle.mirror.specs.Rows.{vecIn}
 use Rattle.search.proofs.first_images.Statement.{statement}
 use Rattle.search.proofs.first_images.Tie as tie
-
--- `search::first_images` meets its contract: the source stands first.
 
 returns : tie.Need-returns
 unfolding vecIn

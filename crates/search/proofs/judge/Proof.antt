@@ -1,3 +1,4 @@
+-- `search::judge` meets its contract: by what the path comes to.
 use mathlib.Core.Path.{_≡_, refl, sym, ap, _∙_}
 use Prim.Native.Nat.{ℕ, _≤_}
 use mathlib.Core.Bool.{not}
@@ -11,8 +12,6 @@ use Rattle.search.specs.Outcome.{outcomeOf}
 use Rattle.search.proofs.Laws.{path-most, judged-fails, judged-passes, not-passed, passed}
 use Rattle.search.proofs.judge.Statement.{statement}
 use Rattle.search.proofs.judge.Tie as tie
-
--- `search::judge` meets its contract: by what the path comes to.
 
 all-planes-requires : tie.Need-all-planes-requires
 all-planes-requires c κs = c .before .before .before .before .before .before .before .before .before .before .before .before .before .before .before .pre .sound .seq-room

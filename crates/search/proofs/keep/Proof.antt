@@ -1,3 +1,4 @@
+-- `search::keep` meets its contract: one image more, and a row more where there is room, else the flag.
 use mathlib.Core.Path.{refl}
 use Prim.Native.Nat.{_+_}
 use mathlib.Core.Bool.{not}
@@ -8,8 +9,6 @@ use Rattle.search.specs.Outcome.{foundOf}
 use Rattle.search.proofs.Laws.{keep-some, keep-none}
 use Rattle.search.proofs.keep.Statement.{statement}
 use Rattle.search.proofs.keep.Tie as tie
-
--- `search::keep` meets its contract: one image more, and a row more where there is room, else the flag.
 
 cast-t12 : tie.Need-cast-t12
 cast-t12 c = omega (arith, c .before .before .before .before .before .before .pre .0)

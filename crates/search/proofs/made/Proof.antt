@@ -1,9 +1,8 @@
+-- `search::made` meets its contract: it tells whether the fate is that of bounces that are all made.
 use mathlib.Core.Path.{subst, _∙_}
 use lib.Dec.{T}
 use Rattle.search.proofs.made.Statement.{statement}
 use Rattle.search.proofs.made.Tie as tie
-
--- `search::made` meets its contract: it tells whether the fate is that of bounces that are all made.
 
 fate-back-requires : tie.Need-fate-back-requires
 fate-back-requires c κs = c .before .before .before .before .before .before .before .pre

@@ -1,3 +1,4 @@
+-- `search::may` meets its contract: at place 0 by the rule of the first plane, later by that of the plane before.
 use borrow.Author.Needs.{needs}
 use Prim.Native.Nat.{ℕ, suc, _-_, _<_}
 use mathlib.Core.Path.{_≡_, sym, ap, _∙_}
@@ -10,8 +11,6 @@ use Rattle.search.specs.Outcome.{onOf}
 use Rattle.search.proofs.Laws.{may-begin, planes-length}
 use Rattle.search.proofs.may.Statement.{statement}
 use Rattle.search.proofs.may.Tie as tie
-
--- `search::may` meets its contract: at place 0 by the rule of the first plane, later by that of the plane before.
 
 lies-on-requires : tie.Need-lies-on-requires
 lies-on-requires c κs = (omega (arith, c .before .before .before .before .pre), omega (arith, c .before .before .before .before .pre))

@@ -1,10 +1,9 @@
+-- `search::passed_over` meets its contract: no ray is added.
 use mathlib.Core.Path.{_≡_, refl}
 use Prim.Native.Nat.{ℕ, _+_}
 use native.Mathlib.Omega.{arith}
 use Rattle.search.proofs.passed_over.Statement.{statement}
 use Rattle.search.proofs.passed_over.Tie as tie
-
--- `search::passed_over` meets its contract: no ray is added.
 
 none-more : (n : ℕ) → n + 0 ≡ n
 none-more n = omega arith

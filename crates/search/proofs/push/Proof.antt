@@ -1,3 +1,4 @@
+-- `search::push` meets its contract: the plane and its image are stored.
 use borrow.Author.Needs.{needs}
 use Prim.Native.Nat.{_+_, _*_}
 use mathlib.Core.Path.{_≡_, refl, ap, _∙_}
@@ -9,8 +10,6 @@ use Rattle.mirror.specs.Rows.{planesIn}
 use Rattle.search.specs.Contract.{pointPut}
 use Rattle.search.proofs.push.Statement.{statement}
 use Rattle.search.proofs.push.Tie as tie
-
--- `search::push` meets its contract: the plane and its image are stored.
 
 mul-vec-in : tie.Need-mul-vec-in
 mul-vec-in c = omega (arith, c .before .before .before .before .before .pre .0 .1, c .before .before .before .before .before .good)

@@ -1,3 +1,4 @@
+-- `search::put_point` meets its contract: three stores.
 use borrow.Author.Needs.{needs}
 use Prim.Native.Nat.{_+_}
 use mathlib.Core.Path.{_≡_, refl}
@@ -6,8 +7,6 @@ use lib.ListN.{length, set, length-set}
 use lib.Seq.{lt-length-set}
 use Rattle.search.proofs.put_point.Statement.{statement}
 use Rattle.search.proofs.put_point.Tie as tie
-
--- `search::put_point` meets its contract: three stores.
 
 slice-write-l : tie.Need-slice-write-l
 slice-write-l c = omega (arith, c .pre)

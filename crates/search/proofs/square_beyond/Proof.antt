@@ -1,10 +1,9 @@
+-- `search::square_beyond` meets its contract: by the root of the bound, or nothing is above it.
 use mathlib.Core.Path.{sym, ap, _∙_}
 use lib.Ieee.{Float, lt}
 use Rattle.float.proofs.Beyond.{root-beyond, none-beyond}
 use Rattle.search.proofs.square_beyond.Statement.{statement}
 use Rattle.search.proofs.square_beyond.Tie as tie
-
--- `search::square_beyond` meets its contract: by the root of the bound, or nothing is above it.
 
 returns : tie.Need-returns
 returns c = let far = c .before .before .args .far in λ x h. root-beyond far _ x (ap (lt far) (sym (c .before .sqrt .ensures)) ∙ c .if1 .taken) h

@@ -1,8 +1,7 @@
+-- `search::too_far` meets its contract: `far` of the image that stands there.
 use native.Mathlib.Omega.{arith}
 use Rattle.search.proofs.too_far.Statement.{statement}
 use Rattle.search.proofs.too_far.Tie as tie
-
--- `search::too_far` meets its contract: `far` of the image that stands there.
 
 mul-vec-in : tie.Need-mul-vec-in
 mul-vec-in c = omega (arith, c .before .pre)

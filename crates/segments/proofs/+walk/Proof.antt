@@ -17,7 +17,7 @@ use Rattle.bands.proofs.zeros.Reads as zeros-reads
 use Rattle.segments.proofs.counted.Reads as counted-reads
 use Rattle.segments.proofs.segment_ray.Reads as segment-ray-reads
 use Rattle.segments.proofs.transmission_of.Reads as transmission-of-reads
-use Rattle.trace.proofs.intersect.Reads as intersect-reads
+use Rattle.tree_trace.proofs.intersect.Reads as intersect-reads
 use Rattle.segments.proofs.+walk.{statement}
 use Rattle.segments.proofs.+walk.Tie.{close}
 
@@ -62,8 +62,14 @@ pub +walk-spec : {M : Type 1} → statement M
     (λ c. search needs)
     (λ c κs. tt)
     (λ c. omega (arith, c .before .before .before .before .before .before .before .before .before .before .before .before .before .before .before .before .pre .1 .1))
-    (λ c κs.
-    (omega (arith, c .before .before .before .before .before .before .before .before .before .before .before .before .before .before .before .before .pre .0, c .before .before .before .if2 .left), (c .before .before .before .before .before .before .before .before .before .before .before .before .before .before .before .before .pre .1 .0, omega (arith, c .before .before .before .before .before .before .before .before .before .before .before .before .before .before .before .before .pre .1 .1, c .before .before .before .if2 .left))))
+    (λ c κs. (
+      omega (arith, c .before .before .before .before .before .before .before .before .before .before .before .before .before .before .before .before .pre .0, c .before .before .before .if2 .left),
+      (
+        c .before .before .before .before .before .before .before .before .before .before .before .before .before .before .before .before .pre .1 .0,
+        omega
+            (arith, c .before .before .before .before .before .before .before .before .before .before .before .before .before .before .before .before .pre .1 .1, c .before .before .before .if2 .left),
+      ),
+    ))
     (λ c. λ tri tr h.
     rw (c .walk .ensures tri tr h, c .before .mul .ensures, c .before .before .before .transmission-of .ensures)
     (walk-on (traceIn tri tr) (transmissionOf _) _ _ _ _ _ _ _ (c .before .before .before .before .if2 .left) (c .before .before .before .before .before .before .before .before .before .before .if1 .taken)

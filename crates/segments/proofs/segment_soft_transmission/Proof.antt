@@ -5,7 +5,7 @@ use native.Mathlib.Numerals.{add-one}
 use native.Mathlib.Omega.{arith}
 use borrow.Author.Needs.{needs}
 use Rattle.geometry.specs.declared.Triangle.{Triangle}
-use Rattle.build.specs.Tree.{Tree}
+use Rattle.tree_build.specs.Tree.{Tree}
 use Rattle.segments.specs.declared.Transmission.{Transmission}
 use Rattle.segments.specs.Materials.{transmissionOf}
 use Rattle.segments.specs.Segment.{probeCount, probesOf, segmentSoftTransmissionOf}
@@ -25,7 +25,8 @@ abbrev μ-loop : tie.MeasureT-loop
 μ-loop padded nodes perm rows handles count materials limit radius from to b sum₀ k₀ sum k = probeCount - k
 
 probe-requires : tie.Need-probe-requires Inv-loop μ-loop
-probe-requires c κs = let z : c .before .counted .result .rays ≡ 0 = ap (λ (x : Transmission). x .rays) (c .before .counted .ensures) in (c .before .before .before .before .before .before .before .before .before .before .before .before .pre .0, omega (arith, z, c .before .before .before .before .before .before .before .before .before .before .before .before .pre .1))
+probe-requires c κs =
+    let z : c .before .counted .result .rays ≡ 0 = ap (λ (x : Transmission). x .rays) (c .before .counted .ensures) in (c .before .before .before .before .before .before .before .before .before .before .before .before .pre .0, omega (arith, z, c .before .before .before .before .before .before .before .before .before .before .before .before .pre .1))
 
 loop-holds : tie.Need-loop-holds Inv-loop μ-loop
 unfolding probesOf
@@ -35,8 +36,9 @@ loop-holds c =
 
 probe-requires-2 : tie.Need-probe-requires-2 Inv-loop μ-loop
 probe-requires-2 c κs =
-    let before = c .before .before .before .before .before .before .before .before .before .before .before .before .before .before .before .before .before .before .pre in
-    (before .0, probes-fit (c .before .before .before .before .before .before .before .before .before .before .before .before .before .before .before .before .before .before .args .crossing-limit) (c .before .before .before .before .loop .k) (c .before .before .before .before .loop .sum .rays) (c .before .before .before .before .loop .inv .2) (c .before .before .before .loop-test .taken) (before .1))
+    let b18 = c .before .before .before .before .before .before .before .before .before .before .before .before .before .before .before .before .before .before in
+    let before = b18 .pre in
+    (before .0, probes-fit (b18 .args .crossing-limit) (c .before .before .before .before .loop .k) (c .before .before .before .before .loop .sum .rays) (c .before .before .before .before .loop .inv .2) (c .before .before .before .loop-test .taken) (before .1))
 
 loop-again : tie.Need-loop-again Inv-loop μ-loop
 unfolding probesOf

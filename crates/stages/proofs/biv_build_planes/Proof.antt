@@ -1,8 +1,7 @@
+-- `stages::biv_build_planes` meets its contract: by that of `build_planes`, with settings read from slices.
 use borrow.Author.Needs.{needs}
 use Rattle.stages.proofs.biv_build_planes.Statement.{statement}
 use Rattle.stages.proofs.biv_build_planes.Tie as tie
-
--- `exports::biv_build_planes` meets its contract: by that of `build_planes`, with settings read from slices.
 
 settings-from-requires : tie.Need-settings-from-requires
 settings-from-requires c κs = c .before .before .before .before .before .before .before .before .before .before .before .before .before .before .before .before .before .before .before .before .before .before .pre .1 .0
@@ -53,10 +52,12 @@ same-length-14 : tie.Need-same-length-14
 same-length-14 c = c .before .before .before .before .before .before .before .before .before .before .before .before .before .before .before .before .before .before .before .before .before .before .before .before .before .before .before .before .build-planes .kept .1 .1 .1 .1 .1 .1 .1 .1 .1 .1 .1 .1 .1 .1 .1 .1 .1 .1 .1 .1 .1 .1 .1 .0
 
 returns : tie.Need-returns
-returns c = (
-  λ tri t h. rw (← c .before .before .before .before .before .before .before .before .before .before .before .before .before .before .before .before .before .before .before .before .before .before .before .before .before .before .before .before .before .before .before .before .before .before .before .before .before .before .before .before .before .before .before .settings-from .ensures) (c .before .before .before .before .before .before .before .before .before .before .before .before .before .before .before .before .before .before .before .before .before .before .before .before .before .before .before .before .build-planes .ensures .0 tri t h),
-  ((rw (← c .before .before .before .before .before .before .before .before .before .before .before .before .before .before .before .before .before .before .before .before .before .before .before .before .before .before .before .before .before .before .before .before .before .before .before .before .before .before .before .before .before .before .before .settings-from .ensures) (c .before .before .before .before .before .before .before .before .before .before .before .before .before .before .before .before .before .before .before .before .before .before .before .before .before .before .before .before .build-planes .ensures .1 .0 .0), c .before .before .before .before .before .before .before .before .before .before .before .before .before .before .before .before .before .before .before .before .before .before .before .before .before .before .before .before .build-planes .ensures .1 .0 .1), c .before .before .before .before .before .before .before .before .before .before .before .before .before .before .before .before .before .before .before .before .before .before .before .before .before .before .before .before .build-planes .ensures .1 .1),
-)
+returns c =
+    let b28 = c .before .before .before .before .before .before .before .before .before .before .before .before .before .before .before .before .before .before .before .before .before .before .before .before .before .before .before .before in
+    let b43 = b28 .before .before .before .before .before .before .before .before .before .before .before .before .before .before .before in (
+      λ tri t h. rw (← b43 .settings-from .ensures) (b28 .build-planes .ensures .0 tri t h),
+      ((rw (← b43 .settings-from .ensures) (b28 .build-planes .ensures .1 .0 .0), b28 .build-planes .ensures .1 .0 .1), b28 .build-planes .ensures .1 .1),
+    )
 
 pub biv-build-planes-spec : {M : Type 1} → statement M
 biv-build-planes-spec =

@@ -1,4 +1,4 @@
--- `exports::biv_distance_gain` meets its contract: by the contracts of `curve_of` and `gain`.
+-- `stages::biv_distance_gain` meets its contract: by the contracts of `curve_of` and `gain`.
 use Rattle.stages.proofs.biv_distance_gain.Statement.{statement}
 use Rattle.stages.proofs.biv_distance_gain.Tie as tie
 

@@ -1,4 +1,4 @@
--- `exports::biv_intersect` meets its contract: the floats and the number are those of the answer that `trace::intersect` gives.
+-- `stages::biv_intersect` meets its contract: the floats and the number are those of the answer that `tree_trace::intersect` gives.
 use mathlib.Core.Path.{_≡_, refl, sym, _∙_}
 use native.Mathlib.Omega.{arith}
 use borrow.Author.Needs.{needs}

@@ -1,4 +1,4 @@
--- `exports::biv_load_scene` meets its contract: by the contracts of `settings_from`, `lengths_from` and `load_scene`, and the laws of proofs/Loaded.antt.
+-- `stages::biv_load_scene` meets its contract: by those of `settings_from`, `lengths_from` and `load_scene`, and the laws of proofs/Loaded.antt.
 use mathlib.Core.Path.{_≡_, sym, _∙_}
 use native.Mathlib.Omega.{arith}
 use borrow.Author.Needs.{needs}

@@ -1,3 +1,4 @@
+-- `stages::biv_search_images` meets its contract: by that of `search_images`, with settings and positions read from slices.
 use mathlib.Core.Path.{_≡_, refl, sym, _∙_}
 use native.Mathlib.Omega.{arith}
 use borrow.Author.Needs.{needs}
@@ -6,8 +7,6 @@ use Rattle.stages.proofs.Three.{three}
 use Rattle.stages.proofs.Courses.{crossings-within}
 use Rattle.stages.proofs.biv_search_images.Statement.{statement}
 use Rattle.stages.proofs.biv_search_images.Tie as tie
-
--- `exports::biv_search_images` meets its contract: by that of `search_images`, with settings and positions read from slices.
 
 settings-from-requires : tie.Need-settings-from-requires
 settings-from-requires c κs = let p = c .before .before .before .before .before .before .before .before .before .before .before .before .before .before .before .before .before .before .pre .1 .0 in (p .0, p .1)
@@ -44,10 +43,17 @@ same-length-3 : tie.Need-same-length-3
 same-length-3 c = simp length-set
 
 returns : tie.Need-returns
-returns c = λ tri t reads.
-    let f = c .before .before .before .before .before .before .search-images .result in
-    let k = three (c .before .before .before .before .before .before .before .before .before .before .before .before .before .before .before .before .before .before .before .before .before .before .before .before .before .before .before .before .before .before .args .found .now) (f .images) (f .rays) (f .found) (c .before .before .before .before .before .before .before .before .before .before .before .before .before .before .before .before .before .before .before .before .before .before .before .before .before .before .before .before .before .before .pre .1 .1 .0 .2) in
-    rw (k .zeroth, k .first, k .second, ← c .before .before .before .before .before .before .before .before .before .before .before .settings-from .ensures, ← c .before .before .before .before .before .before .before .before .before .before .point-from .ensures, ← c .before .before .before .before .before .before .before .before .before .point-from2 .ensures) (c .before .before .before .before .before .before .search-images .ensures .0 tri t reads)
+returns c = (
+  (
+      λ tri t reads.
+      let f = c .before .before .before .before .before .before .search-images .result in
+      let k = three (c .before .before .before .before .before .before .before .before .before .before .before .before .before .before .before .before .before .before .before .before .before .before .before .before .before .before .before .before .before .before .args .found .now) (f .images) (f .rays) (f .found) (c .before .before .before .before .before .before .before
+      .before .before .before .before .before .before .before .before .before .before .before .before .before .before .before .before .before .before .before .before .before .before .before .pre .1 .1 .0 .2) in
+      rw (k .zeroth, k .first, k .second, ← c .before .before .before .before .before .before .before .before .before .before .before .settings-from .ensures, ← c .before .before .before .before .before .before .before .before .before .before .point-from .ensures, ← c .before .before .before .before .before .before .before .before .before .point-from2 .ensures)
+      (c .before .before .before .before .before .before .search-images .ensures .0 tri t reads)
+      ),
+  (same-length c, same-length-2 c, same-length-3 c),
+)
 
 pub biv-search-images-spec : {M : Type 1} → statement M
 biv-search-images-spec =

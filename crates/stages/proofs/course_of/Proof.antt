@@ -1,4 +1,4 @@
--- `exports::course_of` meets its contract: the first k planes are there, and the images of their beginnings.
+-- `stages::course_of` meets its contract: the first k planes are there, and the images of their beginnings.
 use mathlib.Core.Path.{_≡_, refl}
 use Prim.Native.Nat.{_-_, _≤_}
 use native.Mathlib.Omega.{arith}
@@ -28,24 +28,43 @@ cast-next-image : tie.Need-cast-next-image Inv-loop μ-loop
 cast-next-image c = omega (arith, c .before .shared-slice-known4 .given (c .before .before .before .loop .k) .fits)
 
 next-image-requires : tie.Need-next-image-requires Inv-loop μ-loop
-next-image-requires c κs = let low = c .before .before .before .before .before .before .before .pre .1 (c .before .before .before .loop .k) (c .before .before .loop-test .taken) in (omega (arith, low, c .before .before .before .before .before .before .before .pre .0), omega (arith, low, c .before .before .before .before .before .before .before .pre .0))
+next-image-requires c κs =
+    let low = c .before .before .before .before .before .before .before .pre .1 (c .before .before .before .loop .k) (c .before .before .loop-test .taken) in (omega (arith, low, c .before .before .before .before .before .before .before .pre .0), omega (arith, low, c .before .before .before .before .before .before .before .pre .0))
 
 array-write-planes : tie.Need-array-write-planes Inv-loop μ-loop
-array-write-planes c = let a = c .before .before .before .before .before .before .before .before .args in let is = c .before .before .before .before .loop .inv .1 (a .source) (coursed-none (a .plane-floats .now) (a .plane-words .now) (a .count) (a .source) (a .seq .now)) in omega (arith, is .seq-room, c .before .before .before .loop-test .taken, c .before .before .before .before .before .before .before .before .pre .0 .2)
+array-write-planes c =
+    let a = c .before .before .before .before .before .before .before .before .args in let is = c .before .before .before .before .loop .inv .1 (a .source) (coursed-none (a .plane-floats .now) (a .plane-words .now) (a .count) (a .source) (a .seq .now)) in omega (
+      arith,
+      is .seq-room,
+      c .before .before .before .loop-test .taken,
+      c .before .before .before .before .before
+          .before .before .before .pre .0 .2,
+    )
 
 add-images : tie.Need-add-images Inv-loop μ-loop
 add-images c = omega (arith, c .before .before .before .loop-test .taken, c .before .before .before .before .before .before .before .before .pre .0 .2)
 
 array-set-from-images : tie.Need-array-set-from-images Inv-loop μ-loop
-array-set-from-images c = let a = c .before .before .before .before .before .before .before .before .args in let is = c .before .before .before .before .loop .inv .1 (a .source) (coursed-none (a .plane-floats .now) (a .plane-words .now) (a .count) (a .source) (a .seq .now)) in omega (arith, is .images-room, c .before .before .before .loop-test .taken, c .before .before .before .before .before .before .before .before .pre .0 .2)
+array-set-from-images c =
+    let a = c .before .before .before .before .before .before .before .before .args in let is = c .before .before .before .before .loop .inv .1 (a .source) (coursed-none (a .plane-floats .now) (a .plane-words .now) (a .count) (a .source) (a .seq .now)) in omega (
+      arith,
+      is .images-room,
+      c .before .before .before .loop-test .taken,
+      c .before .before .before .before
+          .before .before .before .before .pre .0 .2,
+    )
 
 loop-less : tie.Need-loop-less Inv-loop μ-loop
 loop-less c = omega (arith, c .before .before .before .loop-test .taken)
 
 loop-again : tie.Need-loop-again Inv-loop μ-loop
 loop-again c =
-    let a = c .before .before .before .before .before .before .before .before .args in
-    (omega (arith, c .before .before .before .loop-test .taken), λ source h. coursed-more (a .plane-floats .now) (a .plane-words .now) (a .count) source (a .seq .now) (c .before .before .before .before .loop .k) (course (c .before .before .before .before .loop .planes) (c .before .before .before .before .loop .images)) _ _ (omega (arith, c .before .before .before .loop-test .taken, c .before .before .before .before .before .before .before .before .pre .0 .2)) (c .before .before .before .loop-test .taken) refl (λ members edges. c .next-image .ensures members edges (a .count) (c .before .before .before .before .before .before .before .before .pre .1 (c .before .before .before .before .loop .k) (c .before .before .before .loop-test .taken))) (c .before .before .before .before .loop .inv .1 source h))
+    let a = c .before .before .before .before .before .before .before .before .args in (
+      omega (arith, c .before .before .before .loop-test .taken),
+      λ source h. coursed-more (a .plane-floats .now) (a .plane-words .now) (a .count) source (a .seq .now) (c .before .before .before .before .loop .k) (course (c .before .before .before .before .loop .planes) (c .before .before .before .before .loop .images)) _ _ (omega
+          (arith, c .before .before .before .loop-test .taken, c .before .before .before .before .before .before .before .before .pre .0 .2)) (c .before .before .before .loop-test .taken) refl (λ members edges. c .next-image .ensures members edges (a .count) (c .before .before .before .before .before .before .before .before .pre .1 (c .before .before .before .before .loop .k)
+          (c .before .before .before .loop-test .taken))) (c .before .before .before .before .loop .inv .1 source h),
+    )
 
 returns : tie.Need-returns Inv-loop μ-loop
 returns c =

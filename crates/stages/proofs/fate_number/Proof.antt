@@ -1,9 +1,8 @@
+-- `stages::fate_number` meets its contract, by its two tests.
 use borrow.Author.Tests.{eq-eqb, ne-eqb}
 use Rattle.stages.specs.Paths.{trailFate}
 use Rattle.stages.proofs.fate_number.Statement.{statement}
 use Rattle.stages.proofs.fate_number.Tie as tie
-
--- `exports::fate_number` meets its contract, by its two tests.
 
 returns : tie.Need-returns
 unfolding trailFate

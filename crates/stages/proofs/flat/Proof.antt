@@ -1,4 +1,4 @@
--- `exports::flat` meets its contract: arm by arm.
+-- `stages::flat` meets its contract: arm by arm.
 use mathlib.Core.Path.{refl}
 use borrow.Author.Needs.{needs}
 use Rattle.stages.specs.Hits.{flatOf}

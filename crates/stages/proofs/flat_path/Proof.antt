@@ -1,4 +1,4 @@
--- `exports::flat_path` meets its contract: arm by arm.
+-- `stages::flat_path` meets its contract: arm by arm.
 use borrow.Author.Needs.{needs}
 use Rattle.stages.specs.Paths.{flatPathOf}
 use Rattle.stages.proofs.flat_path.Statement.{statement}

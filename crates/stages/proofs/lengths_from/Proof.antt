@@ -1,4 +1,4 @@
--- `exports::lengths_from` meets its contract: the first k are copied.
+-- `stages::lengths_from` meets its contract: the first k are copied.
 use mathlib.Core.Path.{_≡_, refl, sym, _∙_}
 use mathlib.Core.List.{List}
 use Prim.Native.Nat.{ℕ, _+_, _-_, _≤_, _<_}

@@ -1,4 +1,4 @@
--- `exports::nothing` meets its contract: by computation.
+-- `stages::nothing` meets its contract: by computation.
 use Rattle.stages.specs.Paths.{nothingOf}
 use Rattle.stages.proofs.nothing.Statement.{statement}
 use Rattle.stages.proofs.nothing.Tie as tie

@@ -1,4 +1,4 @@
--- `exports::put_path` meets its contract: thirteen stores.
+-- `stages::put_path` meets its contract: thirteen stores.
 use mathlib.Core.Path.{refl}
 use native.Mathlib.Omega.{arith}
 use lib.ListN.{length-set}

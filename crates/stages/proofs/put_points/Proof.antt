@@ -1,3 +1,4 @@
+-- `stages::put_points` meets its contract: the points before k stand in their places.
 use Prim.Native.Nat.{ℕ, _+_, _-_, _*_, _≤_, _<_}
 use mathlib.Core.Path.{_≡_, refl, _∙_}
 use native.Mathlib.Omega.{arith}
@@ -8,8 +9,6 @@ use Rattle.bounces.specs.Areas.{maxOrder, pointIn}
 use Rattle.stages.proofs.Courses.{points-more}
 use Rattle.stages.proofs.put_points.Statement.{statement}
 use Rattle.stages.proofs.put_points.Tie as tie
-
--- `exports::put_points` meets its contract: the points before k stand in their places.
 
 abbrev Inv-loop : tie.InvT-loop
 Inv-loop points₀ all k₀ points k =
@@ -36,7 +35,12 @@ loop-less : tie.Need-loop-less Inv-loop μ-loop
 loop-less c = omega (arith, c .before .before .before .before .before .loop-test .taken)
 
 loop-again : tie.Need-loop-again Inv-loop μ-loop
-loop-again c = (omega (arith, c .before .before .before .before .before .loop-test .taken), c .before .before .put-point .kept .0 ∙ c .before .before .before .before .before .before .loop .inv .1, rw (c .before .before .put-point .ensures) (points-more (c .before .before .before .before .before .before .loop .points) (c .before .before .before .before .before .before .before .before .args .t2) (c .before .before .before .before .before .before .loop .k) (omega (arith, c .before .before .before .before .before .before .loop .inv .1, c .before .before .before .before .before .before .before .before .pre)) (c .before .before .before .before .before .loop-test .taken) (c .before .before .before .before .before .before .loop .inv .2)))
+loop-again c = (
+  omega (arith, c .before .before .before .before .before .loop-test .taken),
+  c .before .before .put-point .kept .0 ∙ c .before .before .before .before .before .before .loop .inv .1,
+  rw (c .before .before .put-point .ensures) (points-more (c .before .before .before .before .before .before .loop .points) (c .before .before .before .before .before .before .before .before .args .t2)
+      (c .before .before .before .before .before .before .loop .k) (omega (arith, c .before .before .before .before .before .before .loop .inv .1, c .before .before .before .before .before .before .before .before .pre)) (c .before .before .before .before .before .loop-test .taken) (c .before .before .before .before .before .before .loop .inv .2)),
+)
 
 same-length : tie.Need-same-length Inv-loop μ-loop
 same-length c = c .before .loop .inv .1

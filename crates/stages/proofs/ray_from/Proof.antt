@@ -1,4 +1,4 @@
--- `exports::ray_from` meets its contract: by computation.
+-- `stages::ray_from` meets its contract: by computation.
 use mathlib.Core.Path.{refl}
 use Rattle.stages.specs.Hits.{rayFrom}
 use borrow.Author.Needs.{needs}

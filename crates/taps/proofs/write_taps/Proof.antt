@@ -1,3 +1,4 @@
+-- `taps::write_taps` meets its contract: what is ranked is stored, and the writer takes it (`ended`).
 use borrow.Author.Needs.{needs}
 use mathlib.Core.Path.{sym, _∙_}
 use lib.ListN.{length}
@@ -5,8 +6,6 @@ use native.Mathlib.Omega.{arith}
 use Rattle.taps.proofs.Ending.{fewer, pointing, ended, exactly, within}
 use Rattle.taps.proofs.write_taps.Statement.{statement}
 use Rattle.taps.proofs.write_taps.Tie as tie
-
--- `taps::write_taps` meets its contract: what is ranked is stored, and the writer takes it (`ended`).
 
 slice-aggregate-rank-reflections : tie.Need-slice-aggregate-rank-reflections
 slice-aggregate-rank-reflections c = sym (c .before .before .before .before .before .before .fresh-positions .ensures)
@@ -30,13 +29,16 @@ slice-aggregate-put-taps-2 c = sym (c .before .before .before .before .before .b
 
 put-taps-requires : tie.Need-put-taps-requires
 put-taps-requires c κs =
-    let a = c .before .before .before .before .before .before .before .before .before .before .before .before .before .before .before .before .before .before .before .before .before .before .before .before .before .before .args in
-    let p = c .before .before .before .before .before .before .before .before .before .before .before .before .before .before .before .before .before .before .before .before .before .before .before .before .before .before .pre in
+    let b17 = c .before .before .before .before .before .before .before .before .before .before .before .before .before .before .before .before .before in
+    let b18 = b17 .before in
+    let b26 = b18 .before .before .before .before .before .before .before .before in
+    let a = b26 .args in
+    let p = b26 .pre in
     let k = c .before .before .before .before .before .before .before .before .before .before .before .rank-reflections .ensures .0 in (
       p .sortable .rows,
       (
-        pointing (a .speed) (a .rate) (a .limit) (a .n) (a .images) (a .candidate-floats .now) (a .candidate-words .now) (c .before .before .before .before .before .before .before .before .before .before .before .before .before .before .before .before .before .before .fresh-positions .result) _ _ (p .few) (p .sendable) k,
-        fewer (a .speed) (a .rate) (a .limit) (a .n) (a .images) (a .candidate-floats .now) (a .candidate-words .now) (c .before .before .before .before .before .before .before .before .before .before .before .before .before .before .before .before .before .before .fresh-positions .result) _ _ (p .few) (p .sendable) k (c .before .before .before .before .before .before .before .before .before .before .before .before .before .before .before .before .before .fresh-taps .result) (exactly (c .before .before .before .before .before .before .before .before .before .before .before .before .before .before .before .before .before .fresh-taps .ensures)),
+        pointing (a .speed) (a .rate) (a .limit) (a .n) (a .images) (a .candidate-floats .now) (a .candidate-words .now) (b18 .fresh-positions .result) _ _ (p .few) (p .sendable) k,
+        fewer (a .speed) (a .rate) (a .limit) (a .n) (a .images) (a .candidate-floats .now) (a .candidate-words .now) (b18 .fresh-positions .result) _ _ (p .few) (p .sendable) k (b17 .fresh-taps .result) (exactly (b17 .fresh-taps .ensures)),
       ),
     )
 
@@ -57,13 +59,16 @@ same-length-4 c = search needs
 
 returns : tie.Need-returns
 returns c =
-    let a = c .before .before .before .before .before .before .before .before .before .before .before .before .before .before .before .before .before .before .before .before .before .before .before .before .before .before .before .before .before .before .before .before .before .before .args in
-    let p = c .before .before .before .before .before .before .before .before .before .before .before .before .before .before .before .before .before .before .before .before .before .before .before .before .before .before .before .before .before .before .before .before .before .before .pre in
+    let b7 = c .before .before .before .before .before .before .before in
+    let b25 = b7 .before .before .before .before .before .before .before .before .before .before .before .before .before .before .before .before .before .before in
+    let b34 = b25 .before .before .before .before .before .before .before .before .before in
+    let a = b34 .args in
+    let p = b34 .pre in
     let e = ended (a .speed) (a .rate) (a .limit) (a .n) (a .images) (a .candidate-floats .now) (a .candidate-words .now) (c .before .before .before .before .before .before .before .before .before .before .before .before .before .before .before .before .before .before .before .before .before .before .before .before .before .before .fresh-positions .result) _ _ (p .few) (p .sendable)
     (c .before .before .before .before .before .before .before .before .before .before .before .before .before .before .before .before .before .before .before .rank-reflections .ensures .0)
-    (c .before .before .before .before .before .before .before .before .before .before .before .before .before .before .before .before .before .before .before .before .before .before .before .before .before .fresh-taps .result) _ (exactly (c .before .before .before .before .before .before .before .before .before .before .before .before .before .before .before .before .before .before .before .before .before .before .before .before .before .fresh-taps .ensures))
-    (c .before .before .before .before .before .before .before .put-taps .kept .1 .1 .1 .1 .1 .0)
-    (c .before .before .before .before .before .before .before .put-taps .ensures)
+    (b25 .fresh-taps .result) _ (exactly (b25 .fresh-taps .ensures))
+    (b7 .put-taps .kept .1 .1 .1 .1 .1 .0)
+    (b7 .put-taps .ensures)
     (a .rays) _ _ (a .out .now) _ (p .for-out)
     (c .before .before .before .write .ensures .0)
     (c .before .before .before .write .ensures .1)

@@ -1,3 +1,4 @@
+-- `walls::mark_planes` meets its contract. The loop's invariant: the bytes before p are those of their planes.
 use borrow.Author.Needs.{needs}
 use Prim.Native.Nat.{ℕ, _-_, _<_, _≤_}
 use mathlib.Core.Path.{_≡_, refl, sym, _∙_}
@@ -10,8 +11,6 @@ use Rattle.search.specs.Outcome.{onOf}
 use Rattle.walls.proofs.Marking.{marks-length, mark-more, mark-all}
 use Rattle.walls.proofs.mark_planes.Statement.{statement}
 use Rattle.walls.proofs.mark_planes.Tie as tie
-
--- `walls::mark_planes` meets its contract. The loop's invariant: the bytes before p are those of their planes.
 
 abbrev Inv-loop : tie.InvT-loop
 Inv-loop floats words source on₀ p₀ on p =

@@ -1,3 +1,4 @@
+-- `walls::planes_of` meets its contract: no triangle is kept, or the scene is loaded and its planes are built.
 use mathlib.Core.Path.{refl, sym, _∙_}
 use lib.ListN.{length}
 use native.Mathlib.Omega.{arith}
@@ -15,8 +16,6 @@ use Rattle.walls.proofs.Unbuilt.{work-unbuilt}
 use Rattle.walls.proofs.planes_of.Statement.{statement}
 use Rattle.walls.proofs.planes_of.Tie as tie
 
--- `walls::planes_of` meets its contract: no triangle is kept, or the scene is loaded and its planes are built.
-
 load-scene-requires : tie.Need-load-scene-requires
 load-scene-requires c κs = (omega arith, omega arith)
 
@@ -27,7 +26,8 @@ same-length-2 : tie.Need-same-length-2
 same-length-2 c = c .before .before .before .before .before .before .before .load-scene .kept .1 .1 .1 .1 .1 .1 .1 .1 .1 .1 .0
 
 returns : tie.Need-returns
-returns c = let a = c .before .before .before .before .before .before .before .before .before .before .before .before .before .before .before .before .before .before .before .before .before .before .before .before .before .before .before .before .before .before .before .before .before .before .args in let st = a .settings in let g = c .before .before .before .before .before .before .before .load-scene in let f = c .before .before .front-of in
+returns c = let a = c .before .before .before .before .before .before .before .before .before .before .before .before .before .before .before .before .before .before .before .before .before .before .before .before .before .before .before .before .before .before .before .before .before .before .args in let st = a .settings in let g = c .before .before .before .before
+    .before .before .before .load-scene in let f = c .before .before .front-of in
     let s = scene (a .meshes .now) (a .transforms .now) (a .positions .now) (a .indices .now) (a .materials .now) (a .rows-count) in
     let areas = work (a .triangles .now) (a .handles .now) (a .tree .now) (a .nodes .now) (a .leaf-order .now) (a .keys .now) (a .low-keys .now) (a .words .now) (a .scratch .now) (a .index .now) (a .numbers .now) (a .adjacency .now) (a .queue .now) (a .offsets .now) (a .floats .now) (a .plane-triangles .now) (a .plane-floats .now) (a .plane-words .now) (a .plane-edges .now) in
     let lens = lensOf areas in
@@ -46,7 +46,8 @@ returns c = let a = c .before .before .before .before .before .before .before .b
     }
 
 clear-from-requires : tie.Need-clear-from-requires
-clear-from-requires c κs = let a = c .before .before .before .before .before .before .before .before .before .before .before .before .before .before .before .before .before .before .before .before .before .before .before .before .before .before .before .before .before .before .before .before .before .before .before .args in let st = a .settings in let g = c .before .before .before .before .before .before .before .before .load-scene in let f = c .before .before .before .front-of in
+clear-from-requires c κs = let a = c .before .before .before .before .before .before .before .before .before .before .before .before .before .before .before .before .before .before .before .before .before .before .before .before .before .before .before .before .before .before .before .before .before .before .before .args in let st = a .settings in let g = c .before
+    .before .before .before .before .before .before .before .load-scene in let f = c .before .before .before .front-of in
     let s = scene (a .meshes .now) (a .transforms .now) (a .positions .now) (a .indices .now) (a .materials .now) (a .rows-count) in
     let areas = work (a .triangles .now) (a .handles .now) (a .tree .now) (a .nodes .now) (a .leaf-order .now) (a .keys .now) (a .low-keys .now) (a .words .now) (a .scratch .now) (a .index .now) (a .numbers .now) (a .adjacency .now) (a .queue .now) (a .offsets .now) (a .floats .now) (a .plane-triangles .now) (a .plane-floats .now) (a .plane-words .now) (a .plane-edges .now) in
     let lens = lensOf areas in
@@ -62,7 +63,9 @@ clear-from-requires c κs = let a = c .before .before .before .before .before .b
     let lim = limits s (g .last .1 .1 .1 .1 .1 .1 .1 .1 .1 .0) (g .last .1 .1 .1 .1 .1 .1 .1 .1 .1 .1 .0) (f .result .triples) (f .result .kept) there in omega (arith, lim .fewer, g .kept .1 .1 .1 .1 .1 .1 .1 .1 .1 .1 .0, room .handles-room)
 
 build-scene-requires : tie.Need-build-scene-requires
-build-scene-requires c κs = let a = c .before .before .before .before .before .before .before .before .before .before .before .before .before .before .before .before .before .before .before .before .before .before .before .before .before .before .before .before .before .before .before .before .before .before .before .before .before .before .before .before .before .before .before .before .before .before .before .before .before .before .before .before .before .before .before .before .before .args in let st = a .settings in let g = c .before .before .before .before .before .before .before .before .before .before .before .before .before .before .before .before .before .before .before .before .before .before .before .before .before .before .before .before .before .before .load-scene in let f = c .before .before .before .before .before .before .before .before .before .before .before .before .before .before .before .before .before .before .before .before .before .before .before .before .before .front-of in
+build-scene-requires c κs = let a = c .before .before .before .before .before .before .before .before .before .before .before .before .before .before .before .before .before .before .before .before .before .before .before .before .before .before .before .before .before .before .before .before .before .before .before .before .before .before .before .before .before
+    .before .before .before .before .before .before .before .before .before .before .before .before .before .before .before .before .args in let st = a .settings in let g = c .before .before .before .before .before .before .before .before .before .before .before .before .before .before .before .before .before .before .before .before .before .before .before .before
+    .before .before .before .before .before .before .load-scene in let f = c .before .before .before .before .before .before .before .before .before .before .before .before .before .before .before .before .before .before .before .before .before .before .before .before .before .front-of in
     let s = scene (a .meshes .now) (a .transforms .now) (a .positions .now) (a .indices .now) (a .materials .now) (a .rows-count) in
     let areas = work (a .triangles .now) (a .handles .now) (a .tree .now) (a .nodes .now) (a .leaf-order .now) (a .keys .now) (a .low-keys .now) (a .words .now) (a .scratch .now) (a .index .now) (a .numbers .now) (a .adjacency .now) (a .queue .now) (a .offsets .now) (a .floats .now) (a .plane-triangles .now) (a .plane-floats .now) (a .plane-words .now) (a .plane-edges .now) in
     let lens = lensOf areas in
@@ -103,10 +106,14 @@ build-scene-requires c κs = let a = c .before .before .before .before .before .
     }
 
 same-length-3 : tie.Need-same-length-3
-same-length-3 c = c .before .before .before .before .before .before .before .before .before .before .before .before .before .before .before .before .before .before .before .before .before .before .before .before .before .before .before .before .before .before .before .before .before .before .before .before .before .before .before .before .before .before .before .before .before .before .before .before .before .before .before .before .before .before .before .before .before .before .before .before .before .before .before .before .before .load-scene .kept .1 .1 .1 .1 .1 .1 .1 .1 .1 .0
+same-length-3 c = c .before .before .before .before .before .before .before .before .before .before .before .before .before .before .before .before .before .before .before .before .before .before .before .before .before .before .before .before .before .before .before .before .before .before .before .before .before .before .before .before .before .before .before .before
+    .before .before .before .before .before .before .before .before .before .before .before .before .before .before .before .before .before .before .before .before .before .load-scene .kept .1 .1 .1 .1 .1 .1 .1 .1 .1 .0
 
 same-length-4 : tie.Need-same-length-4
-same-length-4 c = let d = c .before .before .before .before .before .before .before .before .before .before .before .before .before .before .before .before .before .before .before .before .before .before .before .before .before .before .before .before .before .before .before .before .before .before .before .before .before .before .before .before .before .before .before .before .before .before .before .before .before .before .before .before .before .before .before .before .clear-from in let g = c .before .before .before .before .before .before .before .before .before .before .before .before .before .before .before .before .before .before .before .before .before .before .before .before .before .before .before .before .before .before .before .before .before .before .before .before .before .before .before .before .before .before .before .before .before .before .before .before .before .before .before .before .before .before .before .before .before .before .before .before .before .before .before .before .before .load-scene in _∙_ {b = length (g .last .1 .1 .1 .1 .1 .1 .1 .1 .1 .1 .0)} (d .kept .0) (g .kept .1 .1 .1 .1 .1 .1 .1 .1 .1 .1 .0)
+same-length-4 c = let d = c .before .before .before .before .before .before .before .before .before .before .before .before .before .before .before .before .before .before .before .before .before .before .before .before .before .before .before .before .before .before .before .before .before .before .before .before .before .before .before .before .before .before .before
+    .before .before .before .before .before .before .before .before .before .before .before .before .before .clear-from in let g = c .before .before .before .before .before .before .before .before .before .before .before .before .before .before .before .before .before .before .before .before .before .before .before .before .before .before .before .before .before .before
+    .before .before .before .before .before .before .before .before .before .before .before .before .before .before .before .before .before .before .before .before .before .before .before .before .before .before .before .before .before .before .before .before .before .before .before .load-scene in _∙_ {b = length (g .last .1 .1 .1 .1 .1 .1 .1 .1 .1 .1 .0)} (d .kept .0)
+    (g .kept .1 .1 .1 .1 .1 .1 .1 .1 .1 .1 .0)
 
 same-length-5 : tie.Need-same-length-5
 same-length-5 c = c .before .before .before .before .before .before .before .before .before .before .before .before .before .before .before .before .before .before .before .before .before .before .before .before .before .before .before .before .before .before .before .before .before .before .build-scene .kept .0
@@ -160,14 +167,20 @@ same-length-21 : tie.Need-same-length-21
 same-length-21 c = c .before .before .before .before .before .before .before .before .before .before .before .before .before .before .before .before .before .before .before .before .before .before .before .before .before .before .before .before .before .before .before .before .before .before .build-scene .kept .1 .1 .1 .1 .1 .1 .1 .1 .1 .1 .1 .1 .1 .1 .1 .1 .0
 
 returns-2 : tie.Need-returns-2
-returns-2 c = let a = c .before .before .before .before .before .before .before .before .before .before .before .before .before .before .before .before .before .before .before .before .before .before .before .before .before .before .before .before .before .before .before .before .before .before .before .before .before .before .before .before .before .before .before .before .before .before .before .before .before .before .before .before .before .before .before .before .before .before .before .before .before .before .before .before .before .before .before .before .before .before .before .before .before .before .before .before .before .before .before .before .before .before .before .before .before .before .before .before .before .before .before .before .args in let st = a .settings in let g = c .before .before .before .before .before .before .before .before .before .before .before .before .before .before .before .before .before .before .before .before .before .before .before .before .before .before .before .before .before .before .before .before .before .before .before .before .before .before .before .before .before .before .before .before .before .before .before .before .before .before .before .before .before .before .before .before .before .before .before .before .before .before .before .before .before .load-scene in let f = c .before .before .before .before .before .before .before .before .before .before .before .before .before .before .before .before .before .before .before .before .before .before .before .before .before .before .before .before .before .before .before .before .before .before .before .before .before .before .before .before .before .before .before .before .before .before .before .before .before .before .before .before .before .before .before .before .before .before .before .before .front-of in
+returns-2 c = let a = c .before .before .before .before .before .before .before .before .before .before .before .before .before .before .before .before .before .before .before .before .before .before .before .before .before .before .before .before .before .before .before .before .before .before .before .before .before .before .before .before .before .before .before
+    .before .before .before .before .before .before .before .before .before .before .before .before .before .before .before .before .before .before .before .before .before .before .before .before .before .before .before .before .before .before .before .before .before .before .before .before .before .before .before .before .before .before .before .before .before .before
+    .before .before .before .args in let st = a .settings in let g = c .before .before .before .before .before .before .before .before .before .before .before .before .before .before .before .before .before .before .before .before .before .before .before .before .before .before .before .before .before .before .before .before .before .before .before .before .before
+    .before .before .before .before .before .before .before .before .before .before .before .before .before .before .before .before .before .before .before .before .before .before .before .before .before .before .before .before .load-scene in let f = c .before .before .before .before .before .before .before .before .before .before .before .before .before .before
+    .before .before .before .before .before .before .before .before .before .before .before .before .before .before .before .before .before .before .before .before .before .before .before .before .before .before .before .before .before .before .before .before .before .before .before .before .before .before .before .before .before .before .before .before .before .before .front-of in
     let s = scene (a .meshes .now) (a .transforms .now) (a .positions .now) (a .indices .now) (a .materials .now) (a .rows-count) in
     let areas = work (a .triangles .now) (a .handles .now) (a .tree .now) (a .nodes .now) (a .leaf-order .now) (a .keys .now) (a .low-keys .now) (a .words .now) (a .scratch .now) (a .index .now) (a .numbers .now) (a .adjacency .now) (a .queue .now) (a .offsets .now) (a .floats .now) (a .plane-triangles .now) (a .plane-floats .now) (a .plane-words .now) (a .plane-edges .now) in
     let lens = lensOf areas in
     let k = firstRefusal st (a .c) s lens in
     let l = g .ensures in
     let is = front-refusal k s (g .result) (f .result) (l .answer) (f .ensures) in
-    let some = pos-of-ne-zero (c .before .before .before .before .before .before .before .before .before .before .before .before .before .before .before .before .before .before .before .before .before .before .before .before .before .before .before .before .before .before .before .before .before .before .before .before .before .before .before .before .before .before .before .before .before .before .before .before .before .before .before .before .before .before .before .before .before .before .if1 .left) in
+    let some = pos-of-ne-zero
+    (c .before .before .before .before .before .before .before .before .before .before .before .before .before .before .before .before .before .before .before .before .before .before .before .before .before .before .before .before .before .before .before .before .before .before .before .before .before .before .before .before .before .before .before .before .before
+    .before .before .before .before .before .before .before .before .before .before .before .before .before .if1 .left) in
     let none = unrefused (f .result .refusal) (f .result .kept) (none-kept k s (g .result) (f .result) (l .answer) (f .ensures)) some in
     let fr = fronted k s (g .result) (f .result) (l .answer) (f .ensures) (sym is ∙ none) in
     let there = loaded st (a .c) s lens (a .triangles .now) (a .handles .now) (g .result) (g .last .1 .1 .1 .1 .1 .1 .1 .1 .1 .0) (g .last .1 .1 .1 .1 .1 .1 .1 .1 .1 .1 .0) (f .result .kept) (placings s) (f .result .triples) (fr .loaded) l in
@@ -175,7 +188,9 @@ returns-2 c = let a = c .before .before .before .before .before .before .before 
     let room = acc .room in let p = c .before .before .before .before .before .before .before .before .before .before .before .before .before .before .before .before .before .before .before .before .before .before .before .before .before .before .before .before .before .before .before .before .before .before .build-scene .ensures .planes-stand in let inside = within st (a .c) (acc .settings) in
     record {
       refusal = sym (sym is ∙ none);
-      are = λ z some. p .are s (g .last .1 .1 .1 .1 .1 .1 .1 .1 .1 .1 .0) there (c .before .before .before .before .before .before .before .before .before .before .before .before .before .before .before .before .before .before .before .before .before .before .before .before .before .before .before .before .before .before .before .before .before .before .before .before .before .before .before .before .before .before .before .before .before .before .before .before .before .before .before .before .before .before .before .before .clear-from .ensures);
+      are = λ z some. p .are s (g .last .1 .1 .1 .1 .1 .1 .1 .1 .1 .1 .0) there
+          (c .before .before .before .before .before .before .before .before .before .before .before .before .before .before .before .before .before .before .before .before .before .before .before .before .before .before .before .before .before .before .before .before .before .before .before .before .before .before .before .before .before .before .before .before .before
+          .before .before .before .before .before .before .before .before .before .before .before .clear-from .ensures);
       refused = λ no-answer. absurd (no-answer (sym is ∙ none));
       bare = λ empty. absurd (let no : ⊥ = omega (arith, fr .kept, some, empty) in no);
       unbuilt = λ empty. absurd (let no : ⊥ = omega (arith, fr .kept, some, empty (sym is ∙ none)) in no);

@@ -1,10 +1,9 @@
+-- `booth::faults::has` meets its contract: each turn is one byte more.
 use borrow.Author.Needs.{needs}
 use Prim.Native.Nat.{_-_}
 use lib.ListN.{length}
 use Rattle.booth.proofs.faults.has.Statement.{statement}
 use Rattle.booth.proofs.faults.has.Tie as tie
-
--- `booth::faults::has` meets its contract: each turn is one byte more.
 
 abbrev Inv-loop : tie.InvT-loop
 Inv-loop s b i₀ i = Unit {0}

@@ -1,9 +1,8 @@
+-- `booth::faults::token` meets its contract: each turn is one token more.
 use borrow.Author.Needs.{needs}
 use Prim.Native.Nat.{_-_}
 use Rattle.booth.proofs.faults.token.Statement.{statement}
 use Rattle.booth.proofs.faults.token.Tie as tie
-
--- `booth::faults::token` meets its contract: each turn is one token more.
 
 abbrev Inv-loop : tie.InvT-loop
 Inv-loop s n t₀ k₀ t k = Unit {0}

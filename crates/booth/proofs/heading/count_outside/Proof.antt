@@ -1,9 +1,8 @@
+-- `booth::heading::count_outside` meets its contract: each turn is one float more.
 use borrow.Author.Needs.{needs}
 use Prim.Native.Nat.{_-_}
 use Rattle.booth.proofs.heading.count_outside.Statement.{statement}
 use Rattle.booth.proofs.heading.count_outside.Tie as tie
-
--- `booth::heading::count_outside` meets its contract: each turn is one float more.
 
 abbrev Inv-loop : tie.InvT-loop
 Inv-loop rows end n₀ k₀ n k = Unit {0}

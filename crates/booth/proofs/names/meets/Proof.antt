@@ -1,9 +1,8 @@
+-- `booth::names::meets` meets its contract: each turn is one wall more.
 use borrow.Author.Needs.{needs}
 use Prim.Native.Nat.{_-_}
 use Rattle.booth.proofs.names.meets.Statement.{statement}
 use Rattle.booth.proofs.names.meets.Tie as tie
-
--- `booth::names::meets` meets its contract: each turn is one wall more.
 
 abbrev Inv-loop : tie.InvT-loop
 Inv-loop on order number p met planes k₀ k = Unit {0}

@@ -1,9 +1,8 @@
+-- `booth::names::occurs` meets its contract: each turn is one tap more.
 use borrow.Author.Needs.{needs}
 use Prim.Native.Nat.{_-_}
 use Rattle.booth.proofs.names.occurs.Statement.{statement}
 use Rattle.booth.proofs.names.occurs.Tie as tie
-
--- `booth::names::occurs` meets its contract: each turn is one tap more.
 
 abbrev Inv-loop : tie.InvT-loop
 Inv-loop taps on order count p i₀ i = Unit {0}

@@ -1,9 +1,8 @@
+-- `booth::names::print_walls` meets its contract: each turn is one wall more.
 use borrow.Author.Needs.{needs}
 use Prim.Native.Nat.{_-_}
 use Rattle.booth.proofs.names.print_walls.Statement.{statement}
 use Rattle.booth.proofs.names.print_walls.Tie as tie
-
--- `booth::names::print_walls` meets its contract: each turn is one wall more.
 
 abbrev Inv-loop : tie.InvT-loop
 Inv-loop on order number met planes k₀ k = Unit {0}

@@ -1,9 +1,8 @@
+-- `booth::notes::on_any` meets its contract: each turn is one plane more.
 use borrow.Author.Needs.{needs}
 use Prim.Native.Nat.{_-_}
 use Rattle.booth.proofs.notes.on_any.Statement.{statement}
 use Rattle.booth.proofs.notes.on_any.Tie as tie
-
--- `booth::notes::on_any` meets its contract: each turn is one plane more.
 
 abbrev Inv-loop : tie.InvT-loop
 Inv-loop on planes k₀ k = Unit {0}

@@ -1,10 +1,9 @@
+-- `booth::remarks::mesh_place` meets its contract: each turn is one token more.
 use borrow.Author.Needs.{needs}
 use Prim.Native.Nat.{_-_}
 use lib.ListN.{length}
 use Rattle.booth.proofs.remarks.mesh_place.Statement.{statement}
 use Rattle.booth.proofs.remarks.mesh_place.Tie as tie
-
--- `booth::remarks::mesh_place` meets its contract: each turn is one token more.
 
 abbrev Inv-loop : tie.InvT-loop
 Inv-loop s j at₀ left₀ k₀ at left k = Unit {0}

@@ -1,10 +1,9 @@
+-- `booth::remarks::place_of` meets its contract: each turn is one byte more.
 use borrow.Author.Needs.{needs}
 use Prim.Native.Nat.{_-_}
 use lib.ListN.{length}
 use Rattle.booth.proofs.remarks.place_of.Statement.{statement}
 use Rattle.booth.proofs.remarks.place_of.Tie as tie
-
--- `booth::remarks::place_of` meets its contract: each turn is one byte more.
 
 abbrev Inv-loop : tie.InvT-loop
 Inv-loop s at b i₀ i = Unit {0}

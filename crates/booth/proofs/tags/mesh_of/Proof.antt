@@ -1,10 +1,9 @@
+-- `booth::tags::mesh_of` meets its contract: each turn is one mesh more.
 use borrow.Author.Needs.{needs}
 use Prim.Native.Nat.{_-_}
 use lib.ListN.{length}
 use Rattle.booth.proofs.tags.mesh_of.Statement.{statement}
 use Rattle.booth.proofs.tags.mesh_of.Tie as tie
-
--- `booth::tags::mesh_of` meets its contract: each turn is one mesh more.
 
 abbrev Inv-loop : tie.InvT-loop
 Inv-loop ends t j₀ j = Unit {0}

@@ -1,11 +1,10 @@
+-- `booth::tags::set_planes` meets its contract: each turn is one plane more.
 use borrow.Author.Needs.{needs}
 use Prim.Native.Nat.{_-_}
 use mathlib.Core.Path.{_≡_}
 use lib.ListN.{length}
 use Rattle.booth.proofs.tags.set_planes.Statement.{statement}
 use Rattle.booth.proofs.tags.set_planes.Tie as tie
-
--- `booth::tags::set_planes` meets its contract: each turn is one plane more.
 
 abbrev Inv-loop : tie.InvT-loop
 Inv-loop on₀ words triangles meshes ends planes p₀ on p = length on ≡ length on₀

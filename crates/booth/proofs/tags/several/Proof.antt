@@ -1,9 +1,8 @@
+-- `booth::tags::several` meets its contract: each turn is one triangle more.
 use borrow.Author.Needs.{needs}
 use Prim.Native.Nat.{_-_}
 use Rattle.booth.proofs.tags.several.Statement.{statement}
 use Rattle.booth.proofs.tags.several.Tie as tie
-
--- `booth::tags::several` meets its contract: each turn is one triangle more.
 
 abbrev Inv-loop : tie.InvT-loop
 Inv-loop triangles ends first count mesh k₀ k = Unit {0}

@@ -1,7 +1,0 @@
--- `faces::wide` meets its contract: a `u32` fits.
-use borrow.Author.Needs.{needs}
-use Rattle.faces.proofs.wide.Statement.{statement}
-use Rattle.faces.proofs.wide.Tie as tie
-
-pub wide-spec : {M : Type 1} → statement M
-wide-spec = tie.close (tie.spec (λ c. search needs))

@@ -1,8 +1,0 @@
--- The laws that the proofs of `fit` cite.
-pub mod Folds
-pub mod Members
-pub mod Naming
-pub mod Copying
-pub mod Fitting
-pub mod Planes
-pub mod Partition

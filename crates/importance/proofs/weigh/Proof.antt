@@ -1,8 +1,0 @@
--- `importance::weigh` meets its contract: by the contract of `distance3`.
-use Rattle.importance.specs.Importance.{weighedOf}
-use Rattle.importance.proofs.weigh.Statement.{statement}
-use Rattle.importance.proofs.weigh.Tie as tie
-
-pub weigh-spec : {M : Type 1} → statement M
-unfolding weighedOf
-weigh-spec = tie.close (tie.spec (λ c κs. tt) (λ c. λ b at far. rw (← at, ← far, ← c .distance3 .ensures)))

@@ -1,3 +1,0 @@
--- The definitions that the contracts of `links` cite, and the adjacency of step 4 of `build_planes`.
-pub mod Words
-pub mod Links

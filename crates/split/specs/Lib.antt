@@ -1,2 +1,0 @@
--- The definitions that the contracts of `split` cite.
-pub mod Split

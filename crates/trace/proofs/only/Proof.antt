@@ -1,9 +1,0 @@
--- `trace::only` meets its contract.
-use mathlib.Core.Path.{refl}
-use Rattle.trace.specs.Trace.{onlyOf}
-use Rattle.trace.proofs.only.Statement.{statement}
-use Rattle.trace.proofs.only.Tie as tie
-
-pub only-spec : {M : Type 1} → statement M
-unfolding onlyOf
-only-spec = tie.close (tie.spec (λ c. refl))

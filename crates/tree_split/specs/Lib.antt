@@ -1,0 +1,2 @@
+-- The definitions that the contracts of `tree_split` cite.
+pub mod Split
