@@ -1,5 +1,6 @@
 // The borders of planes: the edges that no other edge of the plane's triangles lies on. In place of the Rust's map from edges to counts,
 // the edges of all planes are sorted by their ends (`planes_faces::first_indexes`), and each counts at the first that lies on it.
+// A crate of its own, as each step of its group is, so that it is checked alone.
 ghost use mathlib.Core.Path.{_≡_};
 ghost use Prim.Native.Nat.{ℕ, _+_, _*_, _/_, _<_, _≤_};
 ghost use lib.Ieee.{Float, nan};

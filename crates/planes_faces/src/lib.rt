@@ -1,5 +1,6 @@
 // Duplicate faces of a scene, the first step of the mirror planes: the first triangle with the three vertices of each, in any order
 // and winding. A vertex is its corner in steps of 1 mm. In place of the Rust's map from keys, keys are sorted and their runs walked.
+// A crate of its own, as each step of its group is, so that it is checked alone.
 ghost use mathlib.Core.Path.{_≡_};
 ghost use mathlib.Core.Bool.{Bool};
 ghost use Prim.Native.Nat.{ℕ, _+_, _*_, _/_, _%_, _<_, _≤_};

@@ -1,4 +1,5 @@
 // A plane for each group of patches: a patch as it is, or the best fit of several.
+// A crate of its own, as each step of its group is, so that it is checked alone.
 use geometry::Aabb;
 use geometry::Triangle;
 use mirror::PlaneRow;

@@ -1,4 +1,5 @@
 // STEP 4 of the planes: groups of adjacent patches that grow breadth first from seeds, the largest patch first.
+// A crate of its own, as each step of its group is, so that it is checked alone.
 use geometry::Triangle;
 use planes_links::MOST_TRIANGLES;
 use vector::Vec3;

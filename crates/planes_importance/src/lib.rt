@@ -1,5 +1,6 @@
 // The ranking of planes by importance, step 5 of `build_planes`: area with a mild weight for being central.
 // Planes stand in areas as `mirror` has them; the ranking gives their order.
+// A crate of its own, as each step of its group is, so that it is checked alone.
 use geometry::Aabb;
 use geometry::Triangle;
 use vector::Vec3;

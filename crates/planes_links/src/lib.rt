@@ -1,6 +1,7 @@
 // Relations between small numbers as rows in areas: which triangles a patch has, which patches a vertex has, which patches are linked.
 // A pair of numbers is a word, the first above the second; the words are sorted, repeats are left out, and row r is those of the first
 // number r. It takes the place of the Rust's vectors of vectors.
+// A crate of its own, as each step of its group is, so that it is checked alone.
 ghost use mathlib.Core.Path.{_≡_};
 ghost use mathlib.Core.Bool.{true, false, _&&_, _||_};
 ghost use mathlib.Core.List.{[], _∷_, _++_, map};

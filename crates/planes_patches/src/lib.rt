@@ -1,6 +1,7 @@
 // Coplanar patches of a scene, step 2 of `build_planes`: each triangle joins the first patch of its plane, or starts one.
 // A patch is a row of floats and the number that its triangles have in `of`. In place of the Rust's map from cells to patches, patches
 // whose cells share one of 4,096 buckets stand in a circular list from the oldest to the newest, the tail, to which `heads` leads.
+// A crate of its own, as each step of its group is, so that it is checked alone.
 use geometry::Aabb;
 use geometry::Triangle;
 use vector::Vec3;

@@ -1,4 +1,5 @@
 // STEP 5 of `build_planes`: the most important planes, each with its border.
+// A crate of its own, as each step of its group is, so that it is checked alone.
 use mirror::PlaneRow;
 ghost use mathlib.Core.Path.{_≡_};
 ghost use Prim.Native.Nat.{ℕ, _+_, _*_, _/_, _<_, _≤_};

@@ -1,5 +1,6 @@
 // The tree of `BvhNode::build_sah`, built into areas that the caller lends: of each node the box in six floats and the links in four
 // numbers, as the Rust's `FlatNode`.
+// A crate of its own, as each step of its group is, so that it is checked alone.
 use geometry::Aabb;
 use vector::Vec3;
 ghost use mathlib.Core.Path.{_≡_};

@@ -1,5 +1,6 @@
 // Where a list of triangles is split: the search of `BvhNode::build_sah` for the least cost over three axes. Of a triangle it needs
 // the box and the centroid: `extents` holds nine floats a triangle, where the Rust works them out in each pass.
+// A crate of its own, as each step of its group is, so that it is checked alone.
 use geometry::Aabb;
 use vector::Vec3;
 ghost use mathlib.Core.Path.{_≡_};

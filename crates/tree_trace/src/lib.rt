@@ -1,5 +1,6 @@
 // The nearest hit of a ray in a tree that stands in areas: `FlatBvh::intersect`. Each node's box is padded already, and of each triangle
 // a row in the leaves' order holds what the test of a ray needs.
+// A crate of its own, as each step of its group is, so that it is checked alone.
 use geometry::Aabb;
 use geometry::Edges;
 use geometry::Entry;
