@@ -1,4 +1,5 @@
 // The front of a query: what loading answered, whether anything is to be searched, and order and list limit as used.
+// A crate of its own, so that these small functions are not checked again with those that are lent all areas.
 use placing::Loaded;
 use scene::Settings;
 use vector::Vec3;

@@ -1,4 +1,5 @@
 // Between loading a scene and searching it: the tree of the triangles that `load_scene` kept, and the handles made ready for what reads them.
+// A crate of its own, so that it is checked without the planes and the search.
 ghost use mathlib.Core.Path.{_≡_};
 ghost use mathlib.Core.List.{List};
 ghost use Prim.Native.Nat.{ℕ, _≤_};
