@@ -1,5 +1,7 @@
 // Damping by the air (document 02, Note 5): from eight coefficients and the length of a path to what is left in each band. Everything is worked out in
 // whole numbers: millimetres, steps of 0.05 dB, and a table of factors over 2^24 by steps, which a tenth goes on with from 400 steps to the next.
+#![tactic(auto)]
+
 ghost use Rattle.std.specs.Prelude.{◌≡◌, ◌≤◌, min, length};
 ghost use Rattle.air.specs.Table.{factor_table};
 ghost use Rattle.air.specs.Air.{millimetres_of, steps_in, steps_of, factor_of_steps, band_of, bands_of, air_gain_of};
@@ -8,7 +10,7 @@ ghost use Rattle.air.specs.Kept.{most_millimetres, most_product, most_steps, sti
 use bands::Band8;
 
 // What the air takes in each of eight octave bands, in millionths of a decibel per metre.
-#[derive(Drop)]
+#[derive(Clone, Copy)]
 pub struct Air {
     pub a0: u32,
     pub a1: u32,

@@ -1,6 +1,8 @@
 // The answer over a scene as it was loaded: its tree, planes, search, list and packet, in areas that serve one after the other (docs/AREAS.md) and are
 // zero afterwards. Work areas come first among the parameters: the checker's cost of a lent area grows with its place (docs/PROVING.md).
 // It is apart from `query` since a function that is lent all areas takes minutes to check: two such crates are checked one by one.
+#![tactic(auto)]
+
 ghost use Rattle.std.specs.Prelude.{◌≡◌, false, ◌≤◌};
 ghost use Rattle.scene.specs.Speed.{speed_of};
 ghost use Rattle.ranking.specs.Rows.{candidates_in};
@@ -17,7 +19,7 @@ use search::Found;
 use vector::Vec3;
 
 // The refusal, or 0 and the counts: taps, images, rays, and bytes of the packet.
-#[derive(Drop)]
+#[derive(Clone, Copy)]
 pub struct Answered {
     pub refusal: u32,
     pub count: usize,

@@ -1,4 +1,6 @@
 // What C hands over, as the port takes it: settings and points are slices of numbers.
+#![tactic(auto)]
+
 ghost use Rattle.std.specs.Prelude.{◌≡◌, length};
 ghost use Rattle.arguments.specs.Model.{curve_of_number};
 ghost use Rattle.arguments.specs.Settings.{given_air, given_settings};

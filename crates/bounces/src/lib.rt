@@ -1,4 +1,6 @@
 // The bounces of a path by way of a sequence of planes, found from the listener back to the source, and the images that they aim at.
+#![tactic(auto)]
+
 ghost use Rattle.std.specs.Prelude.{◌≡◌, List, [], ◌∷◌, ℕ, ◌+◌, ◌*◌, ◌<◌, ◌≤◌, length, get_or, Float};
 ghost use Rattle.std.proofs.Math.Seq.{slice};
 ghost use Rattle.std.specs.Float.{binary32};
@@ -26,7 +28,7 @@ pub const OFF_SURFACE: u32 = 3;
 const POINT_FLOATS: usize = 3;
 
 // One bounce: the triangle, the edge weight and the point.
-#[derive(Drop)]
+#[derive(Clone, Copy)]
 pub enum Bounce {
     NotCrossed,
     OffSurface,
@@ -34,7 +36,7 @@ pub enum Bounce {
 }
 
 // One bounce by its point alone.
-#[derive(Drop)]
+#[derive(Clone, Copy)]
 pub enum Turn {
     NotCrossed,
     OffSurface,
@@ -42,7 +44,7 @@ pub enum Turn {
 }
 
 // The bounces found so far, source side first, and the product of their weights. The fate is 0, or that of the first bounce that failed.
-#[derive(Drop)]
+#[derive(Clone, Copy)]
 pub struct Trail {
     pub points: [Vec3; 8],
     pub tris: [usize; 8],

@@ -1,6 +1,8 @@
 // The tree of the triangles that stand in columns, in areas that the caller lends: `build_flat_bvh`. What the passes of the build and the
 // test of a ray need again and again is worked out once: the triangles' boxes and centroids, their keys, the nodes' padded boxes, and
 // the triangles' rows in the leaves' order.
+#![tactic(auto)]
+
 ghost use Rattle.std.specs.Prelude.{◌≡◌, true, false, ℕ, ◌+◌, ◌*◌, ◌<◌, ◌≤◌, length, get_or, take};
 ghost use Rattle.std.proofs.lemmas.List.Edits.{sets};
 ghost use Rattle.order.specs.Open.{Open};

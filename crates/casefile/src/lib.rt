@@ -4,6 +4,8 @@
 // A case is stored in seven areas. `w`, of 20 words: the four counts, merge, curve, separated, rows of the material table, meshes, all meshes' vertices
 // and indices, the crossing limit, and the air's eight coefficients. `f`, of 18 floats: the seven of the settings, the four of the curve, source,
 // listener, and the probe radius. Then materials, mesh rows, transforms, positions and indices as `scene` takes them.
+#![tactic(auto)]
+
 use scene::{OCCLUSION_MAX_CROSSINGS, REFLECTION_VISIBILITY_RADIUS};
 
 // The room that the areas of a case have.
@@ -93,7 +95,7 @@ const SEPARATED_WORD: u32 = 25;
 const END: u32 = 26;
 
 // The place in the text up to which it was read, where the last token began, its line, and what was expected there: 0 where nothing went wrong.
-#[derive(Drop)]
+#[derive(Clone, Copy)]
 pub struct Cursor {
     pub from: usize,
     pub at: usize,

@@ -2,6 +2,8 @@
 // An area is read before it is written: what is zero already stays as it is, so that memory that no query has reached is not written, and pages
 // that the system lends as zero stay so. Two runs are read in turn, half an area apart: while the address of the one's next page is looked up,
 // the other's is read.
+#![tactic(auto)]
+
 ghost use Rattle.std.specs.Prelude.{◌+◌, ◌≤◌, ◌≡◌, length, replicate};
 ghost use Rattle.std.specs.Float.{nan};
 ghost use Rattle.float.specs.Literals.{zero32};

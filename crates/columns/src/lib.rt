@@ -1,5 +1,7 @@
 // Triangles in columns, and the clearing of areas. The columns of an area are n floats each, n the scene's whole triples: the nine
 // coordinates, the normal, and what the tests of a ray and of a point need of the triangle alone. Triangle i stands at i in each.
+#![tactic(auto)]
+
 ghost use Rattle.std.specs.Prelude.{◌≡◌, ◌+◌, ◌*◌, ◌^◌, ◌<◌, ◌≤◌, length, replicate};
 ghost use Rattle.float.specs.Literals.{zero32};
 ghost use Rattle.columns.specs.Columns.{column_count, vec_at_of, triangle_at_of, edges_at_of, dots_at_of, vec_row_of, dots_row_of, put_columns, put_triangle_of};

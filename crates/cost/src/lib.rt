@@ -2,6 +2,8 @@
 // The images stand in the order of a dictionary, a sequence before its extensions, and the first 250,000 of them are visited. So on each level of
 // the tree of sequences some are visited with all that goes on from them, then one in part, then none: a turn a level counts them by division.
 // Nothing is cut short on the way: 256 × (1 + 255 + .. + 255^7) is below 2^64.
+#![tactic(auto)]
+
 ghost use Rattle.std.specs.Prelude.{◌≡◌, ◌+◌, ◌-◌, ◌*◌, ◌≤◌, ◌<◌, min};
 ghost use Rattle.sequences.specs.Allowed.{most, most_order, most_planes};
 ghost use Rattle.sequences.specs.Count as count;
@@ -44,7 +46,7 @@ pub const WORDS: [usize; AREAS] = [
 
 // A forecast: the images of each order from 1 to 8, their sum, which bounds the candidates, the most rays, and the words of work area for that many
 // candidates. All are zero beside a refusal.
-#[derive(Drop)]
+#[derive(Clone, Copy)]
 pub struct Cost {
     pub refusal: u32,
     pub counts: [u32; MAX_IMAGE_ORDER],

@@ -1,6 +1,8 @@
 // What a station calls from C or Rust: the query, its forecast, its speed of sound, the packet, the planes of a scene, the walls of an image and the lengths
 // of the areas, with numbers, slices and arrays alone. A `&[T]` passes as a pointer and then a length, a `&[T; n]` as a pointer to n elements. No function asks anything of its
 // caller: what is wrong is refused. include/bivelondry.h declares them, bindings/rust wraps them.
+#![tactic(auto)]
+
 ghost use Rattle.std.specs.Prelude.{◌≡◌, List, [], ◌∷◌, ◌++◌, ℕ, ◌*◌, ◌≤◌, ◌<◌, Float, length, drop};
 ghost use Rattle.packet.specs.Reader.{read_answer, read_area, read_refusal, read_counts};
 ghost use Rattle.packet.specs.Writer.{write_answer, write_out, write_refusal, write_length};

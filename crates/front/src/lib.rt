@@ -1,5 +1,7 @@
 // The front of a query: what loading answered, whether anything is to be searched, and order and list limit as used.
 // A crate of its own, so that these small functions are not checked again with those that are lent all areas.
+#![tactic(auto)]
+
 ghost use Rattle.std.specs.Prelude.{◌≡◌, min};
 ghost use Rattle.front.specs.Asked.{front_of_loaded, early_of, is_finite_point, silent_of, order_of_search, limit_of};
 
@@ -10,7 +12,7 @@ use vector::Vec3;
 // ---- what loading answered
 
 // As plain numbers: a refusal of 1 to 6, or 0, the triangles kept and the whole triples.
-#[derive(Drop)]
+#[derive(Clone, Copy)]
 pub struct Front {
     pub refusal: u32,
     pub kept: usize,

@@ -1,5 +1,7 @@
 // Boxes and triangles, and where a ray meets them: `Aabb` and `Triangle` of cpu_simd.rs. What depends on a triangle alone (`Edges`,
 // `Dots`) is worked out once and handed to the test of a ray or a point, where the Rust works it out in each test.
+#![tactic(auto)]
+
 ghost use Rattle.std.specs.Prelude.{◌≡◌};
 ghost use Rattle.geometry.specs.Aabb.{low_of, high_of, new_empty_of, union_of, grow_of, from_point_of, from_corners_of, extent_of, surface_area_of};
 ghost use Rattle.geometry.specs.Slab.{pad_of, padded_of};
@@ -12,13 +14,13 @@ use vector::{Ray, Vec3};
 const BARY_EPS: f32 = 1e-5;
 
 // An axis-aligned box.
-#[derive(Drop)]
+#[derive(Clone, Copy)]
 pub struct Aabb {
     pub min: Vec3,
     pub max: Vec3,
 }
 
-#[derive(Drop)]
+#[derive(Clone, Copy)]
 pub struct Triangle {
     pub a: Vec3,
     pub b: Vec3,
@@ -28,7 +30,7 @@ pub struct Triangle {
 }
 
 // Three corners: next to no area, which has no normal and cannot be hit, or a triangle.
-#[derive(Drop)]
+#[derive(Clone, Copy)]
 pub enum Shape {
     Degenerate,
     Proper(Triangle),
@@ -36,7 +38,7 @@ pub enum Shape {
 
 // What the test of a ray needs of a triangle beside its first corner: the edges from that corner, and the least determinant of a ray
 // that does not run along the triangle.
-#[derive(Drop)]
+#[derive(Clone, Copy)]
 pub struct Edges {
     pub edge1: Vec3,
     pub edge2: Vec3,
@@ -44,7 +46,7 @@ pub struct Edges {
 }
 
 // What the test of a point needs of a triangle's edges: their products and the divisor.
-#[derive(Drop)]
+#[derive(Clone, Copy)]
 pub struct Dots {
     pub d00: f32,
     pub d01: f32,
@@ -53,21 +55,21 @@ pub struct Dots {
 }
 
 // A part of a ray, by its two distances: what the definition of the test of a box goes by.
-#[derive(Drop)]
+#[derive(Clone, Copy)]
 pub enum Span {
     Open(f32, f32),
     Closed,
 }
 
 // Where a ray enters a box.
-#[derive(Drop)]
+#[derive(Clone, Copy)]
 pub enum Entry {
     At(f32),
     Miss,
 }
 
 // Where a ray crosses a triangle: the distance, and the two weights of the edges.
-#[derive(Drop)]
+#[derive(Clone, Copy)]
 pub enum Crossing {
     At(f32, f32, f32),
     Miss,

@@ -1,4 +1,6 @@
 // The text of the program `images`: what it reads, and what it prints, piece by piece.
+#![tactic(auto)]
+
 ghost use Rattle.std.specs.Prelude.{◌≡◌, true, [], ◌∷◌, ◌+◌, ◌*◌, ◌^◌, ◌≤◌, ◌<◌, min, length};
 ghost use Rattle.sequences.specs.Allowed.{most, most_order};
 ghost use Rattle.sequences.specs.Run.{per_record};
@@ -26,21 +28,21 @@ const HEADER: usize = 28;
 
 const LINE: usize = 190;
 
-#[derive(Drop)]
+#[derive(Clone, Copy)]
 pub enum Request {
     Images(usize, usize, usize),
     Refused,
 }
 
 // `Head(total, len)`: the text begins with the first `len` bytes of the output, and the lines of `total` images follow.
-#[derive(Drop)]
+#[derive(Clone, Copy)]
 pub enum Reply {
     Head(usize, usize),
     NoRoom,
 }
 
 // The lines up to that of image number `next` are the first `len` bytes of the output.
-#[derive(Drop)]
+#[derive(Clone, Copy)]
 pub struct Chunk {
     pub next: usize,
     pub len: usize,

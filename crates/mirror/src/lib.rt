@@ -1,5 +1,7 @@
 // A mirror plane (`ReflectPlane`): its sides, where a segment crosses it, its border, and the points of its surface. A plane stands in areas
 // as a row of floats and a row of words (specs/Rows.antt); its triangles are read from their columns.
+#![tactic(auto)]
+
 ghost use Rattle.std.specs.Prelude.{◌≡◌, List, ℕ, ◌+◌, ◌*◌, ◌<◌, ◌≤◌, length};
 ghost use Rattle.order.specs.Sort.{Below};
 ghost use Rattle.geometry.specs.declared.Triangle.{Triangle};
@@ -24,7 +26,7 @@ const PLANE_WORDS: usize = 5;
 const EDGE_FLOATS: usize = 6;
 
 // A plane's rows: its triangles are `count` members from `first` on, its border `edges` edges from `edge` on.
-#[derive(Drop)]
+#[derive(Clone, Copy)]
 pub struct PlaneRow {
     pub normal: Vec3,
     pub offset: f32,
@@ -39,28 +41,28 @@ pub struct PlaneRow {
 }
 
 // Where a segment crosses a plane, if its ends lie off the plane and on two sides of it.
-#[derive(Drop)]
+#[derive(Clone, Copy)]
 pub enum PlaneCrossing {
     Nowhere,
     At(Vec3),
 }
 
 // The triangle that a fitted plane's point is moved onto, and how far along the normal.
-#[derive(Drop)]
+#[derive(Clone, Copy)]
 pub enum Snap {
     Missed,
     Met(usize, f32),
 }
 
 // The triangle that a point lies on, and the point there.
-#[derive(Drop)]
+#[derive(Clone, Copy)]
 pub enum Spot {
     Outside,
     Inside(usize, Vec3),
 }
 
 // What locating a point answers: the triangle, the edge weight and the point.
-#[derive(Drop)]
+#[derive(Clone, Copy)]
 pub enum Located {
     Off,
     On(usize, f32, Vec3),

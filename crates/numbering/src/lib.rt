@@ -1,4 +1,6 @@
 // From an image's number to its walls: the sequence of planes that has the number, worked out by division.
+#![tactic(auto)]
+
 ghost use Rattle.std.specs.Prelude.{◌≡◌, ◌*◌, ◌≤◌, ◌<◌, min, eqb, length, take, []};
 ghost use Rattle.sequences.specs.Allowed.{may, most, most_planes};
 ghost use Rattle.sequences.specs.Count.{firsts, more, series};
@@ -17,7 +19,7 @@ const CAP: u32 = MOST + 1;
 pub const BAD_NUMBER: u32 = 13;
 
 // The first `len` planes are the walls, the others are 0. After a refusal all is 0 but the refusal.
-#[derive(Drop)]
+#[derive(Clone, Copy)]
 pub struct Walls {
     pub refusal: u32,
     pub len: usize,

@@ -1,5 +1,7 @@
 // A path by way of a sequence of planes: what lies in its way, what arrives by it, and which of the Rust's tests fails first
 // (`validate_image_path`, `path_candidate`).
+#![tactic(auto)]
+
 ghost use Rattle.std.specs.Prelude.{◌≡◌, ℕ, ◌+◌, ◌*◌, ◌^◌, ◌<◌, ◌≤◌, length, get_or, take};
 ghost use Rattle.geometry.specs.declared.Triangle.{Triangle};
 ghost use Rattle.tree_build.specs.Tree.{Tree};
@@ -28,7 +30,7 @@ const LEAST_WEIGHT: f32 = 1e-3;
 const LEAST_BLOCKER: f32 = 1e-6;
 
 // What is left of a sound on the way gone so far, its length, where it has come to, and the traces made.
-#[derive(Drop)]
+#[derive(Clone, Copy)]
 pub struct Way {
     pub gain: Band8,
     pub total: f32,
@@ -37,7 +39,7 @@ pub struct Way {
 }
 
 // The Rust's `PathCandidate`, but for its order.
-#[derive(Drop)]
+#[derive(Clone, Copy)]
 pub struct PathCandidate {
     pub energy: f32,
     pub delay: f32,
@@ -46,7 +48,7 @@ pub struct PathCandidate {
 }
 
 // The first test that failed, in the Rust's order, or the candidate.
-#[derive(Drop)]
+#[derive(Clone, Copy)]
 pub enum Fate {
     TooFar,
     NotCrossed,
@@ -58,7 +60,7 @@ pub enum Fate {
     Passed(PathCandidate),
 }
 
-#[derive(Drop)]
+#[derive(Clone, Copy)]
 pub struct Verdict {
     pub fate: Fate,
     pub rays: u32,

@@ -1,5 +1,7 @@
 // `triangles_from_scene`: one pass over the triples of a scene. Each corner of a triple whose indices are in range is placed and tested
 // (refusal 6), and the triangles that are not degenerate are kept in columns. Placings are counted.
+#![tactic(auto)]
+
 ghost use Rattle.std.specs.Prelude.{◌≡◌, false, ◌+◌, ◌*◌, ◌<◌, ◌≤◌, length, get_or};
 ghost use Rattle.scene.specs.Scene.{scene, headers, cut};
 ghost use Rattle.placing.specs.Corners.{far_of, is_far_corner, has_far_corner, corner_of, triple, triples, corners3, corners_in, corners_of, corners_all};
@@ -15,7 +17,7 @@ use vector::Vec3;
 const FARTHEST: f32 = 10000.0;
 
 // What the pass carries: triangles kept, corners placed, and whether a corner was too far.
-#[derive(Drop)]
+#[derive(Clone, Copy)]
 pub struct State {
     pub kept: usize,
     pub placings: usize,
@@ -23,21 +25,21 @@ pub struct State {
 }
 
 // A corner placed, and the placings made up to and with it.
-#[derive(Drop)]
+#[derive(Clone, Copy)]
 struct Placing {
     point: Vec3,
     made: usize,
 }
 
 // Refusal 6 with the placings made, or how many triangles were kept and placings made.
-#[derive(Drop)]
+#[derive(Clone, Copy)]
 pub enum Placed {
     Far(usize),
     Kept(usize, usize),
 }
 
 // The first refusal of 1 to 6 that applies; or how many triangles were kept, placings made, and whole triples the scene has.
-#[derive(Drop)]
+#[derive(Clone, Copy)]
 pub enum Loaded {
     Refused(u32),
     Triangles(usize, usize, usize),

@@ -1,6 +1,8 @@
 // The borders of planes: the edges that no other edge of the plane's triangles lies on. In place of the Rust's map from edges to counts,
 // the edges of all planes are sorted by their ends (`planes_faces::first_indexes`), and each counts at the first that lies on it.
 // A crate of its own, as each step of its group is, so that it is checked alone.
+#![tactic(auto)]
+
 ghost use Rattle.std.specs.Prelude.{◌≡◌, ℕ, ◌+◌, ◌*◌, ◌/◌, ◌<◌, ◌≤◌, Float, length, get_or, set, List, []};
 ghost use Rattle.std.specs.Float.{nan};
 ghost use Rattle.columns.specs.Columns.{vec_at_of};

@@ -1,6 +1,8 @@
 // Step 3 of `build_planes`: the patches that are not buried. A patch is left out where rays from both sides of its largest triangle hit
 // something near. Patches stand as `planes_patches` leaves them: a row of floats each, and the number of each triangle's patch.
 // A crate of its own, as each step of its group is, so that it is checked alone.
+#![tactic(auto)]
+
 ghost use Rattle.std.specs.Prelude.{◌≡◌, ◌⊎◌, cond, ℕ, suc, ◌+◌, ◌*◌, ◌<◌, ◌≤◌, eqb, length, get_or, set};
 ghost use mathlib.Core.List.{List, foldl};
 ghost use Rattle.std.specs.Float.Ieee.{neg};

@@ -1,6 +1,8 @@
 // Duplicate faces of a scene, the first step of the mirror planes: the first triangle with the three vertices of each, in any order
 // and winding. A vertex is its corner in steps of 1 mm. In place of the Rust's map from keys, keys are sorted and their runs walked.
 // A crate of its own, as each step of its group is, so that it is checked alone.
+#![tactic(auto)]
+
 ghost use Rattle.std.specs.Prelude.{◌≡◌, Bool, ℕ, ◌+◌, ◌*◌, ◌/◌, ◌%◌, ◌<◌, ◌≤◌, eqb, length, get_or};
 ghost use Rattle.std.specs.Float.{binary32};
 ghost use Rattle.std.specs.Float.Ieee.{of_fields};

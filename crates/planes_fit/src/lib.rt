@@ -1,5 +1,7 @@
 // A plane for each group of patches: a patch as it is, or the best fit of several.
 // A crate of its own, as each step of its group is, so that it is checked alone.
+#![tactic(auto)]
+
 ghost use Rattle.std.specs.Prelude.{◌≡◌, cond, ◌⊎◌, ℕ, suc, ◌+◌, ◌*◌, ◌<◌, ◌≤◌, eqb, length, get_or};
 ghost use mathlib.Core.List.{[], map, foldl};
 ghost use Rattle.std.specs.Float.{nan};
@@ -20,7 +22,7 @@ use planes_patches::PatchRow;
 use vector::Vec3;
 
 // The weighted sum of normals, the area and the box of patches.
-#[derive(Drop)]
+#[derive(Clone, Copy)]
 pub struct Sums {
     pub sum: Vec3,
     pub area: f32,
@@ -28,7 +30,7 @@ pub struct Sums {
 }
 
 // The sum of areas times heights, and of areas.
-#[derive(Drop)]
+#[derive(Clone, Copy)]
 pub struct Heights {
     pub sum: f32,
     pub weight: f32,

@@ -1,6 +1,8 @@
 // The ranking of planes by importance, step 5 of `build_planes`: area with a mild weight for being central.
 // Planes stand in areas as `mirror` has them; the ranking gives their order.
 // A crate of its own, as each step of its group is, so that it is checked alone.
+#![tactic(auto)]
+
 ghost use Rattle.std.specs.Prelude.{◌≡◌, ℕ, ◌+◌, ◌*◌, ◌<◌, ◌≤◌, length, get_or, take, Float};
 ghost use mathlib.Core.List.{[], map, foldl};
 ghost use Rattle.order.specs.Open.{Open};
@@ -17,7 +19,7 @@ use geometry::{Aabb, Triangle};
 use vector::Vec3;
 
 // The sum of areas times centroids, and of areas.
-#[derive(Drop)]
+#[derive(Clone, Copy)]
 pub struct Moments {
     pub sum: Vec3,
     pub weight: f32,

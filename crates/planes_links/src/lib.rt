@@ -2,6 +2,8 @@
 // A pair of numbers is a word, the first above the second; the words are sorted, repeats are left out, and row r is those of the first
 // number r. It takes the place of the Rust's vectors of vectors.
 // A crate of its own, as each step of its group is, so that it is checked alone.
+#![tactic(auto)]
+
 ghost use Rattle.std.specs.Prelude.{◌≡◌, true, false, ◌&&◌, ◌||◌, [], ◌∷◌, ◌++◌, map, ℕ, ◌+◌, ◌*◌, ◌<◌, ◌≤◌, eqb, length, get_or, take};
 ghost use Rattle.order.specs.Open.{Open};
 ghost use Rattle.order.specs.Radix.{upper};

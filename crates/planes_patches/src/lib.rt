@@ -2,6 +2,8 @@
 // A patch is a row of floats and the number that its triangles have in `of`. In place of the Rust's map from cells to patches, patches
 // whose cells share one of 4,096 buckets stand in a circular list from the oldest to the newest, the tail, to which `heads` leads.
 // A crate of its own, as each step of its group is, so that it is checked alone.
+#![tactic(auto)]
+
 ghost use Rattle.std.specs.Prelude.{◌≡◌, false, cond, ℕ, suc, ◌+◌, ◌-◌, ◌*◌, ◌<◌, ◌≤◌, eqb, length, get_or, set};
 ghost use mathlib.Core.List.{List, [], ◌∷◌, map, flat_map};
 ghost use Rattle.order.specs.Open.{Open};
@@ -23,7 +25,7 @@ use vector::Vec3;
 pub const NONE: u32 = 0xffff_ffff;
 
 // What stands of a patch in a row.
-#[derive(Drop)]
+#[derive(Clone, Copy)]
 pub struct PatchRow {
     pub normal: Vec3,
     pub offset: f32,
@@ -32,7 +34,7 @@ pub struct PatchRow {
 }
 
 // What the search for a triangle's patch needs of it: canonical normal, offset and cell.
-#[derive(Drop)]
+#[derive(Clone, Copy)]
 pub struct PlaneKey {
     pub normal: Vec3,
     pub offset: f32,

@@ -1,5 +1,7 @@
 // STEP 5 of `build_planes`: the most important planes, each with its border.
 // A crate of its own, as each step of its group is, so that it is checked alone.
+#![tactic(auto)]
+
 ghost use Rattle.std.specs.Prelude.{◌≡◌, ℕ, ◌+◌, ◌*◌, ◌/◌, ◌<◌, ◌≤◌, length, get_or, take, [], map};
 ghost use Rattle.planes_patches.specs.Triangles.{triangles_in};
 ghost use Rattle.planes_ranked.specs.Areas.{TrianglesLent, EdgesRoom, GroupPlanes, with_edges, bordered_in, RankedLent, RankedRoom};

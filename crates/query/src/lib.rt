@@ -1,5 +1,7 @@
 // `trace_early_reflections`: one call from settings, scene, positions and lent areas to the packet of taps, or the first refusal that applies.
 // It hands down: loading and the refusals 1 to 6 (placing), the answer over the loaded scene (answer). docs/AREAS.md has the areas.
+#![tactic(auto)]
+
 ghost use Rattle.scene.specs.Scene.{scene};
 ghost use Rattle.query.specs.Areas.{work};
 ghost use Rattle.query.specs.Trace.{Traced};

@@ -1,5 +1,7 @@
 // Settings and scene parts as a caller lends them, and the refusals 1 to 5. A scene is meshes of three words (vertices, indices, handle),
 // and behind them, mesh after mesh, 16 floats of transform, three floats a vertex and the indices; a material row is 16 floats.
+#![tactic(auto)]
+
 ghost use Rattle.std.specs.Prelude.{◌≡◌, ◌+◌, ◌≤◌, ◌<◌, min, length};
 ghost use Rattle.scene.specs.Limits.{most_triples, between_of, above_zero_of, counts_of, rates_of, merges_of, model_number_of, model_numbers_of};
 ghost use Rattle.scene.specs.Limits.{probe_settings_of, air_number_of, low_air_of, high_air_of, later_settings_of, settings_of};
@@ -13,7 +15,7 @@ use bands::DistanceModel;
 
 // The settings of a query, by the Rust's names. `plane_merge_angle_deg` is its cosine, and whether it is above 0. `crossing_limit` and `probe_radius` are
 // the Rust's constants `OCCLUSION_MAX_CROSSINGS` and `REFLECTION_VISIBILITY_RADIUS`; `air` is what the air takes in each band.
-#[derive(Drop)]
+#[derive(Clone, Copy)]
 pub struct Settings {
     pub max_reflection_order: u32,
     pub max_reflections: u32,
@@ -33,7 +35,7 @@ pub struct Settings {
 }
 
 // The first refusal of 1 to 5 that applies, or how many whole triples the scene has.
-#[derive(Drop)]
+#[derive(Clone, Copy)]
 pub enum Checked {
     Refused(u32),
     Accepted(usize),

@@ -1,5 +1,7 @@
 // Between loading a scene and searching it: the tree of the triangles that `load_scene` kept, and the handles made ready for what reads them.
 // A crate of its own, so that it is checked without the planes and the search.
+#![tactic(auto)]
+
 ghost use Rattle.std.specs.Prelude.{◌≡◌, List, ℕ, ◌≤◌, length, take};
 ghost use Rattle.order.specs.Open.{Open};
 ghost use Rattle.scene.specs.Scene.{Scene};

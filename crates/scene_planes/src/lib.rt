@@ -1,11 +1,13 @@
 // The build phase of a query: the tree of a loaded scene, and over it its mirror planes, in the areas that the search reads. It is apart since two begin with
 // it, the query (`answer`) and the walls of an image (`walls`), and since the tree and the planes know nothing of each other's areas.
+#![tactic(auto)]
+
 ghost use Rattle.scene_planes.specs.ScenePlanes.{PlanesReady, SceneBuilt};
 
 use scene::Settings;
 
 // How many nodes the tree has, and how many planes there are.
-#[derive(Drop)]
+#[derive(Clone, Copy)]
 pub struct Built {
     pub nodes: usize,
     pub planes: usize,

@@ -1,5 +1,7 @@
 // The search for paths: every allowed sequence of planes in its order, each judged once, up to a limit; those that pass are candidates
 // (`expand_images` of cpu_simd.rs).
+#![tactic(auto)]
+
 ghost use Rattle.std.specs.Prelude.{◌≡◌, false, List, ℕ, ◌+◌, ◌-◌, ◌*◌, ◌<◌, ◌≤◌, length, get_or, take, set, Float};
 ghost use Rattle.std.specs.Float.Ieee.{lt};
 ghost use Rattle.order.specs.Open.{Open};
@@ -26,7 +28,7 @@ use vector::Vec3;
 const POINT_FLOATS: usize = 3;
 
 // What is searched for, and over how much: it does not change on the way. What each image needs stands first, in one piece of memory.
-#[derive(Drop)]
+#[derive(Clone, Copy)]
 struct Task {
     listener: Vec3,
     beyond: f32,
@@ -42,7 +44,7 @@ struct Task {
 
 // The state, which each visit changes by one thin step: what is counted and found, and 1 where a candidate found no room. (A bool's padding would
 // be copied along, byte by byte.)
-#[derive(Drop)]
+#[derive(Clone, Copy)]
 struct Tally {
     nodes: u32,
     rays: u32,
@@ -51,14 +53,14 @@ struct Tally {
 }
 
 // The next plane whose image is not too far, or the count of planes, and the tally with the images before it.
-#[derive(Drop)]
+#[derive(Clone, Copy)]
 struct Near {
     plane: usize,
     tally: Tally,
 }
 
 // The end of a search: images visited, rays traced, candidates held, and whether one found no room.
-#[derive(Drop)]
+#[derive(Clone, Copy)]
 pub struct Found {
     pub images: u32,
     pub rays: u32,

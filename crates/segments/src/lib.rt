@@ -1,5 +1,7 @@
 // What is left of a sound along a segment: the product of what each surface on the way lets through, averaged over a bundle of nine probes.
 // Each answer counts the traces made for it. A half segment counts `crossing_limit` crossings, and the probes are set `probe_radius` from the middle.
+#![tactic(auto)]
+
 ghost use Rattle.std.specs.Prelude.{◌≡◌, ℕ, ◌+◌, ◌*◌, ◌^◌, ◌<◌, ◌≤◌, length};
 ghost use Rattle.vector.specs.Vector.{length3_of, normalize3_of};
 ghost use Rattle.geometry.specs.declared.Triangle.{Triangle};
@@ -23,7 +25,7 @@ const PROBES: usize = 8;
 const MATERIAL_FLOATS: usize = 16;
 
 // A gain, and the traces made for it.
-#[derive(Drop)]
+#[derive(Clone, Copy)]
 pub struct Transmission {
     pub gain: Band8,
     pub rays: u32,

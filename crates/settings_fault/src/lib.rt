@@ -4,6 +4,8 @@
 // min_distance and max_distance, 14 crossing_limit, 15 probe_radius, 16 to 23 the air's coefficients.
 //
 // Proved: the answer is 0 exactly where `scene` accepts the settings, and else the number of the first whose own test there fails.
+#![tactic(auto)]
+
 ghost use Rattle.std.specs.Prelude.{◌≡◌, cond, true, false, ℕ, suc, get_or, eqb};
 ghost use Rattle.scene.specs.Limits.{between_of, above_zero_of, model_number_of, air_number_of, settings_of};
 ghost use Rattle.settings_fault.specs.Fault.{first_failed, planes_in_bounds, room_in_bounds, crossings_in_bounds};

@@ -1,4 +1,6 @@
 // The end of a query: the candidates that the search found are ranked, those kept become taps, and these the packet.
+#![tactic(auto)]
+
 ghost use Rattle.std.specs.Prelude.{◌≡◌, not, ◌++◌, ◌+◌, ◌*◌, ◌<◌, ◌≤◌, length, get_or, drop, T};
 ghost use Rattle.std.proofs.lemmas.List.Edits.{sets};
 ghost use Rattle.std.specs.Float.Ieee.{is_nan};
@@ -23,7 +25,7 @@ const CANDIDATE_WORDS: usize = ranking::CANDIDATE_WORDS;
 const TAP_WORDS: usize = packet::TAP_WORDS;
 
 // The packet in the output area: its taps and its bytes.
-#[derive(Drop)]
+#[derive(Clone, Copy)]
 pub struct Packed {
     pub count: usize,
     pub bytes: usize,

@@ -4,6 +4,8 @@
 // Proved: `whole`, `decimal`, `float_in`, `float_of` and `hex_digit` answer exactly what specs/Numbers.antt says of the bytes, what is no number
 // included, `line_end` what specs/Lines.antt says, and `put_fixed` writes the bytes of specs/Fixed.antt and no others. Of tokens it is proved
 // that they lie within the text.
+#![tactic(auto)]
+
 ghost use Rattle.std.specs.Prelude.{◌≡◌, ◌+◌, ◌/◌, ◌^◌, ◌<◌, ◌≤◌, min, true, length, drop, from_bits, slice_index, slice_index_or, slice_set};
 ghost use mathlib.Core.List.{foldl};
 ghost use Rattle.std.specs.Float.{binary32};
@@ -33,13 +35,13 @@ const BITS_LENGTH: usize = 10;
 // What `scaled` answers for a number that is too large, or none.
 const NONE: u64 = 18446744073709551615;
 
-#[derive(Drop)]
+#[derive(Clone, Copy)]
 pub enum Word {
     Whole(u32),
     NoWhole,
 }
 
-#[derive(Drop)]
+#[derive(Clone, Copy)]
 pub enum Number {
     Real(f32),
     NoReal,
@@ -420,14 +422,14 @@ pub fn put_fixed(x: f32, k: usize, out: &mut [u8]) -> usize
 // ---- tokens
 
 // A token is the bytes from `start` to `end`, and stands in line `line`; at the text's end it is empty.
-#[derive(Drop)]
+#[derive(Clone, Copy)]
 pub struct Token {
     pub start: usize,
     pub end: usize,
     pub line: u32,
 }
 
-#[derive(Drop)]
+#[derive(Clone, Copy)]
 struct Place {
     at: usize,
     line: u32,

@@ -1,6 +1,8 @@
 // The tree of `BvhNode::build_sah`, built into areas that the caller lends: of each node the box in six floats and the links in four
 // numbers, as the Rust's `FlatNode`.
 // A crate of its own, as each step of its group is, so that it is checked alone.
+#![tactic(auto)]
+
 ghost use Rattle.std.specs.Prelude.{◌≡◌, ℕ, ◌+◌, ◌-◌, ◌*◌, ◌^◌, ◌<◌, ◌≤◌, length};
 ghost use Rattle.order.specs.Open.{Open};
 ghost use Rattle.geometry.specs.Aabb.{union_of};
@@ -12,7 +14,7 @@ use geometry::Aabb;
 use vector::Vec3;
 
 // Where a node's children stand, or its triangles: a node that has triangles is a leaf.
-#[derive(Drop)]
+#[derive(Clone, Copy)]
 pub struct Links {
     pub left: usize,
     pub right: usize,

@@ -1,6 +1,8 @@
 // Where a list of triangles is split: the search of `BvhNode::build_sah` for the least cost over three axes. Of a triangle it needs
 // the box and the centroid: `extents` holds nine floats a triangle, where the Rust works them out in each pass.
 // A crate of its own, as each step of its group is, so that it is checked alone.
+#![tactic(auto)]
+
 ghost use Rattle.std.specs.Prelude.{◌≡◌, ℕ, ◌+◌, ◌-◌, ◌*◌, ◌<◌, ◌≤◌, length, get_or, drop};
 ghost use Rattle.std.specs.Float.{nan};
 ghost use Rattle.order.specs.Open.{Open};
@@ -14,7 +16,7 @@ use geometry::Aabb;
 use vector::Vec3;
 
 // The best split so far: its cost, its axis, and how many triangles go left.
-#[derive(Drop)]
+#[derive(Clone, Copy)]
 pub struct BestSplit {
     pub cost: f32,
     pub axis: usize,

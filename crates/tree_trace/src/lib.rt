@@ -1,6 +1,8 @@
 // The nearest hit of a ray in a tree that stands in areas: `FlatBvh::intersect`. Each node's box is padded already, and of each triangle
 // a row in the leaves' order holds what the test of a ray needs.
 // A crate of its own, as each step of its group is, so that it is checked alone.
+#![tactic(auto)]
+
 ghost use Rattle.std.specs.Prelude.{◌≡◌, true, false, ◌⊎◌, ℕ, ◌+◌, ◌*◌, ◌<◌, ◌≤◌, length, take, drop, get_or};
 ghost use Rattle.std.specs.Float.Ieee.{lt};
 ghost use Rattle.geometry.specs.declared.Triangle.{Triangle};
@@ -18,14 +20,14 @@ use vector::{Ray, Vec3};
 
 // The closest hit so far: `best` and `closest` of the Rust. While nothing is found, `found` is 0 and the distance is the ray's length. (A bool's
 // padding would be copied along at each node, byte by byte: a tenth of a trace's time.)
-#[derive(Drop)]
+#[derive(Clone, Copy)]
 pub struct Closest {
     pub distance: f32,
     pub index: usize,
     pub found: usize,
 }
 
-#[derive(Drop)]
+#[derive(Clone, Copy)]
 pub struct RayHit {
     pub distance: f32,
     pub point: Vec3,
@@ -33,14 +35,14 @@ pub struct RayHit {
     pub material_handle: u32,
 }
 
-#[derive(Drop)]
+#[derive(Clone, Copy)]
 pub enum Hit {
     At(RayHit),
     Nothing,
 }
 
 // A ray, and what the tests of boxes need of its direction: worked out once a ray, where the Rust divides in each test.
-#[derive(Drop)]
+#[derive(Clone, Copy)]
 pub struct Way {
     pub ray: Ray,
     pub slopes: Vec3,
@@ -48,7 +50,7 @@ pub struct Way {
 }
 
 // How many children of a node are visited, and which. Where both are, the second one's box is entered at `far`.
-#[derive(Drop)]
+#[derive(Clone, Copy)]
 pub struct Turns {
     pub count: usize,
     pub first: usize,

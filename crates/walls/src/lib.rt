@@ -1,5 +1,7 @@
 // The planes of a query's scene, built again since the call clears them, and on which of them the source lies: what a caller has to know of its scene so
 // that `numbering` names the walls of an image.
+#![tactic(auto)]
+
 ghost use Rattle.std.specs.Prelude.{◌≡◌, List, ℕ, ◌*◌, ◌+◌, ◌<◌, ◌≤◌, length, get_or, Float};
 ghost use Rattle.scene.specs.Scene.{scene};
 ghost use Rattle.mirror.specs.Rows.{plane_float_count, plane_word_count, planes_in};
@@ -14,7 +16,7 @@ use vector::Vec3;
 const OUTPUT: usize = packet::OUT_BYTES;
 
 // The first refusal of 1 to 6 that applies, or 0 and how many planes there are.
-#[derive(Drop)]
+#[derive(Clone, Copy)]
 pub struct Planes {
     pub refusal: u32,
     pub count: usize,
