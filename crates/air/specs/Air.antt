@@ -1,7 +1,7 @@
 -- Document 02, Note 5: what the air leaves of an amplitude over a path, band by band.
-use Rattle.std.specs.Prelude.{ℕ, suc, ◌+◌, ◌*◌, ◌/◌, ◌%◌, ◌^◌, ◌<◌, ◌≤◌, cond, pos, from_bits, slice_index, Float}
+use Rattle.std.specs.Prelude.{ℕ, suc, ◌+◌, ◌*◌, ◌/◌, ◌%◌, ◌^◌, ◌<◌, ◌≤◌, cond, pos, slice_index, Float}
 use Rattle.std.specs.Float.{nan, inf, fin, binary32}
-use Rattle.std.specs.Float.Ieee.{up, down, div, of_int}
+use Rattle.std.specs.Float.Ieee.{up, down, div, of_int, of_bits}
 use Rattle.bands.specs.declared.Band8.{Band8}
 use Rattle.air.specs.Table.{factor_table}
 use Rattle.air.specs.declared.Air.{Air}
@@ -30,7 +30,7 @@ factor_of_steps s = slice_index factor_table (s % 400) / 10 ^ (s / 400)
 
 -- "The band's factor is k / 2^24"
 unfoldable pub band_of : ℕ → ℕ → Float
-band_of coefficient millimetres = div binary32 (of_int binary32 (pos (factor_of_steps (steps_of coefficient millimetres)))) (from_bits binary32 0x4b80_0000)
+band_of coefficient millimetres = div binary32 (of_int binary32 (pos (factor_of_steps (steps_of coefficient millimetres)))) (of_bits binary32 0x4b80_0000)
 
 -- all bands
 unfoldable pub bands_of : Air → ℕ → Band8

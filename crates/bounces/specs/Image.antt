@@ -1,6 +1,6 @@
 -- The image of the source in a sequence of planes. Document 01: 'its image being the source mirrored in those planes in turn'.
-use Rattle.std.specs.Prelude.{ℕ, Bool, take}
-use mathlib.Core.List.{List, foldl}
+use Rattle.std.specs.Prelude.{ℕ, Bool, take, List}
+use mathlib.Core.List.{foldl}
 use Rattle.std.specs.Float.Ieee.{lt}
 use Rattle.float.specs.Compare.{abs_of}
 use Rattle.vector.specs.declared.Vec3.{Vec3}

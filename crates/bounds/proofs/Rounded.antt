@@ -51,7 +51,7 @@ within_cond b k j s q l y false h v = absurd (no_inf y b h v)
 
 within_units : (b : ℕ) (s : Bool) (q k : ℕ) (y : Float) → T (le (units binary32 false q k) y) → HasValue y false b 1 → Within b (units binary32 s q k)
 unfolding units
-within_units b s q k y h v = within_cond b _ k s q _ y (ltb (q * 2 ^ k) (2 ^ (low binary32 + suc (emax binary32)))) h v
+within_units b s q k y h v = within_cond b (suc (prec binary32)) k s q (low binary32) y (ltb (q * 2 ^ k) (2 ^ (low binary32 + suc (emax binary32)))) h v
 
 pub round_within : (b : ℕ) (s : Bool) (a c : ℕ) → b ≤ 2 ^ 24 → 0 < c → a ≤ b * c → Within b (round binary32 s a c)
 round_within b s a c small some h =

@@ -1,8 +1,8 @@
 -- Axis-aligned boxes: `Aabb` of cpu_simd.rs.
-use Rattle.std.specs.Prelude.{Float}
+use Rattle.std.specs.Prelude.{Float, List, [], ◌∷◌}
 use Rattle.std.specs.Float.{binary32}
 use Rattle.std.specs.Float.Ieee.{add, sub, mul, of_bits}
-use mathlib.Core.List.{List, [], ◌∷◌, foldl}
+use mathlib.Core.List.{foldl}
 use Rattle.float.specs.Literals.{zero32}
 use Rattle.float.specs.Compare.{min_of, max_of}
 use Rattle.vector.specs.declared.Vec3.{Vec3}

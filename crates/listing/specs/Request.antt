@@ -1,7 +1,7 @@
 -- Document 01, "The program `images` reads three decimals ..": which texts are taken, and what they ask for.
 -- A line feed at the end may be there or not; leading zeros may stand; an empty text and all that follows the line are refused.
-use Rattle.std.specs.Prelude.{ℕ, suc, ◌+◌, ◌-◌, ◌*◌, ◌^◌, ◌≤◌, ◌≡◌, ◌⊎◌, Bool, true, cond, ◌&&◌, length, get_or, take, leb, ltb, eqb}
-use mathlib.Core.List.{List, [], ◌∷◌, ◌++◌, foldl}
+use Rattle.std.specs.Prelude.{ℕ, suc, ◌+◌, ◌-◌, ◌*◌, ◌^◌, ◌≤◌, ◌≡◌, ◌⊎◌, Bool, true, cond, ◌&&◌, length, get_or, take, leb, ltb, eqb, List, [], ◌∷◌, ◌++◌}
+use mathlib.Core.List.{foldl}
 use Rattle.sequences.specs.Allowed.{most_order}
 use Rattle.listing.specs.declared.Request.{Request}
 use Rattle.listing.specs.declared.Request.TheVariants.{Images, Refused}

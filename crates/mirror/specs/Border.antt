@@ -1,9 +1,9 @@
 -- How far a point is from the border of a plane's surface (`point_segment_distance`), and the weight that this gives it: the second half of
 -- `locate_on_plane`.
-use Rattle.std.specs.Prelude.{Float, false, cond}
+use Rattle.std.specs.Prelude.{Float, false, cond, List}
 use Rattle.std.specs.Float.{inf, binary32}
 use Rattle.std.specs.Float.Ieee.{sub, mul, div, lt, of_bits}
-use mathlib.Core.List.{List, foldl}
+use mathlib.Core.List.{foldl}
 use Rattle.float.specs.Literals.{zero32, one32}
 use Rattle.float.specs.Compare.{min_of, clamp_of}
 use Rattle.vector.specs.declared.Vec3.{Vec3}

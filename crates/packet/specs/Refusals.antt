@@ -1,6 +1,6 @@
 -- Refusals 9 to 11: what taps are tested for, in the order of the numbers. Reader and writer have these tests in common.
-use Rattle.std.specs.Prelude.{ℕ, zero, suc, ◌/◌, ◌%◌, Bool, true, false, cond, not, ◌&&◌, ◌||◌, leb, eqb, Float}
-use mathlib.Core.List.{List, [], ◌∷◌, map, foldl}
+use Rattle.std.specs.Prelude.{ℕ, zero, suc, ◌/◌, ◌%◌, Bool, true, false, cond, not, ◌&&◌, ◌||◌, leb, eqb, Float, List, [], ◌∷◌, map}
+use mathlib.Core.List.{foldl}
 use Rattle.std.specs.Float.{binary32}
 use Rattle.std.specs.Float.Ieee.{of_bits, add, mul, lt}
 use Rattle.packet.specs.Limits.{most_taps, most_images, most_order}

@@ -1,8 +1,8 @@
 -- `path_candidate`, and the end of `validate_image_path`: what arrives, and whether it counts.
-use Rattle.std.specs.Prelude.{ℕ, Float, Bool, cond, not, ◌&&◌}
+use Rattle.std.specs.Prelude.{ℕ, Float, Bool, cond, not, ◌&&◌, List}
 use Rattle.std.specs.Float.{binary32}
 use Rattle.std.specs.Float.Ieee.{mul, div, lt, of_bits}
-use mathlib.Core.List.{List, foldl}
+use mathlib.Core.List.{foldl}
 use Rattle.float.specs.Literals.{zero32, one32}
 use Rattle.float.specs.Compare.{is_finite}
 use Rattle.vector.specs.declared.Vec3.{Vec3}

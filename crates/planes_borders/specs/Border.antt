@@ -1,6 +1,6 @@
 -- The borders: the edges that no other edge of the plane's triangles lies on, in order of first meeting (document 01; the Rust's map has none).
-use Rattle.std.specs.Prelude.{ℕ, Bool, ◌&&◌, ◌||◌, eqb, Float}
-use mathlib.Core.List.{List, [], ◌∷◌, map, flat_map}
+use Rattle.std.specs.Prelude.{ℕ, Bool, ◌&&◌, ◌||◌, eqb, Float, List, [], ◌∷◌, map}
+use mathlib.Core.List.{flat_map}
 use Rattle.std.specs.Float.{binary32}
 use Rattle.std.specs.Float.Ieee.{of_bits}
 use Rattle.vector.specs.declared.Vec3.{Vec3}

@@ -1,6 +1,6 @@
 -- Edges by number: edge 3 t + j is side j of triangle t, in its plane. What the contracts of the code cite.
-use Rattle.std.specs.Prelude.{ℕ, zero, suc, ◌+◌, ◌*◌, ◌<◌, ◌≤◌, ◌≡◌, Bool, eqb, Float, length, get_or}
-use mathlib.Core.List.{List, [], ◌∷◌, flat_map}
+use Rattle.std.specs.Prelude.{ℕ, zero, suc, ◌+◌, ◌*◌, ◌<◌, ◌≤◌, ◌≡◌, Bool, eqb, Float, length, get_or, List, [], ◌∷◌}
+use mathlib.Core.List.{flat_map}
 use Rattle.std.specs.Float.{nan}
 use Rattle.columns.specs.Columns.{vec_at_of}
 use Rattle.order.specs.Runs.{up_to}

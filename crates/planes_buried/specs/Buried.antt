@@ -1,6 +1,6 @@
 -- Step 3, buried patches: left out where a probe finds something on both sides of the largest triangle.
-use Rattle.std.specs.Prelude.{ℕ, Bool, cond, not, ◌&&◌, Float}
-use mathlib.Core.List.{List, foldl}
+use Rattle.std.specs.Prelude.{ℕ, Bool, cond, not, ◌&&◌, Float, List}
+use mathlib.Core.List.{foldl}
 use Rattle.std.specs.Float.{binary32}
 use Rattle.std.specs.Float.Ieee.{mul, neg, lt, of_bits}
 use Rattle.float.specs.Literals.{zero32, one32}

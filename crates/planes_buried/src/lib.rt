@@ -3,8 +3,8 @@
 // A crate of its own, as each step of its group is, so that it is checked alone.
 #![tactic(auto)]
 
-ghost use Rattle.std.specs.Prelude.{◌≡◌, ◌⊎◌, cond, ℕ, suc, ◌+◌, ◌*◌, ◌<◌, ◌≤◌, eqb, length, get_or, set};
-ghost use mathlib.Core.List.{List, foldl};
+ghost use Rattle.std.specs.Prelude.{◌≡◌, ◌⊎◌, cond, ℕ, suc, ◌+◌, ◌*◌, ◌<◌, ◌≤◌, eqb, length, get_or, set, List};
+ghost use mathlib.Core.List.{foldl};
 ghost use Rattle.std.specs.Float.Ieee.{neg};
 ghost use Rattle.order.specs.Open.{Open};
 ghost use Rattle.float.specs.Literals.{one32};
@@ -153,7 +153,7 @@ fn meet(
 )
     requires n_in_bounds { (column_count * n ≤ length triangles.now) × (n ≤ length handles.now) × (t < n) × (t < 4294967295) }
     requires np_in_bounds { (np ≤ length areas.old) × (np ≤ length largest.old) }
-    requires fact { (p < np) ⊎ (p ≡ none_of) }
+    requires plane_or_none { (p < np) ⊎ (p ≡ none_of) }
     ensures { (ts : List Triangle) → nth_triangle ts t ≡ triangle_at_of triangles.now handles.now n t → (q : ℕ) → q < np → np ≤ none_of →
         best_at areas.new largest.new q ≡
         cond (eqb p q) (best_of ts (best_at areas.old largest.old q) t) (best_at areas.old largest.old q) }

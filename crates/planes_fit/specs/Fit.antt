@@ -1,6 +1,6 @@
 -- A plane for each group: a patch as it is, or the best fit of several.
-use Rattle.std.specs.Prelude.{ℕ, true, false, cond, eqb, length, Float}
-use mathlib.Core.List.{List, [], ◌∷◌, map, flat_map, foldl}
+use Rattle.std.specs.Prelude.{ℕ, true, false, cond, eqb, length, Float, List, [], ◌∷◌, map}
+use mathlib.Core.List.{flat_map, foldl}
 use Rattle.std.specs.Float.{binary32}
 use Rattle.std.specs.Float.Ieee.{add, sub, mul, div, neg, le}
 use Rattle.float.specs.Literals.{zero32, one32}

@@ -2,8 +2,8 @@
 // A crate of its own, as each step of its group is, so that it is checked alone.
 #![tactic(auto)]
 
-ghost use Rattle.std.specs.Prelude.{◌≡◌, cond, ◌⊎◌, ℕ, suc, ◌+◌, ◌*◌, ◌<◌, ◌≤◌, eqb, length, get_or};
-ghost use mathlib.Core.List.{[], map, foldl};
+ghost use Rattle.std.specs.Prelude.{◌≡◌, cond, ◌⊎◌, ℕ, suc, ◌+◌, ◌*◌, ◌<◌, ◌≤◌, eqb, length, get_or, [], map};
+ghost use mathlib.Core.List.{foldl};
 ghost use Rattle.std.specs.Float.{nan};
 ghost use Rattle.order.specs.Open.{Open};
 ghost use Rattle.order.specs.Sort.{Below};

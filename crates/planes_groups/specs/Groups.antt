@@ -1,6 +1,6 @@
 -- Step 4, merging: groups of adjacent patches that grow breadth first from seeds, the largest patch first.
-use Rattle.std.specs.Prelude.{ℕ, zero, suc, ◌+◌, ◌-◌, ◌*◌, Bool, true, false, cond, not, ◌&&◌, ltb, eqb, length, get_or, Float}
-use mathlib.Core.List.{List, [], ◌∷◌, ◌++◌, map, flat_map}
+use Rattle.std.specs.Prelude.{ℕ, zero, suc, ◌+◌, ◌-◌, ◌*◌, Bool, true, false, cond, not, ◌&&◌, ltb, eqb, length, get_or, Float, List, [], ◌∷◌, ◌++◌, map}
+use mathlib.Core.List.{flat_map}
 use Rattle.std.specs.Float.{binary32}
 use Rattle.std.specs.Float.Ieee.{sub, lt, le, is_nan}
 use Rattle.float.specs.Literals.{zero32}

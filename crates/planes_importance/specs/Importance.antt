@@ -1,6 +1,6 @@
 -- Step 5, ranking by importance, which is area with a mild weight for being central: the best `max_reflection_planes` stay.
-use Rattle.std.specs.Prelude.{ℕ, true, false, length, take, Float}
-use mathlib.Core.List.{List, map, foldl}
+use Rattle.std.specs.Prelude.{ℕ, true, false, length, take, Float, List, map}
+use mathlib.Core.List.{foldl}
 use Rattle.std.specs.Float.{inf, binary32}
 use Rattle.std.specs.Float.Ieee.{add, mul, div, of_bits}
 use Rattle.float.specs.Literals.{zero32, one32}

@@ -3,8 +3,8 @@
 // A crate of its own, as each step of its group is, so that it is checked alone.
 #![tactic(auto)]
 
-ghost use Rattle.std.specs.Prelude.{◌≡◌, ℕ, ◌+◌, ◌*◌, ◌<◌, ◌≤◌, length, get_or, take, Float};
-ghost use mathlib.Core.List.{[], map, foldl};
+ghost use Rattle.std.specs.Prelude.{◌≡◌, ℕ, ◌+◌, ◌*◌, ◌<◌, ◌≤◌, length, get_or, take, Float, [], map};
+ghost use mathlib.Core.List.{foldl};
 ghost use Rattle.order.specs.Open.{Open};
 ghost use Rattle.order.specs.Sort.{sort_by, key_of, Below};
 ghost use Rattle.order.specs.Runs.{head_or, up_to};

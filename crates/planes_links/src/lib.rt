@@ -63,7 +63,7 @@ fn compact(words: &[u64], sorted: &mut [u32]) -> usize
 // Whether there is a number at i, and it is below the bound.
 fn is_before(sorted: &[u32], i: usize, bound: usize) -> bool
     ensures i_in_bounds { result ≡ true → (i < length sorted.now) × (get_or sorted.now i 0 < bound) }
-    ensures bound_bound { result ≡ false → i < length sorted.now → bound ≤ get_or sorted.now i 0 }
+    ensures at_or_past { result ≡ false → i < length sorted.now → bound ≤ get_or sorted.now i 0 }
 {
     if i < sorted.len() {
         if (sorted[i] as usize) < bound {

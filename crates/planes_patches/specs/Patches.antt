@@ -1,6 +1,6 @@
 -- Step 2, coplanar patches: each triangle that is kept joins the first patch of its plane in the 27 cells around its normal, or starts one.
-use Rattle.std.specs.Prelude.{ℕ, ◌+◌, ◌-◌, Bool, cond, ◌&&◌, ltb, length, set, Float}
-use mathlib.Core.List.{List, [], ◌∷◌, ◌++◌, map, flat_map, foldl}
+use Rattle.std.specs.Prelude.{ℕ, ◌+◌, ◌-◌, Bool, cond, ◌&&◌, ltb, length, set, Float, List, [], ◌∷◌, ◌++◌, map}
+use mathlib.Core.List.{flat_map, foldl}
 use Rattle.std.specs.Float.{binary32}
 use Rattle.std.specs.Float.Ieee.{add, sub, lt, of_bits}
 use Rattle.float.specs.Compare.{abs_of}

@@ -4,8 +4,8 @@
 // A crate of its own, as each step of its group is, so that it is checked alone.
 #![tactic(auto)]
 
-ghost use Rattle.std.specs.Prelude.{◌≡◌, false, cond, ℕ, suc, ◌+◌, ◌-◌, ◌*◌, ◌<◌, ◌≤◌, eqb, length, get_or, set};
-ghost use mathlib.Core.List.{List, [], ◌∷◌, map, flat_map};
+ghost use Rattle.std.specs.Prelude.{◌≡◌, false, cond, ℕ, suc, ◌+◌, ◌-◌, ◌*◌, ◌<◌, ◌≤◌, eqb, length, get_or, set, List, [], ◌∷◌, map};
+ghost use mathlib.Core.List.{flat_map};
 ghost use Rattle.order.specs.Open.{Open};
 ghost use Rattle.geometry.specs.declared.Triangle.{Triangle};
 ghost use Rattle.columns.specs.Columns.{column_count, triangle_at_of};

@@ -42,7 +42,7 @@ fn bits_at(candidate_floats: &[f32], i: usize) -> u32
 // The gains of the row that starts at p, to the tap that starts at `at`.
 fn put_gains(candidate_floats: &[f32], p: usize, taps: &mut [u32], at: usize)
     requires candidate_floats_in_bounds { (p + candidate_float_count ≤ length candidate_floats.now) × (at + tap_words ≤ length taps.old) }
-    requires level8 { Level8 (gains_at candidate_floats.now p) }
+    requires level_gains { Level8 (gains_at candidate_floats.now p) }
     ensures { taps.new ≡ sets taps.old (at + fixed_words) (gain_bits (gains_at candidate_floats.now p)) }
 {
     taps[at + 6] = bits_at(candidate_floats, p + 5);

@@ -1,9 +1,9 @@
 -- The split of `BvhNode::build_sah`: a list of triangle indices is sorted along each axis in turn, and each place of it is tried for the
 -- least cost. Everything is over two functions of a triangle's index: its box (`Triangle::aabb`) and its centroid.
-use Rattle.std.specs.Prelude.{ℕ, zero, suc, ◌+◌, ◌-◌, ◌*◌, ◌<◌, ◌≤◌, Float, pos, leb, eqb, length, take, drop, get_or, ◌≡◌, cond}
+use Rattle.std.specs.Prelude.{ℕ, zero, suc, ◌+◌, ◌-◌, ◌*◌, ◌<◌, ◌≤◌, Float, pos, leb, eqb, length, take, drop, get_or, ◌≡◌, cond, List, [], ◌∷◌}
 use Rattle.std.specs.Float.{binary32, nan}
 use Rattle.std.specs.Float.Ieee.{add, sub, mul, div, lt, le, of_bits, of_int}
-use mathlib.Core.List.{List, [], ◌∷◌, foldl}
+use mathlib.Core.List.{foldl}
 use Rattle.float.specs.Literals.{one32}
 use Rattle.order.specs.Sort.{Below}
 use Rattle.vector.specs.declared.Vec3.{Vec3}

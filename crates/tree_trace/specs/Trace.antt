@@ -1,9 +1,9 @@
 -- The nearest hit of a ray in a tree, by recursion: `FlatBvh::intersect`, whose stack is this recursion (`stack_is_trace` of
 -- `proofs/Stack.antt`): the child that is popped first is visited with all below it, then the other. `test` is the test of a ray and a
 -- box, so that the tree may have padded boxes and the test of those.
-use Rattle.std.specs.Prelude.{ℕ, ◌*◌, ◌≤◌, Float, eqb, length, Bool, true, false, cond}
+use Rattle.std.specs.Prelude.{ℕ, ◌*◌, ◌≤◌, Float, eqb, length, Bool, true, false, cond, List, [], ◌∷◌}
 use Rattle.std.specs.Float.Ieee.{le}
-use mathlib.Core.List.{List, [], ◌∷◌, foldl}
+use mathlib.Core.List.{foldl}
 use Rattle.float.specs.Literals.{zero32}
 use Rattle.vector.specs.declared.Ray.{Ray}
 use Rattle.vector.specs.Ray.{point_at_of}
