@@ -1,0 +1,29 @@
+-- `bounces::put` meets its contract: a store in each array.
+use mathlib.Core.Path.{refl}
+use native.Mathlib.Omega.{arith}
+use lib.ListN.{length-set}
+use Rattle.mirror.specs.Plane.{no_point}
+use Rattle.bounces.proofs.Laws.{slice_put}
+use Rattle.bounces.proofs.put.Goals as goal
+
+pub bounds-u-k : goal.bounds-u-k
+bounds-u-k c = omega (arith, c.requires.0, c.requires.1.points_room)
+
+pub bounds-u-k-2 : goal.bounds-u-k-2
+bounds-u-k-2 c = omega (arith, c.requires.0, c.requires.1.tris_room)
+
+pub returns : goal.returns
+returns c =
+    let going = c.requires.1 in
+    let a = c.args in record {
+      going = (
+        record {
+          points_room = simp length-set going.points_room;
+          tris_room = simp length-set going.tris_room;
+          good = going.good;
+        },
+        refl,
+      );
+      by_index = λ m h f. slice_put a.t.points a.q no_point a.k m h (omega (arith, going.points_room));
+      by_index_2 = λ m h f. slice_put a.t.tris a.i 0 a.k m h (omega (arith, going.tris_room));
+    }

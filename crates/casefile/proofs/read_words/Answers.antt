@@ -1,0 +1,15 @@
+-- `casefile::read_words` meets its contract: the area keeps its length, and each turn brings the count nearer.
+use Prim.Native.Nat.{◌-◌}
+use Rattle.casefile.proofs.read_words.Goals as goal
+
+pub plus-requires : goal.plus-requires
+plus-requires c = tt
+
+pub read_word-d-requires : goal.read_word-d-requires
+read_word-d-requires c = tt
+
+pub returns-then-d-ne0 : goal.returns-then-d-ne0
+returns-then-d-ne0 c = tt
+
+pub returns : goal.returns
+returns c = tt

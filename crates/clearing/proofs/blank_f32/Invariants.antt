@@ -1,0 +1,14 @@
+-- `clearing::blank_f32` meets its contract: what lies before i became zero, and what was zero stays so.
+use Prim.Native.Nat.{◌≤◌, ◌-◌}
+use mathlib.Core.Path.{◌≡◌}
+use lib.Ieee.{nan}
+use lib.ListN.{length}
+use Rattle.float.specs.Literals.{zero32}
+use Rattle.clearing.specs.Runs.{Wiped}
+use Rattle.clearing.proofs.blank_f32.Given as goal
+
+abbrev pub invariant-loop-i : goal.invariant-loop-i
+invariant-loop-i l = (l.i ≤ l.to) × (length l.area ≡ length l.initial.area) × Wiped zero32 nan l.initial.area l.area l.from l.i
+
+abbrev pub decreases-loop-i : goal.decreases-loop-i
+decreases-loop-i l = l.to - l.i

@@ -1,0 +1,10 @@
+-- `cost::counts_of` meets its contract: a turn a level, by the laws of `Turns`.
+use Prim.Native.Nat.{◌-◌}
+use Rattle.cost.proofs.Turns.{Turned}
+use Rattle.cost.proofs.counts_of.Given as goal
+
+abbrev pub invariant-loop-k : goal.invariant-loop-k
+invariant-loop-k l = Turned l.m l.order l.images l.counts l.k l.full l.under
+
+abbrev pub decreases-loop-k : goal.decreases-loop-k
+decreases-loop-k l = l.order - l.k

@@ -1,0 +1,11 @@
+-- `geometry::parallel` meets its contract: by the contract of `abs`.
+use Rattle.geometry.specs.Intersect.{parallel_of}
+use Rattle.geometry.proofs.parallel.Goals as goal
+
+pub abs-requires : goal.abs-requires
+unfolding parallel_of
+abs-requires c = tt
+
+pub returns : goal.returns
+unfolding parallel_of
+returns c = rw (← c.abs.ensures)

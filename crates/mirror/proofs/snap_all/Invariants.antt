@@ -1,0 +1,15 @@
+-- `mirror::snap_all` meets its contract: the triangles from here on give what all give.
+use mathlib.Core.Path.{◌≡◌}
+use Prim.Native.Nat.{ℕ, ◌-◌}
+use lib.ListN.{length, drop}
+use Rattle.geometry.specs.declared.Triangle.{Triangle}
+use Rattle.mirror.specs.Locate.{snap_all_of}
+use Rattle.mirror.specs.Rows.{AllRead}
+use Rattle.mirror.proofs.snap_all.Given as goal
+
+abbrev pub invariant-loop-k : goal.invariant-loop-k
+invariant-loop-k l =
+    (tri : ℕ → Triangle) → AllRead tri l.triangles l.n l.plane_triangles → snap_all_of tri l.ray (drop l.k l.plane_triangles) l.best ≡ snap_all_of tri l.ray l.plane_triangles l.initial.best
+
+abbrev pub decreases-loop-k : goal.decreases-loop-k
+decreases-loop-k l = length l.plane_triangles - l.k

@@ -1,0 +1,14 @@
+-- `numbering::firsts` meets its contract. The loop's invariant: e of the planes below p may come first.
+use Prim.Native.Nat.{◌-◌, ◌≤◌}
+use mathlib.Core.Path.{◌≡◌}
+use mathlib.Core.List.{[]}
+use lib.ListN.{length}
+use Rattle.sequences.specs.Allowed.{may}
+use Rattle.sequences.specs.Count.{count}
+use Rattle.numbering.proofs.firsts.Given as goal
+
+abbrev pub invariant-loop-p : goal.invariant-loop-p
+invariant-loop-p l = (l.p ≤ length l.on) × (l.e ≡ count (may l.on []) l.p)
+
+abbrev pub decreases-loop-p : goal.decreases-loop-p
+decreases-loop-p l = length l.on - l.p

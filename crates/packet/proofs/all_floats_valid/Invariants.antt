@@ -1,0 +1,13 @@
+-- `packet::all_floats_valid` meets its contract: the test of the taps from each turn on is the test of all of them.
+use Prim.Native.Nat.{◌≤◌, ◌-◌}
+use mathlib.Core.Path.{◌≡◌}
+use Rattle.packet.specs.Tap.{taps_of}
+use Rattle.packet.specs.Refusals.{all, valid_floats}
+use Rattle.packet.proofs.Areas.{taps_from}
+use Rattle.packet.proofs.all_floats_valid.Given as goal
+
+abbrev pub invariant-loop-i : goal.invariant-loop-i
+invariant-loop-i l = (l.i ≤ l.count) × (all valid_floats (taps_of l.count l.taps) ≡ all valid_floats (taps_from l.count l.i l.taps))
+
+abbrev pub decreases-loop-i : goal.decreases-loop-i
+decreases-loop-i l = l.count - l.i

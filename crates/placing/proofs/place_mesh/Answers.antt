@@ -1,0 +1,54 @@
+-- `placing::place_mesh` meets its contract: a loop over the triples: the run of the rest from here is the run of the whole.
+use mathlib.Core.Path.{refl, sym, ◌∙◌}
+use Prim.Native.Nat.{◌-◌}
+use native.Mathlib.Omega.{arith}
+use Rattle.placing.proofs.Passes.{triples_step, mesh_step, mesh_done}
+use Rattle.placing.proofs.place_mesh.Goals as goal
+
+pub place_triple-st-requires : goal.place_triple-st-requires
+place_triple-st-requires c =
+    let test = c.loop-at-test.true in
+    let pre = c.requires in
+    let inv = c.loop-at.invariant in
+    let step = triples_step c.args.indices.now c.loop-at.at (omega arith) in
+    omega arith
+
+pub loop-at-preserved : goal.loop-at-preserved
+loop-at-preserved c =
+    let test = c.loop-at-test.true in
+    let inv = c.loop-at.invariant in
+    let l = c.args.indices.now in
+    let done = c.place_triple-st.ensures in
+    let step = triples_step l c.loop-at.at (omega arith) in (
+      omega arith,
+      omega arith,
+      omega arith,
+      omega arith,
+      omega arith,
+      rw (done.made, c.wide-i.ensures.0, c.wide-j.ensures.0, c.wide-k.ensures.0)
+          (sym (mesh_step _ _ _ _ _ _ l c.loop-at.at (omega arith)) ∙ inv.5),
+    )
+
+pub returns : goal.returns
+returns c =
+    let inv = c.loop-at.invariant in
+    let l = c.args.indices.now in
+    record { made = sym (mesh_done _ _ _ _ _ _ l c.loop-at.at (omega arith)) ∙ inv.5; kept = omega arith; placed = omega arith }
+
+pub loop-at-init : goal.loop-at-init
+loop-at-init c = (omega arith, refl, refl, omega arith, omega arith, refl)
+
+pub wide-i-requires : goal.wide-i-requires
+wide-i-requires c = tt
+
+pub wide-j-requires : goal.wide-j-requires
+wide-j-requires c = tt
+
+pub wide-k-requires : goal.wide-k-requires
+wide-k-requires c = tt
+
+pub shape_of-triangles : goal.shape_of-triangles
+shape_of-triangles c = c.loop-at.invariant.1
+
+pub shape_of-handles : goal.shape_of-handles
+shape_of-handles c = c.loop-at.invariant.2

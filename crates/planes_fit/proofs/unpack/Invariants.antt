@@ -1,0 +1,11 @@
+-- `planes_fit::unpack` meets its contract: the words so far are done.
+use Prim.Native.Nat.{◌-◌}
+use lib.ListN.{length}
+use Rattle.planes_fit.proofs.Naming.{Unpacked}
+use Rattle.planes_fit.proofs.unpack.Given as goal
+
+abbrev pub invariant-loop-i : goal.invariant-loop-i
+invariant-loop-i l = Unpacked l.initial.words l.words l.i
+
+abbrev pub decreases-loop-i : goal.decreases-loop-i
+decreases-loop-i l = length l.initial.words - l.i

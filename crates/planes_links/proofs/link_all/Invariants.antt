@@ -1,0 +1,13 @@
+-- `planes_links::link_all` meets its contract: the loop keeps `Added` of what the first patches are linked to.
+use mathlib.Core.Path.{◌≡◌}
+use Prim.Native.Nat.{◌+◌, ◌-◌, ◌*◌, ◌≤◌}
+use lib.ListN.{length, take}
+use Rattle.planes_links.specs.Words.{lows}
+use Rattle.planes_links.proofs.Linking.{Added, links_some}
+use Rattle.planes_links.proofs.link_all.Given as goal
+
+abbrev pub invariant-loop-i : goal.invariant-loop-i
+invariant-loop-i l = (l.i ≤ length l.row) × (l.k ≤ l.from + 8 * l.i) × (length l.words ≡ length l.initial.words) × Added (links_some (take l.i (lows l.row)) (lows l.row)) l.initial.words l.from l.words l.k
+
+abbrev pub decreases-loop-i : goal.decreases-loop-i
+decreases-loop-i l = length l.row - l.i

@@ -1,0 +1,12 @@
+-- `tree_split::bounds` meets its contract: what is gathered so far is the box of the triangles so far.
+use mathlib.Core.Path.{◌≡◌}
+use Prim.Native.Nat.{◌-◌, ◌≤◌}
+use lib.ListN.{length, take}
+use Rattle.tree_split.specs.Split.{aabb_at_of, bounds_of}
+use Rattle.tree_split.proofs.bounds.Given as goal
+
+abbrev pub invariant-loop-i : goal.invariant-loop-i
+invariant-loop-i l = (l.i ≤ length l.part) × (l.acc ≡ bounds_of (aabb_at_of l.extents) (take l.i l.part))
+
+abbrev pub decreases-loop-i : goal.decreases-loop-i
+decreases-loop-i l = length l.part - l.i

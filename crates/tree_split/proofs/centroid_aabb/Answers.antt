@@ -1,0 +1,37 @@
+-- `tree_split::centroid_aabb` meets its contract: what is gathered so far is the box of the centroids so far.
+use mathlib.Core.Path.{sym, ◌∙◌}
+use Prim.Native.Nat.{◌-◌}
+use native.Mathlib.Omega.{arith}
+use Rattle.order.specs.Sort.{Below}
+use Rattle.geometry.specs.Aabb.{from_point_of}
+use Rattle.tree_split.specs.Split.{centroid_at_of}
+use Rattle.tree_split.proofs.Laws as law
+use Rattle.tree_split.proofs.centroid_aabb.Goals as goal
+
+pub loop-i-init : goal.loop-i-init
+loop-i-init c = (omega arith, c.new_empty-acc.ensures ∙ sym (law.bounds_none (λ j. from_point_of (centroid_at_of c.args.extents.now j)) c.args.part.now))
+
+pub overflow_cast-t : goal.overflow_cast-t
+overflow_cast-t c = omega (arith, c.shared_slice_known-2-1.given c.loop-i.i)
+
+pub centroid_at-requires : goal.centroid_at-requires
+unfolding Below
+centroid_at-requires c = let p = c.requires.n_in_bounds in let h = c.requires.below c.loop-i.i c.loop-i-test.true in omega arith
+
+pub overflow_add-i : goal.overflow_add-i
+overflow_add-i c = omega (arith, c.well_formed.1.1.0.0, c.loop-i-test.true)
+
+pub loop-i-preserved : goal.loop-i-preserved
+loop-i-preserved c = (omega arith, rw (c.union-acc.ensures, c.from_point.ensures, c.centroid_at.ensures, c.loop-i.invariant.1) (sym (law.bounds_step _ _ c.loop-i.i c.loop-i-test.true)))
+
+pub returns : goal.returns
+returns c = c.loop-i.invariant.1 ∙ law.bounds_all (λ j. from_point_of (centroid_at_of c.args.extents.now j)) c.args.part.now c.loop-i.i (omega arith)
+
+pub new_empty-acc-requires : goal.new_empty-acc-requires
+new_empty-acc-requires c = tt
+
+pub from_point-requires : goal.from_point-requires
+from_point-requires c = tt
+
+pub union-acc-requires : goal.union-acc-requires
+union-acc-requires c = tt
