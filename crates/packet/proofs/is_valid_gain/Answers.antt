@@ -1,9 +1,6 @@
 -- `packet::is_valid_gain` meets its contract: each return by the tests on the way.
 use Rattle.packet.proofs.is_valid_gain.Goals as goal
 
-pub returns-then-not-m : goal.returns-then-not-m
-returns-then-not-m c = rw (← c.is_finite.ensures, c.if-is_finite.true, c.if-not-m.true)
-
 pub returns-else-not-m : goal.returns-else-not-m
 returns-else-not-m c =
     rw (← c.is_finite.ensures, c.if-is_finite.true, c.if-not-m.false, c.is_positive.ensures)
