@@ -1,45 +1,46 @@
 // What stands above the table: the scene and what it is traced with, what is held within its limits, and the forecast.
 use crate::forecast;
 use crate::table::{print, print_count, print_float};
+use std::io;
 
 // The version of the product. include/bivelondry.h has it too, and bindings/installed.sh compares them.
-fn print_version() {
-    print(b"0.3.0");
+fn print_version(rt: &impl Print) -> io::Result<()> {
+    print(rt, b"0.3.0")
 }
 
 // The token after `case`.
-fn print_name(s: &[u8]) {
+fn print_name(rt: &impl Print, s: &[u8]) -> io::Result<()> {
     let word = text::next_token(s, 0, 1);
     let t = text::next_token(s, word.end, word.line);
     let start = t.start;
     let end = t.end;
-    print(&s[start..end]);
+    print(rt, &s[start..end])
 }
 
 // The scene's name, and the settings that delays and images depend on.
-fn print_scene(s: &[u8], order: u32, celsius: f32, rate: f32) {
-    print(b"booth ");
-    print_version();
-    print(b", scene ");
-    print_name(s);
-    print(b"\n");
-    print_float(celsius, 1, 0);
-    print(b" degrees, sound at ");
-    print_float(scene::speed_of_sound(celsius), 2, 0);
-    print(b" metres a second, ");
-    print_float(rate, 1, 0);
-    print_count(b" samples a second, order ", order as u64);
-    print(b".\n");
+fn print_scene(rt: &impl Print, s: &[u8], order: u32, celsius: f32, rate: f32) -> io::Result<()> {
+    print(rt, b"booth ")?;
+    print_version(rt)?;
+    print(rt, b", scene ")?;
+    print_name(rt, s)?;
+    print(rt, b"\n")?;
+    print_float(rt, celsius, 1, 0)?;
+    print(rt, b" degrees, sound at ")?;
+    print_float(rt, scene::speed_of_sound(celsius), 2, 0)?;
+    print(rt, b" metres a second, ")?;
+    print_float(rt, rate, 1, 0)?;
+    print_count(rt, b" samples a second, order ", order as u64)?;
+    print(rt, b".\n")
 }
 
 // The delay of the direct sound, made as that of a tap.
-fn print_direct(metres: f32, celsius: f32, rate: f32) {
+fn print_direct(rt: &impl Print, metres: f32, celsius: f32, rate: f32) -> io::Result<()> {
     let delay = metres * rate / scene::speed_of_sound(celsius);
-    print(b"The direct sound, which is not among the taps, takes ");
-    print_float(delay, 2, 0);
-    print(b" samples, ");
-    print_float(delay * 1000.0 / rate, 3, 0);
-    print(b" ms.\n");
+    print(rt, b"The direct sound, which is not among the taps, takes ")?;
+    print_float(rt, delay, 2, 0)?;
+    print(rt, b" samples, ")?;
+    print_float(rt, delay * 1000.0 / rate, 3, 0)?;
+    print(rt, b" ms.\n")
 }
 
 // ---- what is held within its limits
@@ -70,25 +71,32 @@ fn count_outside(rows: &[f32], end: usize) -> u32 {
     n
 }
 
-fn print_held(rows: &[f32], end: usize) {
+fn print_held(rt: &impl Print, rows: &[f32], end: usize) -> io::Result<()> {
     let n = count_outside(rows, end);
     if n == 0 {
-        return;
+        return Ok(());
     }
-    print_count(b"Of the absorptions and transmissions ", n as u64);
-    print(b" lie outside 0 to 1, and are held to 0 or 1.\n");
+    print_count(rt, b"Of the absorptions and transmissions ", n as u64)?;
+    print(rt, b" lie outside 0 to 1, and are held to 0 or 1.\n")
 }
 
 // All of it, for a case that was read.
-pub(crate) fn print_before(s: &[u8], w: &[u32], f: &[f32], materials: &[f32]) {
+pub(crate) fn print_before(
+    rt: &impl Print,
+    s: &[u8],
+    w: &[u32],
+    f: &[f32],
+    materials: &[f32],
+) -> io::Result<()> {
     let celsius = crate::real(f, 2);
     let rate = crate::real(f, 3);
-    print_scene(s, crate::order_of(w, f), celsius, rate);
+    print_scene(rt, s, crate::order_of(w, f), celsius, rate)?;
     print_direct(
+        rt,
         vector::distance3(crate::point_of(f, 11), crate::point_of(f, 14)),
         celsius,
         rate,
-    );
-    print_held(materials, 16 * crate::limited(casefile::word(w, 7), 64));
-    forecast::print_forecast(w);
+    )?;
+    print_held(rt, materials, 16 * crate::limited(casefile::word(w, 7), 64))?;
+    forecast::print_forecast(rt, w)
 }

@@ -3,6 +3,8 @@
 // scenes. `--time` before any of it puts the echoes in the order of their delays. Bad input is answered in words, on standard error.
 //
 // Proved: it is safe and ends, whatever the file holds. What it prints is the answer of `query`, whose contract says what that is.
+#![tactic(auto)]
+
 mod areas;
 mod faults;
 mod forecast;
@@ -14,14 +16,18 @@ mod scene_text;
 mod table;
 mod tags;
 
-ghost use Rattle.std.specs.Prelude.{◌*◌, ◌≤◌, length};
+ghost use Rattle.std.specs.Prelude.{◌≡◌, ◌*◌, ◌≤◌, length, IfOk};
 ghost use Rattle.mirror.specs.Rows.{plane_float_count, plane_word_count};
 
 use air::Air;
 use answer::Answered;
-use libc::{SEEK_END, SEEK_SET};
 use placing::Loaded;
 use scene::Settings;
+use std::env::{Env, FillError};
+use std::fs::{Files, OpenOptions};
+use std::io::{Read, Seek, SeekFrom, Write};
+use std::{fs, io};
+use table::ErrorBytes;
 use vector::Vec3;
 
 // The candidates that there is room for.
@@ -546,6 +552,7 @@ fn count_all(
 
 // The planes of an answer that is no refusal, and what was left out.
 fn name_answer(
+    rt: &impl Print,
     plane_floats: &mut [f32],
     plane_words: &mut [u32],
     on: &mut [u8],
@@ -557,7 +564,7 @@ fn name_answer(
     indices: &[u32],
     materials: &[f32],
     answer: Answered,
-) -> Named {
+) -> io::Result<Named> {
     let planes = name_walls(
         plane_floats,
         plane_words,
@@ -571,14 +578,18 @@ fn name_answer(
         materials,
         casefile::word(w, 2),
     );
-    notes::print_loaded(load(w, f, meshes, transforms, positions, indices, materials));
-    count_all(
+    notes::print_loaded(
+        rt,
+        load(w, f, meshes, transforms, positions, indices, materials),
+    )?;
+    Ok(count_all(
         w, f, meshes, transforms, positions, indices, materials, answer, planes,
-    )
+    ))
 }
 
 // The query, and the planes where it is not refused.
 fn trace_and_name(
+    rt: &impl Print,
     out: &mut [u8],
     plane_floats: &mut [f32],
     plane_words: &mut [u32],
@@ -590,7 +601,7 @@ fn trace_and_name(
     positions: &[f32],
     indices: &[u32],
     materials: &[f32],
-) -> Named {
+) -> io::Result<Named> {
     let answer = trace(
         out,
         w,
@@ -603,14 +614,15 @@ fn trace_and_name(
         casefile::word(w, 1),
     );
     if answer.refusal != 0 {
-        return Named {
+        return Ok(Named {
             answer,
             planes: 0,
             found: 0,
             heard: 0,
-        };
+        });
     }
     name_answer(
+        rt,
         plane_floats,
         plane_words,
         on,
@@ -647,6 +659,7 @@ pub(crate) fn limited(n: u32, most: usize) -> usize
 
 // What stands above the table, and the query, of a case that was read: the parts of its areas that it fills.
 fn ask(
+    rt: &impl Print,
     out: &mut [u8],
     plane_floats: &mut [f32],
     plane_words: &mut [u32],
@@ -659,17 +672,18 @@ fn ask(
     indices: &[u32],
     materials: &[f32],
     s: &[u8],
-) -> Named
+) -> io::Result<Named>
     requires { (192 ≤ length meshes.now) × (1024 ≤ length transforms.now) × (6144 ≤ length positions.now) × (1536 ≤ length indices.now) ×
         (1024 ≤ length materials.now) }
 {
-    heading::print_before(s, w, f, materials);
+    heading::print_before(rt, s, w, f, materials)?;
     let rows = 16 * limited(casefile::word(w, 7), 64);
     let mesh_words = 3 * limited(casefile::word(w, 8), 64);
     let mesh_floats = 16 * limited(casefile::word(w, 8), 64);
     let coordinates = 3 * limited(casefile::word(w, 9), 2048);
     let corners = limited(casefile::word(w, 10), 1536);
     trace_and_name(
+        rt,
         out,
         plane_floats,
         plane_words,
@@ -686,47 +700,88 @@ fn ask(
 
 // ---- a text
 
-// Empties a file, or makes it; whether it could.
-fn emptied(path: &[u8]) -> bool {
-    let file = os::open_overwrite(path);
-    if file < 0 {
-        os::fail(path);
-        return false;
+// A name that is no text: std opens no file by it.
+fn no_name() -> io::Error {
+    io::Error::from(io::ErrorKind::InvalidFilename)
+}
+
+fn open_read<R: Files>(rt: &R, path: &[u8]) -> io::Result<R::File> {
+    match std::str::from_utf8(path) {
+        Ok(name) => fs::open(rt, name),
+        Err(_) => Err(no_name()),
     }
-    libc::close(file);
-    true
+}
+
+// Opens a file to be written, and empties it, or makes it.
+fn open_overwrite<R: Files>(rt: &R, path: &[u8]) -> io::Result<R::File> {
+    match std::str::from_utf8(path) {
+        Ok(name) => fs::create(rt, name),
+        Err(_) => Err(no_name()),
+    }
+}
+
+// Opens a file that is there to be read and written, and leaves its bytes as they are.
+fn open_update<R: Files>(rt: &R, path: &[u8]) -> io::Result<R::File> {
+    match std::str::from_utf8(path) {
+        Ok(name) => OpenOptions::new().read(true).write(true).open(rt, name),
+        Err(_) => Err(no_name()),
+    }
+}
+
+// Empties a file, or makes it; whether it could.
+fn emptied(rt: &(impl Files + ErrorBytes + AllocGlobal), path: &[u8]) -> io::Result<bool> {
+    match open_overwrite(rt, path) {
+        Ok(_) => Ok(true),
+        Err(error) => {
+            faults::say_failed(rt, path, error)?;
+            Ok(false)
+        }
+    }
 }
 
 // The same of a file that may not be named.
-fn cleared(path: &[u8]) -> bool {
+fn cleared(rt: &(impl Files + ErrorBytes + AllocGlobal), path: &[u8]) -> io::Result<bool> {
     if path.len() == 0 {
-        return true;
+        return Ok(true);
     }
-    emptied(path)
+    emptied(rt, path)
 }
 
-// The packet to a file, if one is named. One that is cut short is taken back.
-fn save(path: &[u8], packet: &[u8]) {
+// The packet to an open file, which is closed. One that is cut short is taken back.
+fn fill(
+    rt: &(impl Files + ErrorBytes + AllocGlobal),
+    mut file: impl Write + Drop,
+    path: &[u8],
+    packet: &[u8],
+) -> io::Result<()> {
+    let written = file.write_all(packet);
+    drop(file);
+    let Err(error) = written else {
+        return Ok(());
+    };
+    let said = faults::say_failed(rt, path, error);
+    emptied(rt, path)?;
+    said
+}
+
+// The packet to a file, if one is named.
+fn save(
+    rt: &(impl Files + ErrorBytes + AllocGlobal),
+    path: &[u8],
+    packet: &[u8],
+) -> io::Result<()> {
     if path.len() == 0 {
-        return;
+        return Ok(());
     }
-    let file = os::open_overwrite(path);
-    if file < 0 {
-        os::fail(path);
-        return;
-    }
-    let whole = io::write_all(file, packet);
-    if !whole {
-        os::fail(path);
-    }
-    libc::close(file);
-    if !whole {
-        emptied(path);
+    match open_overwrite(rt, path) {
+        Ok(file) => fill(rt, file, path, packet),
+        Err(error) => faults::say_failed(rt, path, error),
     }
 }
 
 // What is said of an answer: the refusal, or the table; the packet goes to the file.
 fn report(
+    rt: &(impl Files + Print + ErrorBytes + AllocGlobal),
     out: &[u8],
     plane_floats: &[f32],
     plane_words: &[u32],
@@ -737,23 +792,23 @@ fn report(
     path: &[u8],
     s: &[u8],
     by_time: bool,
-)
+) -> io::Result<()>
     requires { (3072 ≤ length plane_floats.now) × (1280 ≤ length plane_words.now) }
 {
     let r = named.answer;
     let bytes = r.bytes;
     let planes = named.planes;
     if r.refusal != 0 {
-        faults::say_refusal(s, r.refusal, settings_of(w, f), casefile::word(w, 3));
-        return;
+        return faults::say_refusal(rt, s, r.refusal, settings_of(w, f), casefile::word(w, 3));
     }
     if out.len() < bytes {
-        return;
+        return Ok(());
     }
     if on.len() < planes {
-        return;
+        return Ok(());
     }
     table::print_table(
+        rt,
         &out[..bytes],
         plane_floats,
         plane_words,
@@ -764,24 +819,26 @@ fn report(
         real(f, 3),
         by_time,
         r,
-    );
-    save(path, &out[..bytes]);
-    print_notes(on, named, w, f);
+    )?;
+    save(rt, path, &out[..bytes])?;
+    print_notes(rt, on, named, w, f)
 }
 
-fn print_notes(on: &[u8], named: Named, w: &[u32], f: &[f32]) {
+fn print_notes(rt: &impl Print, on: &[u8], named: Named, w: &[u32], f: &[f32]) -> io::Result<()> {
     notes::print_notes(
+        rt,
         on,
         named,
         front::list_limit(settings_of(w, f)),
         front::list_limit(settings_taps(w, f, ALL_TAPS)),
         order_of(w, f),
         separated_of(w),
-    );
+    )
 }
 
 // Asks for a case that was read, and says what the answer is.
 fn answer_case(
+    rt: &(impl Files + Print + ErrorBytes + AllocGlobal),
     w: &[u32],
     f: &[f32],
     meshes: &[u32],
@@ -792,7 +849,7 @@ fn answer_case(
     s: &[u8],
     path: &[u8],
     by_time: bool,
-)
+) -> io::Result<()>
     requires { (192 ≤ length meshes.now) × (1024 ≤ length transforms.now) × (6144 ≤ length positions.now) × (1536 ≤ length indices.now) ×
         (1024 ≤ length materials.now) }
 {
@@ -801,6 +858,7 @@ fn answer_case(
     let mut plane_words = areas::fresh_plane_words();
     let mut on = areas::fresh_on();
     let named = ask(
+        rt,
         &mut out,
         &mut plane_floats,
         &mut plane_words,
@@ -813,8 +871,9 @@ fn answer_case(
         indices,
         materials,
         s,
-    );
+    )?;
     report(
+        rt,
         &out,
         &plane_floats,
         &plane_words,
@@ -825,11 +884,16 @@ fn answer_case(
         path,
         s,
         by_time,
-    );
+    )
 }
 
 // Reads a text, asks, and says what the answer is.
-pub(crate) fn run(s: &[u8], path: &[u8], by_time: bool) {
+pub(crate) fn run(
+    rt: &(impl Files + Print + ErrorBytes + AllocGlobal),
+    s: &[u8],
+    path: &[u8],
+    by_time: bool,
+) -> io::Result<()> {
     let mut w = areas::fresh_case_words();
     let mut f = areas::fresh_case_floats();
     let mut materials = areas::fresh_case_rows();
@@ -848,10 +912,10 @@ pub(crate) fn run(s: &[u8], path: &[u8], by_time: bool) {
         &mut indices,
     );
     if c.wrong != 0 {
-        faults::say_wrong(s, c);
-        return;
+        return faults::say_wrong(rt, s, c);
     }
     answer_case(
+        rt,
         &w,
         &f,
         &meshes,
@@ -862,7 +926,7 @@ pub(crate) fn run(s: &[u8], path: &[u8], by_time: bool) {
         s,
         path,
         by_time,
-    );
+    )
 }
 
 // ---- files
@@ -872,35 +936,67 @@ fn room() -> [u8; 262_145] {
     [0u8; 262_145]
 }
 
-// Whether a file that gave no bytes cannot be read, as a directory.
-fn unread(file: i32) -> bool {
+// Reads until `buf` is full, the file ends or a read fails. Answers how many bytes stand at its start.
+fn read_full(file: &mut impl Read, buf: &mut [u8]) -> usize
+    ensures { result ≤ length buf.new }
+{
+    let mut done = 0;
+    while done < buf.len() {
+        let Ok(n) = file.read(&mut buf[done..]) else {
+            return done;
+        };
+        if n == 0 {
+            return done;
+        }
+        done += n;
+    }
+    done
+}
+
+// Why a file that gave no bytes cannot be read, as a directory.
+fn unread(file: &mut impl Read) -> Option<io::Error> {
     let mut byte = [0u8; 1];
-    libc::read(file, &mut byte) < 0
+    file.read(&mut byte).err()
+}
+
+// The bytes of a file, as many as have room.
+fn read_scene(rt: &impl Files, scene: &[u8], buf: &mut [u8]) -> io::Result<usize>
+    ensures { IfOk result (λ n. n ≤ length buf.new) }
+{
+    let mut file = open_read(rt, scene)?;
+    let n = read_full(&mut file, buf);
+    if n == 0 {
+        if let Some(error) = unread(&mut file) {
+            return Err(error);
+        }
+    }
+    Ok(n)
 }
 
 // Whether an open file has these bytes, which are some. One without a length, as a pipe or a terminal, is not read.
-fn has_bytes(file: i32, bytes: &[u8]) -> bool {
-    if libc::lseek(file, 0, SEEK_END) < 1 {
+fn has_bytes(file: &mut (impl Read + Seek), bytes: &[u8]) -> bool {
+    match file.seek(SeekFrom::End(0)) {
+        Ok(0) => return false,
+        Ok(_) => {}
+        Err(_) => return false,
+    }
+    if file.seek(SeekFrom::Start(0)).is_err() {
         return false;
     }
-    libc::lseek(file, 0, SEEK_SET);
     let mut buf = room();
-    let n = io::read_full(file, &mut buf);
+    let n = read_full(file, &mut buf);
     text::same(&buf[..n], bytes)
 }
 
 // Whether the file that is named has the bytes of the scene, as where both names are of one file.
-fn is_scene(path: &[u8], bytes: &[u8]) -> bool {
+fn is_scene(rt: &impl Files, path: &[u8], bytes: &[u8]) -> bool {
     if path.len() == 0 {
         return false;
     }
-    let file = os::open_update(path);
-    if file < 0 {
-        return false;
+    match open_update(rt, path) {
+        Ok(mut file) => has_bytes(&mut file, bytes),
+        Err(_) => false,
     }
-    let same = has_bytes(file, bytes);
-    libc::close(file);
-    same
 }
 
 // Whether a text begins with a byte order mark.
@@ -910,140 +1006,183 @@ fn is_marked(s: &[u8]) -> bool {
 }
 
 // Runs a scene's bytes. The packet's file is emptied first, so that no failure leaves the packet of an earlier run.
-fn run_bytes(bytes: &[u8], path: &[u8], by_time: bool) {
-    if is_scene(path, bytes) {
-        table::say(b"the packet would overwrite the scene\n");
-        return;
+fn run_bytes(
+    rt: &(impl Files + Print + ErrorBytes + AllocGlobal),
+    bytes: &[u8],
+    path: &[u8],
+    by_time: bool,
+) -> io::Result<()> {
+    if is_scene(rt, path, bytes) {
+        return table::say(rt, b"the packet would overwrite the scene\n");
     }
-    if !cleared(path) {
-        return;
+    if !cleared(rt, path)? {
+        return Ok(());
     }
     if 262_144 < bytes.len() {
-        table::say(b"the scene is longer than 262,144 bytes\n");
-        return;
+        return table::say(rt, b"the scene is longer than 262,144 bytes\n");
     }
     if is_marked(bytes) {
-        table::say(
+        return table::say(
+            rt,
             b"line 1: the text begins with a byte order mark (ef bb bf): save it without one\n",
         );
-        return;
     }
-    run(bytes, path, by_time);
+    run(rt, bytes, path, by_time)
 }
 
 // Reads a whole file and runs it.
-fn run_file(scene: &[u8], path: &[u8], by_time: bool) {
-    let file = os::open_read(scene);
-    if file < 0 {
-        os::fail(scene);
-        cleared(path);
-        return;
-    }
+fn run_file(
+    rt: &(impl Files + Print + ErrorBytes + AllocGlobal),
+    scene: &[u8],
+    path: &[u8],
+    by_time: bool,
+) -> io::Result<()> {
     let mut buf = room();
-    let n = io::read_full(file, &mut buf);
-    if n == 0 {
-        if unread(file) {
-            os::fail(scene);
-            libc::close(file);
-            cleared(path);
-            return;
+    match read_scene(rt, scene, &mut buf) {
+        Ok(n) => run_bytes(rt, &buf[..n], path, by_time),
+        Err(error) => {
+            let said = faults::say_failed(rt, scene, error);
+            cleared(rt, path)?;
+            said
         }
     }
-    libc::close(file);
-    run_bytes(&buf[..n], path, by_time);
 }
 
 // Two names, which must not be equal.
-fn run_names(scene: &[u8], path: &[u8], by_time: bool) {
+fn run_names(
+    rt: &(impl Files + Print + ErrorBytes + AllocGlobal),
+    scene: &[u8],
+    path: &[u8],
+    by_time: bool,
+) -> io::Result<()> {
     if text::same(scene, path) {
-        table::say(b"the scene and the packet have the same name\n");
-        return;
+        return table::say(rt, b"the scene and the packet have the same name\n");
     }
-    run_file(scene, path, by_time);
+    run_file(rt, scene, path, by_time)
 }
 
 // ---- arguments
 
-// The scene that argument k names.
-fn run_scene(k: usize, by_time: bool) {
-    let mut scene = io::buffer();
-    let n = os::arg(k, &mut scene);
-    if n == 0 {
-        faults::say_usage();
-        return;
+// Room for a name. A longer one counts as none.
+fn buffer() -> [u8; 4096]
+    ensures { length result ≡ 4096 }
+{
+    [0; 4096]
+}
+
+// Argument k at the start of `buf`, and how long it is; 0 where there is none, or it is longer than `buf`.
+fn arg(rt: &impl Env, k: usize, buf: &mut [u8]) -> usize
+    ensures { result ≤ length buf.new }
+{
+    match rt.arg(k, buf) {
+        Ok(n) => n,
+        Err(_) => 0,
     }
-    run_file(&scene[..n], b"", by_time);
+}
+
+// How many arguments there are, with the program's name.
+fn arg_count(rt: &impl Env) -> usize {
+    let mut byte = [0u8; 1];
+    for k in 0..usize::MAX {
+        if let Err(FillError::NotPresent) = rt.arg(k, &mut byte) {
+            return k;
+        }
+    }
+    usize::MAX
+}
+
+// The scene that argument k names.
+fn run_scene(
+    rt: &(impl Env + Files + Print + ErrorBytes + AllocGlobal),
+    k: usize,
+    by_time: bool,
+) -> io::Result<()> {
+    let mut scene = buffer();
+    let n = arg(rt, k, &mut scene);
+    if n == 0 {
+        return faults::say_usage(rt);
+    }
+    run_file(rt, &scene[..n], b"", by_time)
 }
 
 // The scene that argument k names, and the packet's file behind it.
-fn run_both(k: usize, by_time: bool)
+fn run_both(
+    rt: &(impl Env + Files + Print + ErrorBytes + AllocGlobal),
+    k: usize,
+    by_time: bool,
+) -> io::Result<()>
     requires { k ≤ 9 }
 {
-    let mut scene = io::buffer();
-    let n = os::arg(k, &mut scene);
-    let mut path = io::buffer();
-    let m = os::arg(k + 1, &mut path);
+    let mut scene = buffer();
+    let n = arg(rt, k, &mut scene);
+    let mut path = buffer();
+    let m = arg(rt, k + 1, &mut path);
     if n == 0 {
-        faults::say_usage();
-        return;
+        return faults::say_usage(rt);
     }
     if m == 0 {
-        faults::say_usage();
-        return;
+        return faults::say_usage(rt);
     }
-    run_names(&scene[..n], &path[..m], by_time);
+    run_names(rt, &scene[..n], &path[..m], by_time)
 }
 
-fn next_scene(k: usize, by_time: bool) {
-    table::print(b"\n");
-    run_scene(k, by_time);
+fn next_scene(
+    rt: &(impl Env + Files + Print + ErrorBytes + AllocGlobal),
+    k: usize,
+    by_time: bool,
+) -> io::Result<()> {
+    table::print(rt, b"\n")?;
+    run_scene(rt, k, by_time)
 }
 
 // The built-in booth, and the scene of each argument from k on.
-fn run_all(k: usize, count: usize, by_time: bool) {
-    scene_text::run_built_in(by_time);
-    let mut i = k;
-    while i < count {
-        next_scene(i, by_time);
-        i += 1;
+fn run_all(
+    rt: &(impl Env + Files + Print + ErrorBytes + AllocGlobal),
+    k: usize,
+    count: usize,
+    by_time: bool,
+) -> io::Result<()> {
+    scene_text::run_built_in(rt, by_time)?;
+    for i in k..count {
+        next_scene(rt, i, by_time)?;
     }
+    Ok(())
 }
 
-fn is_arg(k: usize, word: &[u8]) -> bool {
-    let mut buf = io::buffer();
-    let n = os::arg(k, &mut buf);
+fn is_arg(rt: &impl Env, k: usize, word: &[u8]) -> bool {
+    let mut buf = buffer();
+    let n = arg(rt, k, &mut buf);
     text::same(&buf[..n], word)
 }
 
 // The arguments from k on.
-fn run_args(k: usize, by_time: bool) {
-    let count = os::arg_count();
+fn run_args(
+    rt: &(impl Env + Files + Print + ErrorBytes + AllocGlobal),
+    k: usize,
+    by_time: bool,
+) -> io::Result<()> {
+    let count = arg_count(rt);
     if 9 < k {
-        return;
+        return Ok(());
     }
-    if is_arg(k, b"--all") {
-        run_all(k + 1, count, by_time);
-        return;
+    if is_arg(rt, k, b"--all") {
+        return run_all(rt, k + 1, count, by_time);
     }
     if count <= k {
-        scene_text::run_built_in(by_time);
-        return;
+        return scene_text::run_built_in(rt, by_time);
     }
     if count == k + 1 {
-        run_scene(k, by_time);
-        return;
+        return run_scene(rt, k, by_time);
     }
     if count == k + 2 {
-        run_both(k, by_time);
-        return;
+        return run_both(rt, k, by_time);
     }
-    faults::say_usage();
+    faults::say_usage(rt)
 }
 
-fn main() {
-    if is_arg(1, b"--time") {
-        run_args(2, true);
-        return;
+fn main(rt: HostRuntime) -> io::Result<()> {
+    if is_arg(&rt, 1, b"--time") {
+        return run_args(&rt, 2, true);
     }
-    run_args(1, false);
+    run_args(&rt, 1, false)
 }

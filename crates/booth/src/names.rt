@@ -3,14 +3,15 @@ ghost use Rattle.std.specs.Prelude.{◌+◌, ◌*◌, ◌≤◌, length};
 
 use crate::table::{print, print_float, print_whole, word_of};
 use crate::{remarks, tags};
-use libc::STDOUT_FILENO;
 use numbering::Walls;
 use sequences::{MAX_IMAGE_ORDER, MAX_PLANES};
+use std::io;
 
-fn print_arrow(k: usize) {
+fn print_arrow(rt: &impl Print, k: usize) -> io::Result<()> {
     if 0 < k {
-        print(b" > ");
+        return print(rt, b" > ");
     }
+    Ok(())
 }
 
 // How many planes there are, as `numbering` takes it.
@@ -31,15 +32,14 @@ fn wall_at(planes: [u8; MAX_IMAGE_ORDER], k: usize) -> u8 {
 }
 
 // The walls that the echo with this image meets.
-pub(crate) fn print_walls(on: &[u8], order: u32, number: u32) {
+pub(crate) fn print_walls(rt: &impl Print, on: &[u8], order: u32, number: u32) -> io::Result<()> {
     let met = walls_of(on, order, number);
     let planes = met.planes;
-    let mut k = 0;
-    while k < met.len {
-        print_arrow(k);
-        io::print_decimal(STDOUT_FILENO, wall_at(planes, k) as u64);
-        k += 1;
+    for k in 0..met.len {
+        print_arrow(rt, k)?;
+        rt.print(wall_at(planes, k))?;
     }
+    Ok(())
 }
 
 // Whether the echo with this image meets plane p.
@@ -68,49 +68,62 @@ fn occurs(taps: &[u32], on: &[u8], order: u32, count: usize, p: usize) -> bool {
     false
 }
 
-fn print_heading() {
+fn print_heading(rt: &impl Print) -> io::Result<()> {
     print(
+        rt,
         b"The walls that these echoes meet: the unit normal, how far along it the wall lies from the origin,\n",
-    );
+    )?;
     print(
+        rt,
         b"the area of its triangles, in metres and square metres, and the mesh and the material of the first\n",
-    );
+    )?;
     print(
+        rt,
         b"of them (+: others are of other meshes), by their places in the scene, from 0, and with the\n",
-    );
-    print(b"remark that stands behind `mesh`.\n\n");
-    print(b"wall normal x      y      z    offset       area  mesh material\n");
+    )?;
+    print(rt, b"remark that stands behind `mesh`.\n\n")?;
+    print(
+        rt,
+        b"wall normal x      y      z    offset       area  mesh material\n",
+    )
 }
 
-fn print_mark(several: bool) {
+fn print_mark(rt: &impl Print, several: bool) -> io::Result<()> {
     if several {
-        print(b"+");
-        return;
+        return print(rt, b"+");
     }
-    print(b" ");
+    print(rt, b" ")
 }
 
 // One wall: a line.
-fn print_wall(floats: &[f32], words: &[u32], tags: &[u8], text: &[u8], p: usize)
+fn print_wall(
+    rt: &impl Print,
+    floats: &[f32],
+    words: &[u32],
+    tags: &[u8],
+    text: &[u8],
+    p: usize,
+) -> io::Result<()>
     requires { (p ≤ 255) × (12 * p + 12 ≤ length floats.now) × (5 * p + 5 ≤ length words.now) }
 {
     let plane = mirror::plane_at(floats, words, p);
     let mesh = tags::mesh(tags, p);
-    print_whole(p as u32, 4);
-    print_float(plane.normal.x, 3, 9);
-    print_float(plane.normal.y, 3, 7);
-    print_float(plane.normal.z, 3, 7);
-    print_float(plane.offset, 3, 10);
-    print_float(plane.area, 2, 11);
-    print_whole(mesh as u32, 6);
-    print_mark(tags::is_of_several(tags, p));
-    print_whole(tags::material(tags, p) as u32, 8);
-    remarks::print_mesh(text, mesh);
-    print(b"\n");
+    print_whole(rt, p as u32, 4)?;
+    print_float(rt, plane.normal.x, 3, 9)?;
+    print_float(rt, plane.normal.y, 3, 7)?;
+    print_float(rt, plane.normal.z, 3, 7)?;
+    print_float(rt, plane.offset, 3, 10)?;
+    print_float(rt, plane.area, 2, 11)?;
+    print_whole(rt, mesh as u32, 6)?;
+    print_mark(rt, tags::is_of_several(tags, p))?;
+    print_whole(rt, tags::material(tags, p) as u32, 8)?;
+    remarks::print_mesh(rt, text, mesh)?;
+    print(rt, b"\n")
 }
 
 // The line of plane p, if an echo meets it.
 fn print_used(
+    rt: &impl Print,
     taps: &[u32],
     on: &[u8],
     order: u32,
@@ -120,16 +133,18 @@ fn print_used(
     tags: &[u8],
     text: &[u8],
     p: usize,
-)
+) -> io::Result<()>
     requires { (p ≤ 255) × (12 * p + 12 ≤ length floats.now) × (5 * p + 5 ≤ length words.now) }
 {
     if occurs(taps, on, order, count, p) {
-        print_wall(floats, words, tags, text, p);
+        return print_wall(rt, floats, words, tags, text, p);
     }
+    Ok(())
 }
 
 // The lines of the planes that the echoes meet.
 fn print_lines(
+    rt: &impl Print,
     taps: &[u32],
     on: &[u8],
     order: u32,
@@ -138,21 +153,21 @@ fn print_lines(
     words: &[u32],
     tags: &[u8],
     text: &[u8],
-)
+) -> io::Result<()>
     requires { (3072 ≤ length floats.now) × (1280 ≤ length words.now) }
 {
-    let mut p = 0;
-    while p < on.len() {
+    for p in 0..on.len() {
         if MAX_PLANES <= p {
-            return;
+            return Ok(());
         }
-        print_used(taps, on, order, count, floats, words, tags, text, p);
-        p += 1;
+        print_used(rt, taps, on, order, count, floats, words, tags, text, p)?;
     }
+    Ok(())
 }
 
 // The walls that the echoes meet, in the order of their numbers. A scene may have 256: one that no row names is left out.
 pub(crate) fn print_list(
+    rt: &impl Print,
     taps: &[u32],
     on: &[u8],
     order: u32,
@@ -161,13 +176,13 @@ pub(crate) fn print_list(
     words: &[u32],
     tags: &[u8],
     text: &[u8],
-)
+) -> io::Result<()>
     requires { (3072 ≤ length floats.now) × (1280 ≤ length words.now) }
 {
     if count == 0 {
-        return;
+        return Ok(());
     }
-    print_heading();
-    print_lines(taps, on, order, count, floats, words, tags, text);
-    print(b"\n");
+    print_heading(rt)?;
+    print_lines(rt, taps, on, order, count, floats, words, tags, text)?;
+    print(rt, b"\n")
 }

@@ -3,49 +3,71 @@ use crate::Named;
 use crate::table::{print, print_count};
 use placing::Loaded;
 use sequences::MAX_IMAGE_NODES;
+use std::io;
 
 const IMAGE_LIMIT: u32 = MAX_IMAGE_NODES as u32;
 
 // The search visits no more images than its limit.
-fn print_stopped(images: u32) {
+fn print_stopped(rt: &impl Print, images: u32) -> io::Result<()> {
     if images < IMAGE_LIMIT {
-        return;
+        return Ok(());
     }
-    print_count(b"The search stopped at its limit of ", IMAGE_LIMIT as u64);
-    print(b" images: echoes may be missing, loud ones too. Take a lower order or fewer walls.\n");
+    print_count(
+        rt,
+        b"The search stopped at its limit of ",
+        IMAGE_LIMIT as u64,
+    )?;
+    print(
+        rt,
+        b" images: echoes may be missing, loud ones too. Take a lower order or fewer walls.\n",
+    )
 }
 
 // The list has as many taps as are asked for, and at most `longest`. `heard` is how many there are with a list of that length.
-fn print_full(count: usize, most: usize, heard: usize, longest: usize) {
+fn print_full(
+    rt: &impl Print,
+    count: usize,
+    most: usize,
+    heard: usize,
+    longest: usize,
+) -> io::Result<()> {
     if count == 0 {
-        return;
+        return Ok(());
     }
     if count < most {
-        return;
+        return Ok(());
     }
-    print_count(b"The list is full with ", count as u64);
+    print_count(rt, b"The list is full with ", count as u64)?;
     if count < heard {
-        print_count(b" taps of ", heard as u64);
-        print(b" that are heard: the weaker ones are left out.\n");
+        print_count(rt, b" taps of ", heard as u64)?;
+        print(rt, b" that are heard: the weaker ones are left out.\n")?;
     } else {
-        print(b" taps.\n");
+        print(rt, b" taps.\n")?;
     }
     if longest <= heard {
-        print_count(b"No list is longer than ", longest as u64);
-        print(b": weaker echoes may be missing.\n");
+        print_count(rt, b"No list is longer than ", longest as u64)?;
+        print(rt, b": weaker echoes may be missing.\n")?;
     }
+    Ok(())
 }
 
 // `max_reflection_planes` keeps the most important walls. More than 256 are never found.
-fn print_walls(planes: usize, found: usize) {
+fn print_walls(rt: &impl Print, planes: usize, found: usize) -> io::Result<()> {
     if planes < found {
-        print_count(b"Of ", found as u64);
-        print_count(b" walls that were found ", planes as u64);
-        print(b" are used, as `max_reflection_planes` says: the others give no echo.\n");
+        print_count(rt, b"Of ", found as u64)?;
+        print_count(rt, b" walls that were found ", planes as u64)?;
+        print(
+            rt,
+            b" are used, as `max_reflection_planes` says: the others give no echo.\n",
+        )?;
     }
     if 255 < found {
-        print(b"No more than 256 walls are found: others may be missing.\n");
+        print(
+            rt,
+            b"No more than 256 walls are found: others may be missing.\n",
+        )?;
     }
+    Ok(())
 }
 
 fn marked(on: &[u8], k: usize) -> bool {
@@ -65,78 +87,97 @@ fn on_any(on: &[u8], planes: usize) -> bool {
 }
 
 // Why no echo is heard, where that is plain.
-fn print_silence(on: &[u8], planes: usize, most: usize, order: u32, separated: bool) {
+fn print_silence(
+    rt: &impl Print,
+    on: &[u8],
+    planes: usize,
+    most: usize,
+    order: u32,
+    separated: bool,
+) -> io::Result<()> {
     if most == 0 {
-        print(b"No tap is asked for: `max_reflections` is 0.\n");
+        print(rt, b"No tap is asked for: `max_reflections` is 0.\n")
     } else if order == 0 {
-        print(b"No echo is searched for: `max_reflection_order` is 0.\n");
+        print(
+            rt,
+            b"No echo is searched for: `max_reflection_order` is 0.\n",
+        )
     } else if separated {
         print(
+            rt,
             b"Nothing is heard: the scene has `separated 1`, a wall between source and listener.\n",
-        );
+        )
     } else if planes == 0 {
-        print(b"No echo is heard: there is no wall.\n");
+        print(rt, b"No echo is heard: there is no wall.\n")
     } else if on_any(on, planes) {
         print(
+            rt,
             b"No echo is heard, and the source lies on a wall, from which no echo begins. Move it off the wall.\n",
-        );
+        )
     } else {
-        print_unheard();
+        print_unheard(rt)
     }
 }
 
-fn print_unheard() {
+fn print_unheard(rt: &impl Print) -> io::Result<()> {
     print(
+        rt,
         b"No echo is heard: each is blocked, misses its walls or is longer than `max_reflection_distance`.\n",
-    );
+    )?;
     print(
+        rt,
         b"A source or a listener behind a wall, as outside the room, is cut off from the others.\n",
-    );
+    )
 }
 
 // The lines below the table.
 pub(crate) fn print_notes(
+    rt: &impl Print,
     on: &[u8],
     named: Named,
     most: usize,
     longest: usize,
     order: u32,
     separated: bool,
-) {
+) -> io::Result<()> {
     let r = named.answer;
-    print_walls(named.planes, named.found);
-    print_stopped(r.images);
-    print_full(r.count, most, named.heard, longest);
+    print_walls(rt, named.planes, named.found)?;
+    print_stopped(rt, r.images)?;
+    print_full(rt, r.count, most, named.heard, longest)?;
     if r.count == 0 {
-        print_silence(on, named.planes, most, order, separated);
+        return print_silence(rt, on, named.planes, most, order, separated);
     }
+    Ok(())
 }
 
 // ---- triangles
 
 // The triangles that loading left out, by the whole triples of the indices, placings (three for each triple whose indices are in range) and triangles kept.
-fn print_left(triples: usize, placings: usize, kept: usize) {
+fn print_left(rt: &impl Print, triples: usize, placings: usize, kept: usize) -> io::Result<()> {
     let placed = placings / 3;
     if placed < triples {
         print_count(
+            rt,
             b"Triangles left out, with an index out of range: ",
             (triples - placed) as u64,
-        );
-        print(b".\n");
+        )?;
+        print(rt, b".\n")?;
     }
     if kept < placed {
         print_count(
+            rt,
             b"Triangles left out, with no area: ",
             (placed - kept) as u64,
-        );
-        print(b".\n");
+        )?;
+        print(rt, b".\n")?;
     }
+    Ok(())
 }
 
-pub(crate) fn print_loaded(loaded: Loaded) {
+pub(crate) fn print_loaded(rt: &impl Print, loaded: Loaded) -> io::Result<()> {
     match loaded {
-        Loaded::Refused(_) => {}
-        Loaded::Triangles(kept, placings, triples) => print_left(triples, placings, kept),
+        Loaded::Refused(_) => Ok(()),
+        Loaded::Triangles(kept, placings, triples) => print_left(rt, triples, placings, kept),
     }
 }
 

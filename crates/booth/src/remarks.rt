@@ -1,5 +1,6 @@
 // The remarks of a scene's text: what stands behind `#` in a mesh's line.
 use crate::table::print;
+use std::io;
 use text::next_token;
 
 // The place behind the word `mesh` of mesh number j; the text's end where there is none. The first two tokens are `case` and a name.
@@ -50,10 +51,11 @@ fn place_of(s: &[u8], at: usize, b: u8) -> usize {
 }
 
 // The remark in the line of mesh j, if there is one, up to a comma.
-pub(crate) fn print_mesh(s: &[u8], j: u8) {
+pub(crate) fn print_mesh(rt: &impl Print, s: &[u8], j: u8) -> io::Result<()> {
     let from = place_of(s, mesh_place(s, j), b'#');
     if text::byte_at(s, from, b'\n') == b'#' {
-        print(b"  ");
-        crate::faults::print_some(s, from, place_of(s, from, b','), 34);
+        print(rt, b"  ")?;
+        return crate::faults::print_some(rt, s, from, place_of(s, from, b','), 34);
     }
+    Ok(())
 }

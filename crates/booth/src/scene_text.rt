@@ -1,8 +1,15 @@
 // The built-in booth, in the text that a file would have.
+use crate::table::ErrorBytes;
+use std::fs::Files;
+use std::io;
 
 // A room of twelve metres with a carpet, ceiling tiles and plaster walls, and three free panels of wood: 18 triangles.
-pub(crate) fn run_built_in(by_time: bool) {
+pub(crate) fn run_built_in(
+    rt: &(impl Files + Print + ErrorBytes + AllocGlobal),
+    by_time: bool,
+) -> io::Result<()> {
     crate::run(
+        rt,
         b"case built-in                  # 12 m long, 3 m high, 5 m wide
 counts 3 16 32 4096            # order, most taps, most planes, room for candidates
 floats 0.1 50 20 48000 0.9961947 0.25 0.05
@@ -76,5 +83,5 @@ end
 ",
         b"",
         by_time,
-    );
+    )
 }

@@ -1,10 +1,12 @@
 // Prints forecasts, with the refusals at both ends of each limit, and compares the counts with those of an enumeration: of up to 6 planes, each
 // number of them that may come first, and each order. With 6 planes and order 8 there are more than 250,000.
+#![tactic(auto)]
+
 ghost use Rattle.std.specs.Prelude.{◌≡◌, ◌≤◌, length};
 
 use cost::Cost;
-use libc::STDOUT_FILENO;
 use sequences::{Enumeration, MAX_IMAGE_NODES, MAX_IMAGE_ORDER, RECORD};
+use std::io;
 
 const RECORDS: usize = MAX_IMAGE_NODES * RECORD;
 
@@ -26,86 +28,92 @@ fn room() -> [u8; RECORDS] {
     [0; RECORDS]
 }
 
-fn print(bytes: &[u8]) {
-    io::write_all(STDOUT_FILENO, bytes);
+fn print(rt: &impl Print, bytes: &[u8]) -> io::Result<()> {
+    rt.write_all(bytes)
 }
 
-fn print_number(n: u64) {
-    print(b" ");
-    io::print_decimal(STDOUT_FILENO, n);
+fn print_number(rt: &impl Print, n: u64) -> io::Result<()> {
+    print(rt, b" ")?;
+    rt.print(n)
 }
 
 fn wide(x: u32) -> u64 {
     x as u64
 }
 
-fn print_counts(counts: [u32; MAX_IMAGE_ORDER]) {
-    let mut k = 0;
-    while k < MAX_IMAGE_ORDER {
-        print_number(wide(counts[k]));
-        k += 1;
+fn print_counts(rt: &impl Print, counts: [u32; MAX_IMAGE_ORDER]) -> io::Result<()> {
+    for k in 0..MAX_IMAGE_ORDER {
+        print_number(rt, wide(counts[k]))?;
     }
+    Ok(())
 }
 
 // A line with what is asked, and one with the answer.
-fn show(crossing_limit: u32, planes: u32, first: u32, order: u32, triples: u32) {
-    print(b"crossings, planes, first, order, triples");
-    print_number(crossing_limit as u64);
-    print_number(planes as u64);
-    print_number(first as u64);
-    print_number(order as u64);
-    print_number(triples as u64);
+fn show(
+    rt: &impl Print,
+    crossing_limit: u32,
+    planes: u32,
+    first: u32,
+    order: u32,
+    triples: u32,
+) -> io::Result<()> {
+    print(rt, b"crossings, planes, first, order, triples")?;
+    print_number(rt, crossing_limit as u64)?;
+    print_number(rt, planes as u64)?;
+    print_number(rt, first as u64)?;
+    print_number(rt, order as u64)?;
+    print_number(rt, triples as u64)?;
     let r = cost::query_cost(crossing_limit, planes, first, order, triples);
-    print_answer(r);
+    print_answer(rt, r)
 }
 
-fn print_answer(r: Cost) {
-    print(b"\n  refusal");
-    print_number(r.refusal as u64);
-    print(b", counts");
+fn print_answer(rt: &impl Print, r: Cost) -> io::Result<()> {
+    print(rt, b"\n  refusal")?;
+    print_number(rt, r.refusal as u64)?;
+    print(rt, b", counts")?;
     let counts = r.counts;
-    print_counts(counts);
-    print(b", candidates");
-    print_number(r.candidates as u64);
-    print(b", rays");
-    print_number(r.rays);
-    print(b", words");
-    print_number(r.words);
-    print(b"\n");
+    print_counts(rt, counts)?;
+    print(rt, b", candidates")?;
+    print_number(rt, r.candidates as u64)?;
+    print(rt, b", rays")?;
+    print_number(rt, r.rays)?;
+    print(rt, b", words")?;
+    print_number(rt, r.words)?;
+    print(rt, b"\n")
 }
 
-fn show_answers() {
-    show(CROSSINGS, 6, 6, 8, 12);
-    show(CROSSINGS, 32, 32, 4, 64);
-    show(CROSSINGS, 256, 256, 8, 4096);
-    show(CROSSINGS, 2, 2, 8, 4);
-    show(CROSSINGS, 1, 1, 8, 2);
-    show(CROSSINGS, 6, 5, 3, 12);
-    show(CROSSINGS, 6, 6, 3, 12);
-    show(CROSSINGS, 6, 6, 7, 12);
-    show(CROSSINGS, 32, 32, 3, 64);
-    show(CROSSINGS, 6, 0, 8, 12);
-    show(1, 6, 6, 8, 12);
-    show(9, 6, 6, 8, 12);
-    show(32, 6, 6, 8, 12);
-    show(32, 256, 256, 8, 4096);
+fn show_answers(rt: &impl Print) -> io::Result<()> {
+    show(rt, CROSSINGS, 6, 6, 8, 12)?;
+    show(rt, CROSSINGS, 32, 32, 4, 64)?;
+    show(rt, CROSSINGS, 256, 256, 8, 4096)?;
+    show(rt, CROSSINGS, 2, 2, 8, 4)?;
+    show(rt, CROSSINGS, 1, 1, 8, 2)?;
+    show(rt, CROSSINGS, 6, 5, 3, 12)?;
+    show(rt, CROSSINGS, 6, 6, 3, 12)?;
+    show(rt, CROSSINGS, 6, 6, 7, 12)?;
+    show(rt, CROSSINGS, 32, 32, 3, 64)?;
+    show(rt, CROSSINGS, 6, 0, 8, 12)?;
+    show(rt, 1, 6, 6, 8, 12)?;
+    show(rt, 9, 6, 6, 8, 12)?;
+    show(rt, 32, 6, 6, 8, 12)?;
+    show(rt, 32, 256, 256, 8, 4096)
 }
 
 // On either side of each limit.
-fn show_limits() {
-    show(0, 2, 2, 8, 4);
-    show(1, 2, 2, 8, 4);
-    show(32, 2, 2, 8, 4);
-    show(33, 2, 2, 8, 4);
-    show(CROSSINGS, 0, 0, 1, 0);
-    show(CROSSINGS, 1, 0, 1, 0);
-    show(CROSSINGS, 256, 1, 1, 0);
-    show(CROSSINGS, 257, 1, 1, 0);
-    show(CROSSINGS, 2, 2, 0, 0);
-    show(CROSSINGS, 2, 2, 9, 0);
-    show(CROSSINGS, 2, 3, 8, 0);
-    show(CROSSINGS, 2, 2, 8, 4096);
-    show(CROSSINGS, 2, 2, 8, 4097);
+fn show_limits(rt: &impl Print) -> io::Result<()> {
+    show(rt, 0, 2, 2, 8, 4)?;
+    show(rt, 1, 2, 2, 8, 4)?;
+    show(rt, 32, 2, 2, 8, 4)?;
+    show(rt, 33, 2, 2, 8, 4)?;
+    show(rt, CROSSINGS, 0, 0, 1, 0)?;
+    show(rt, CROSSINGS, 1, 0, 1, 0)?;
+    show(rt, CROSSINGS, 256, 1, 1, 0)?;
+    show(rt, CROSSINGS, 257, 1, 1, 0)?;
+    show(rt, CROSSINGS, 2, 2, 0, 0)?;
+    show(rt, CROSSINGS, 2, 2, 9, 0)?;
+    show(rt, CROSSINGS, 2, 3, 8, 0)?;
+    show(rt, CROSSINGS, 2, 2, 8, 4096)?;
+    show(rt, CROSSINGS, 2, 2, 8, 4097)
 }
 
 // A byte for each plane, 0 for the first ones.
@@ -244,14 +252,14 @@ fn compare_planes(records: &mut [u8]) -> Tally {
     t
 }
 
-fn main() {
-    show_answers();
-    show_limits();
+fn main(rt: HostRuntime) -> io::Result<()> {
+    show_answers(&rt)?;
+    show_limits(&rt)?;
     let mut records = room();
     let t = compare_planes(&mut records);
-    print(b"counts compared");
-    print_number(t.counts as u64);
-    print(b", different");
-    print_number(t.differ as u64);
-    print(b"\n");
+    print(&rt, b"counts compared")?;
+    print_number(&rt, t.counts as u64)?;
+    print(&rt, b", different")?;
+    print_number(&rt, t.differ as u64)?;
+    print(&rt, b"\n")
 }

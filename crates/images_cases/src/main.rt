@@ -1,22 +1,54 @@
 // Runs the text of `images` on each case of its input, up to a `;`, and prints the case with its result: all lines where they are few, else
 // the last two and a digest of all.
-ghost use Rattle.std.specs.Prelude.{◌≤◌, ◌<◌, length};
+#![tactic(auto)]
 
-use libc::{STDIN_FILENO, STDOUT_FILENO};
+ghost use Rattle.std.specs.Prelude.{◌≡◌, ◌≤◌, ◌<◌, length, IfOk};
+
 use listing::{RECORDS, Reply};
+use std::io;
+use std::io::Read;
 
 // The digest is a polynomial in 31 over the bytes, modulo this prime.
 const PRIME: u64 = 4_294_967_291;
 
 const FEW: usize = 100;
 
+// Room for all of standard input.
+fn buffer() -> [u8; 4096]
+    ensures { length result ≡ 4096 }
+{
+    [0; 4096]
+}
+
+// Room for lines.
+fn large_buffer() -> [u8; 65536]
+    ensures { length result ≡ 65536 }
+{
+    [0; 65536]
+}
+
 // Room for the records of 250,000 images. A function of its own, so that no proof looks into so long a list.
 fn room() -> [u8; RECORDS] {
     [0; RECORDS]
 }
 
-fn print(bytes: &[u8]) {
-    io::write_all(STDOUT_FILENO, bytes);
+// Reads until `buf` is full or the input ends. Answers how many bytes stand at its start.
+fn read_full(input: &mut impl Read, buf: &mut [u8]) -> io::Result<usize>
+    ensures { IfOk result (λ n. n ≤ length buf.new) }
+{
+    let mut done = 0;
+    while done < buf.len() {
+        let n = input.read(&mut buf[done..])?;
+        if n == 0 {
+            return Ok(done);
+        }
+        done += n;
+    }
+    Ok(done)
+}
+
+fn print(rt: &impl Print, bytes: &[u8]) -> io::Result<()> {
+    rt.write_all(bytes)
 }
 
 // The digest of the bytes that have the digest `start` and then `bytes`.
@@ -48,35 +80,40 @@ fn digest_lines(records: &[u8], total: usize, out: &mut [u8]) -> u64 {
 }
 
 // Prints the lines from that of image number `from` + 1 on, as many as have room in `out`.
-fn print_from(records: &[u8], total: usize, from: usize, out: &mut [u8]) {
+fn print_from(
+    rt: &impl Print,
+    records: &[u8],
+    total: usize,
+    from: usize,
+    out: &mut [u8],
+) -> io::Result<()> {
     let chunk = listing::lines(records, total, from, out);
     let len = chunk.len;
-    print(&out[..len]);
+    print(rt, &out[..len])
 }
 
-fn print_lines(records: &[u8], total: usize, out: &mut [u8]) {
+fn print_lines(rt: &impl Print, records: &[u8], total: usize, out: &mut [u8]) -> io::Result<()> {
     if total <= FEW {
-        print_from(records, total, 0, out);
-        return;
+        return print_from(rt, records, total, 0, out);
     }
-    print(b"..\n");
-    print_from(records, total, total - 2, out);
+    print(rt, b"..\n")?;
+    print_from(rt, records, total, total - 2, out)?;
     let sum = digest_lines(records, total, out);
-    print(b"digest ");
-    io::print_decimal(STDOUT_FILENO, sum);
-    print(b"\n");
+    print(rt, b"digest ")?;
+    rt.print(sum)?;
+    print(rt, b"\n")
 }
 
-fn run(text: &[u8], records: &mut [u8], out: &mut [u8]) {
-    print(b"[");
-    print(text);
-    print(b"]\n");
+fn run(rt: &impl Print, text: &[u8], records: &mut [u8], out: &mut [u8]) -> io::Result<()> {
+    print(rt, b"[")?;
+    print(rt, text)?;
+    print(rt, b"]\n")?;
     match listing::answer(text, records, out) {
         Reply::Head(total, len) => {
-            print(&out[..len]);
-            print_lines(records, total, out);
+            print(rt, &out[..len])?;
+            print_lines(rt, records, total, out)
         }
-        Reply::NoRoom => {}
+        Reply::NoRoom => Ok(()),
     }
 }
 
@@ -95,19 +132,20 @@ fn end_of(texts: &[u8], from: usize) -> usize
     i
 }
 
-fn run_all(texts: &[u8], records: &mut [u8], out: &mut [u8]) {
+fn run_all(rt: &impl Print, texts: &[u8], records: &mut [u8], out: &mut [u8]) -> io::Result<()> {
     let mut from = 0;
     while from < texts.len() {
         let to = end_of(texts, from);
-        run(&texts[from..to], records, out);
+        run(rt, &texts[from..to], records, out)?;
         from = to + 1;
     }
+    Ok(())
 }
 
-fn main() {
-    let mut texts = io::buffer();
-    let n = io::read_full(STDIN_FILENO, &mut texts);
+fn main(rt: HostRuntime) -> io::Result<()> {
+    let mut texts = buffer();
+    let n = read_full(&mut rt.reader(), &mut texts)?;
     let mut records = room();
-    let mut out = io::large_buffer();
-    run_all(&texts[..n], &mut records, &mut out);
+    let mut out = large_buffer();
+    run_all(&rt, &texts[..n], &mut records, &mut out)
 }

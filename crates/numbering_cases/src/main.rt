@@ -1,11 +1,13 @@
 // Runs `sequence_of`: prints the walls of numbers at the ends of the ranges, then compares every number of every mask for up to 5 planes and order 4
 // with the images that `enumerate` lists, and says how many there were and how many differ.
+#![tactic(auto)]
+
 ghost use Rattle.std.specs.Prelude.{◌≤◌, ◌<◌};
 
-use libc::STDOUT_FILENO;
 use listing::RECORDS;
 use numbering::{BAD_NUMBER, Walls, sequence_of};
 use sequences::{Enumeration, MAX_IMAGE_ORDER, RECORD, enumerate};
+use std::io;
 
 const PLANES: u32 = 5;
 
@@ -26,93 +28,99 @@ fn room() -> [u8; RECORDS] {
     [0; RECORDS]
 }
 
-fn print(bytes: &[u8]) {
-    io::write_all(STDOUT_FILENO, bytes);
+fn print(rt: &impl Print, bytes: &[u8]) -> io::Result<()> {
+    rt.write_all(bytes)
 }
 
-fn print_number(n: u64) {
-    io::print_decimal(STDOUT_FILENO, n);
+fn print_number(rt: &impl Print, n: u64) -> io::Result<()> {
+    rt.print(n)
 }
 
 // ---- the ends of the ranges
 
-fn print_plane(p: u8) {
-    print(b" ");
-    print_number(p as u64);
+fn print_plane(rt: &impl Print, p: u8) -> io::Result<()> {
+    print(rt, b" ")?;
+    print_number(rt, p as u64)
 }
 
-fn print_planes(planes: [u8; MAX_IMAGE_ORDER], len: usize) {
-    let mut i = 0;
-    while i < MAX_IMAGE_ORDER {
+fn print_planes(rt: &impl Print, planes: [u8; MAX_IMAGE_ORDER], len: usize) -> io::Result<()> {
+    for i in 0..MAX_IMAGE_ORDER {
         if i < len {
-            print_plane(planes[i]);
+            print_plane(rt, planes[i])?;
         }
-        i += 1;
     }
+    Ok(())
 }
 
-fn print_walls(w: Walls) {
+fn print_walls(rt: &impl Print, w: Walls) -> io::Result<()> {
     if w.refusal == 0 {
         let planes = w.planes;
-        print_planes(planes, w.len);
-        return;
+        return print_planes(rt, planes, w.len);
     }
-    print(b" refused ");
-    print_number(w.refusal as u64);
+    print(rt, b" refused ")?;
+    print_number(rt, w.refusal as u64)
 }
 
-fn show(planes: u32, order: u32, on: &[u8], number: u32) {
-    print_number(planes as u64);
-    print(b" planes, ");
-    print_number(on.len() as u64);
-    print(b" bytes, order ");
-    print_number(order as u64);
-    print(b", number ");
-    print_number(number as u64);
-    print(b":");
-    print_walls(sequence_of(planes, order, on, number));
-    print(b"\n");
+fn show(rt: &impl Print, planes: u32, order: u32, on: &[u8], number: u32) -> io::Result<()> {
+    print_number(rt, planes as u64)?;
+    print(rt, b" planes, ")?;
+    print_number(rt, on.len() as u64)?;
+    print(rt, b" bytes, order ")?;
+    print_number(rt, order as u64)?;
+    print(rt, b", number ")?;
+    print_number(rt, number as u64)?;
+    print(rt, b":")?;
+    print_walls(rt, sequence_of(planes, order, on, number))?;
+    print(rt, b"\n")
 }
 
 // The source on no plane, with so many bytes.
-fn show_off(planes: u32, order: u32, off: &[u8], bytes: usize, number: u32) {
+fn show_off(
+    rt: &impl Print,
+    planes: u32,
+    order: u32,
+    off: &[u8],
+    bytes: usize,
+    number: u32,
+) -> io::Result<()> {
     if bytes <= off.len() {
-        show(planes, order, &off[..bytes], number);
+        return show(rt, planes, order, &off[..bytes], number);
     }
+    Ok(())
 }
 
-fn show_ends(off: &[u8]) {
-    show_off(6, 3, off, 6, 2);
-    show_off(6, 3, off, 6, 32);
-    show_off(6, 3, off, 6, 186);
-    show_off(6, 3, off, 6, 187);
-    show_off(6, 8, off, 6, 125_000);
-    show_off(6, 8, off, 6, 250_000);
-    show_off(6, 8, off, 6, 250_001);
-    show_off(32, 4, off, 32, 250_000);
-    show_off(256, 8, off, 256, 250_000);
-    show_off(256, 2, off, 256, 65_536);
-    show_off(256, 2, off, 256, 65_537);
-    show_off(1, 8, off, 1, 1);
-    show_off(1, 8, off, 1, 2);
+fn show_ends(rt: &impl Print, off: &[u8]) -> io::Result<()> {
+    show_off(rt, 6, 3, off, 6, 2)?;
+    show_off(rt, 6, 3, off, 6, 32)?;
+    show_off(rt, 6, 3, off, 6, 186)?;
+    show_off(rt, 6, 3, off, 6, 187)?;
+    show_off(rt, 6, 8, off, 6, 125_000)?;
+    show_off(rt, 6, 8, off, 6, 250_000)?;
+    show_off(rt, 6, 8, off, 6, 250_001)?;
+    show_off(rt, 32, 4, off, 32, 250_000)?;
+    show_off(rt, 256, 8, off, 256, 250_000)?;
+    show_off(rt, 256, 2, off, 256, 65_536)?;
+    show_off(rt, 256, 2, off, 256, 65_537)?;
+    show_off(rt, 1, 8, off, 1, 1)?;
+    show_off(rt, 1, 8, off, 1, 2)
 }
 
 // What is outside the limits.
-fn show_limits(off: &[u8]) {
-    show_off(6, 3, off, 6, 0);
-    show_off(6, 0, off, 6, 1);
-    show_off(6, 9, off, 6, 1);
-    show_off(6, 3, off, 5, 1);
-    show_off(6, 3, off, 7, 1);
-    show_off(0, 3, off, 0, 1);
-    show_off(257, 3, off, 257, 1);
+fn show_limits(rt: &impl Print, off: &[u8]) -> io::Result<()> {
+    show_off(rt, 6, 3, off, 6, 0)?;
+    show_off(rt, 6, 0, off, 6, 1)?;
+    show_off(rt, 6, 9, off, 6, 1)?;
+    show_off(rt, 6, 3, off, 5, 1)?;
+    show_off(rt, 6, 3, off, 7, 1)?;
+    show_off(rt, 0, 3, off, 0, 1)?;
+    show_off(rt, 257, 3, off, 257, 1)
 }
 
 // The source on all planes, on all but the last, and a byte that is neither 0 nor 1.
-fn show_bytes() {
-    show(6, 8, &[1, 1, 1, 1, 1, 1], 1);
-    show(6, 3, &[1, 1, 1, 1, 1, 0], 31);
-    show(6, 3, &[0, 0, 2, 0, 0, 0], 1);
+fn show_bytes(rt: &impl Print) -> io::Result<()> {
+    show(rt, 6, 8, &[1, 1, 1, 1, 1, 1], 1)?;
+    show(rt, 6, 3, &[1, 1, 1, 1, 1, 0], 31)?;
+    show(rt, 6, 3, &[0, 0, 2, 0, 0, 0], 1)
 }
 
 // ---- every number of small rooms
@@ -239,20 +247,20 @@ fn compare_rooms(records: &mut [u8]) -> Tally {
     t
 }
 
-fn print_tally(t: Tally) {
-    print_number(t.compared);
-    print(b" numbers compared, ");
-    print_number(t.refused);
-    print(b" refused, ");
-    print_number(t.differ);
-    print(b" differ\n");
+fn print_tally(rt: &impl Print, t: Tally) -> io::Result<()> {
+    print_number(rt, t.compared)?;
+    print(rt, b" numbers compared, ")?;
+    print_number(rt, t.refused)?;
+    print(rt, b" refused, ")?;
+    print_number(rt, t.differ)?;
+    print(rt, b" differ\n")
 }
 
-fn main() {
+fn main(rt: HostRuntime) -> io::Result<()> {
     let off = [0u8; 257];
-    show_ends(&off);
-    show_limits(&off);
-    show_bytes();
+    show_ends(&rt, &off)?;
+    show_limits(&rt, &off)?;
+    show_bytes(&rt)?;
     let mut records = room();
-    print_tally(compare_rooms(&mut records));
+    print_tally(&rt, compare_rooms(&mut records))
 }

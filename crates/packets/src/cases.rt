@@ -3,7 +3,7 @@ ghost use Rattle.std.specs.Prelude.{◌≡◌, ◌+◌, length};
 ghost use Rattle.packet.specs.Limits.{out_bytes, area_words};
 
 use crate::words;
-use libc::STDOUT_FILENO;
+use std::io;
 
 // What an area holds before a call.
 const FILL: u32 = 0x5a5a5a5a;
@@ -96,36 +96,35 @@ fn check_words(a: &[u32], n: usize) -> u64 {
     c
 }
 
-fn print_refusal(n: u32) {
-    io::write_all(STDOUT_FILENO, b"refused ");
-    io::print_decimal(STDOUT_FILENO, n as u64);
+fn print_refusal(rt: &impl Print, n: u32) -> io::Result<()> {
+    print!(rt; "refused {n}")
 }
 
-fn print_number(name: &[u8], n: u64) {
-    io::write_all(STDOUT_FILENO, name);
-    io::print_decimal(STDOUT_FILENO, n);
+fn print_number(rt: &impl Print, name: &[u8], n: u64) -> io::Result<()> {
+    rt.write_all(name)?;
+    rt.print(n)
 }
 
-fn print_verdict(ok: bool) -> bool {
+fn print_verdict(rt: &impl Print, ok: bool) -> io::Result<bool> {
     if ok {
-        io::write_all(STDOUT_FILENO, b", ok\n");
+        rt.write_all(b", ok\n")?;
     } else {
-        io::write_all(STDOUT_FILENO, b", DIFFERS\n");
+        rt.write_all(b", DIFFERS\n")?;
     }
-    ok
+    Ok(ok)
 }
 
 // The kind of a case and its name, which stands from byte 2 on. Answers the place after it.
-fn print_name(kind: &[u8], line: &[u8]) -> usize {
+fn print_name(rt: &impl Print, kind: &[u8], line: &[u8]) -> io::Result<usize> {
     let end = words::find(line, 2, true);
-    io::write_all(STDOUT_FILENO, kind);
+    rt.write_all(kind)?;
     if 2 <= end {
         if end <= line.len() {
-            io::write_all(STDOUT_FILENO, &line[2..end]);
+            rt.write_all(&line[2..end])?;
         }
     }
-    io::write_all(STDOUT_FILENO, b": ");
-    end
+    rt.write_all(b": ")?;
+    Ok(end)
 }
 
 // Whether the taps that were read are written again as the bytes that they were read from, and nothing more.
@@ -149,14 +148,20 @@ struct Expected {
     check: u64,
 }
 
-fn print_taps(count: usize, images: u32, rays: u32, again: bool) {
-    print_number(b"taps ", count as u64);
-    print_number(b" images ", images as u64);
-    print_number(b" rays ", rays as u64);
+fn print_taps(
+    rt: &impl Print,
+    count: usize,
+    images: u32,
+    rays: u32,
+    again: bool,
+) -> io::Result<()> {
+    print_number(rt, b"taps ", count as u64)?;
+    print_number(rt, b" images ", images as u64)?;
+    print_number(rt, b" rays ", rays as u64)?;
     if again {
-        io::write_all(STDOUT_FILENO, b", written again as the same bytes");
+        rt.write_all(b", written again as the same bytes")
     } else {
-        io::write_all(STDOUT_FILENO, b", NOT written again as the same bytes");
+        rt.write_all(b", NOT written again as the same bytes")
     }
 }
 
@@ -175,7 +180,7 @@ fn counts_agree(count: usize, images: u32, rays: u32, e: Expected) -> bool {
 }
 
 // Reads a packet, prints the answer, and tells whether answer and area are the stored ones.
-fn try_read(bytes: &[u8], taps: &mut [u32], e: Expected) -> bool {
+fn try_read(rt: &impl Print, bytes: &[u8], taps: &mut [u32], e: Expected) -> io::Result<bool> {
     match packet::read(bytes, taps) {
         packet::Reading::Taps {
             count,
@@ -183,19 +188,19 @@ fn try_read(bytes: &[u8], taps: &mut [u32], e: Expected) -> bool {
             rays,
         } => {
             let again = same_again(bytes, count, images, rays, taps);
-            print_taps(count, images, rays, again);
-            again && taps_agree(taps, count, e.check) && counts_agree(count, images, rays, e)
+            print_taps(rt, count, images, rays, again)?;
+            Ok(again && taps_agree(taps, count, e.check) && counts_agree(count, images, rays, e))
         }
         packet::Reading::Refused(k) => {
-            print_refusal(k);
-            k as u64 == e.refusal && words_kept(taps, 0)
+            print_refusal(rt, k)?;
+            Ok(k as u64 == e.refusal && words_kept(taps, 0))
         }
     }
 }
 
 // A line with a packet to read.
-pub(crate) fn read_case(line: &[u8]) -> bool {
-    let after = print_name(b"read ", line);
+pub(crate) fn read_case(rt: &impl Print, line: &[u8]) -> io::Result<bool> {
+    let after = print_name(rt, b"read ", line)?;
     let mut f = [0u64; 7];
     let at = words::numbers(line, after, &mut f);
     let words = f[0] as usize;
@@ -211,16 +216,18 @@ pub(crate) fn read_case(line: &[u8]) -> bool {
     words::hex_bytes(line, at, &mut bytes);
     let mut area = fresh_words();
     if WORDS < words {
-        return print_verdict(false);
+        return print_verdict(rt, false);
     }
     if LONGEST < n {
-        return print_verdict(false);
+        return print_verdict(rt, false);
     }
-    print_verdict(try_read(&bytes[..n], &mut area[..words], e))
+    let ok = try_read(rt, &bytes[..n], &mut area[..words], e)?;
+    print_verdict(rt, ok)
 }
 
 // Writes taps, prints the answer, and tells whether answer and output are the stored ones.
 fn try_write(
+    rt: &impl Print,
     taps: &[u32],
     out: &mut [u8],
     count: usize,
@@ -228,22 +235,22 @@ fn try_write(
     rays: u32,
     refusal: u64,
     packet: &[u8],
-) -> bool {
+) -> io::Result<bool> {
     match packet::write(count, images, rays, taps, out) {
         packet::Written::Bytes(n) => {
-            print_number(b"bytes ", n as u64);
-            refusal == 0 && n == packet.len() && starts_with(out, packet) && bytes_kept(out, n)
+            print_number(rt, b"bytes ", n as u64)?;
+            Ok(refusal == 0 && n == packet.len() && starts_with(out, packet) && bytes_kept(out, n))
         }
         packet::Written::Refused(k) => {
-            print_refusal(k);
-            k as u64 == refusal && bytes_kept(out, 0)
+            print_refusal(rt, k)?;
+            Ok(k as u64 == refusal && bytes_kept(out, 0))
         }
     }
 }
 
 // A line with taps to write.
-pub(crate) fn write_case(line: &[u8]) -> bool {
-    let after = print_name(b"write ", line);
+pub(crate) fn write_case(rt: &impl Print, line: &[u8]) -> io::Result<bool> {
+    let after = print_name(rt, b"write ", line)?;
     let mut f = [0u64; 7];
     let at = words::numbers(line, after, &mut f);
     let words = f[0] as usize;
@@ -255,15 +262,16 @@ pub(crate) fn write_case(line: &[u8]) -> bool {
     words::hex_bytes(line, next, &mut bytes);
     let mut out = fresh_bytes();
     if WORDS < words {
-        return print_verdict(false);
+        return print_verdict(rt, false);
     }
     if BYTES < room {
-        return print_verdict(false);
+        return print_verdict(rt, false);
     }
     if LONGEST < n {
-        return print_verdict(false);
+        return print_verdict(rt, false);
     }
-    print_verdict(try_write(
+    let ok = try_write(
+        rt,
         &area[..words],
         &mut out[..room],
         f[2] as usize,
@@ -271,5 +279,6 @@ pub(crate) fn write_case(line: &[u8]) -> bool {
         (f[4] % 4294967296) as u32,
         f[5],
         &bytes[..n],
-    ))
+    )?;
+    print_verdict(rt, ok)
 }

@@ -1,9 +1,14 @@
 // Runs the stored packets of standard input, good and damaged, and prints what the reader and the writer answer to each, and whether that is
 // the answer that is stored with it. tools/packet_cases.py makes them and says how a line is laid out.
+#![tactic(auto)]
+
 mod cases;
 mod words;
 
-use libc::STDOUT_FILENO;
+ghost use Rattle.std.specs.Prelude.{◌≤◌, length, IfOk};
+
+use std::io;
+use std::io::Read;
 
 // How a line came out.
 #[derive(Drop)]
@@ -14,25 +19,20 @@ enum Outcome {
 }
 
 // A line is a packet to read, taps to write, or a remark.
-fn run_line(line: &[u8]) -> Outcome {
+fn run_line(rt: &impl Print, line: &[u8]) -> io::Result<Outcome> {
     let kind = text::byte_at(line, 0, b'\n');
     if kind == b'r' {
-        return Outcome::Read(cases::read_case(line));
+        return Ok(Outcome::Read(cases::read_case(rt, line)?));
     }
     if kind == b'w' {
-        return Outcome::Written(cases::write_case(line));
+        return Ok(Outcome::Written(cases::write_case(rt, line)?));
     }
-    Outcome::NoCase
+    Ok(Outcome::NoCase)
 }
 
 // The last line: how many were read and written, and how many of them differ.
-fn print_counts(read: u64, written: u64, differ: u64) {
-    io::print_decimal(STDOUT_FILENO, read);
-    io::write_all(STDOUT_FILENO, b" packets read, ");
-    io::print_decimal(STDOUT_FILENO, written);
-    io::write_all(STDOUT_FILENO, b" written, ");
-    io::print_decimal(STDOUT_FILENO, differ);
-    io::write_all(STDOUT_FILENO, b" differ\n");
+fn print_counts(rt: &impl Print, read: u64, written: u64, differ: u64) -> io::Result<()> {
+    println!(rt; "{read} packets read, {written} written, {differ} differ")
 }
 
 // One more where it is not so.
@@ -49,14 +49,14 @@ fn plus(n: u64) -> u64 {
 }
 
 // Every line of the text, and the counts.
-fn run(all: &[u8]) {
+fn run(rt: &impl Print, all: &[u8]) -> io::Result<()> {
     let mut at = 0;
     let mut read: u64 = 0;
     let mut written: u64 = 0;
     let mut differ: u64 = 0;
     while at < all.len() {
         let end = text::line_end(all, at);
-        let outcome = run_line(&all[at..end]);
+        let outcome = run_line(rt, &all[at..end])?;
         at = end;
         match outcome {
             Outcome::NoCase => {}
@@ -70,7 +70,7 @@ fn run(all: &[u8]) {
             }
         }
     }
-    print_counts(read, written, differ);
+    print_counts(rt, read, written, differ)
 }
 
 // Room for all of standard input.
@@ -78,8 +78,23 @@ fn room() -> [u8; 400_000] {
     [0u8; 400_000]
 }
 
-fn main() {
+// Reads until `buf` is full or the input ends. Answers how many bytes stand at its start.
+fn read_full(input: &mut impl Read, buf: &mut [u8]) -> io::Result<usize>
+    ensures { IfOk result (λ n. n ≤ length buf.new) }
+{
+    let mut done = 0;
+    while done < buf.len() {
+        let n = input.read(&mut buf[done..])?;
+        if n == 0 {
+            return Ok(done);
+        }
+        done += n;
+    }
+    Ok(done)
+}
+
+fn main(rt: HostRuntime) -> io::Result<()> {
     let mut buf = room();
-    let n = io::read_full(0, &mut buf);
-    run(&buf[..n]);
+    let n = read_full(&mut rt.reader(), &mut buf)?;
+    run(&rt, &buf[..n])
 }

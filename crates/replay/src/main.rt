@@ -6,14 +6,17 @@
 // and 12 floats; candidate room, rows of the material table, separated; source; listener; the answer: refusal, taps, images, rays, bytes), then
 // meshes, transforms, positions, indices and materials, then the packet, four bytes a word, the first the lowest. A line that is longer or
 // shorter than its lengths say, or longer than the areas here, differs.
+#![tactic(auto)]
+
 mod words;
 
-ghost use Rattle.std.specs.Prelude.{◌≤◌, ◌≡◌, length};
+ghost use Rattle.std.specs.Prelude.{◌≤◌, ◌≡◌, length, IfOk};
 ghost use Rattle.packet.specs.Limits.{out_bytes};
 
 use answer::Answered;
-use libc::STDOUT_FILENO;
 use scene::Settings;
+use std::io;
+use std::io::Read;
 use vector::Vec3;
 
 // Words before the parts, and words of the longest line.
@@ -297,39 +300,48 @@ fn agrees(out: &[u8], w: &[u32], e: usize, r: Answered) -> bool
     false
 }
 
-fn print_number(name: &[u8], n: u64) {
-    io::write_all(STDOUT_FILENO, name);
-    io::print_decimal(STDOUT_FILENO, n);
+fn print_number(rt: &impl Print, name: &[u8], n: u64) -> io::Result<()> {
+    rt.write_all(name)?;
+    rt.print(n)
 }
 
-fn print_ok(ok: bool) {
+fn print_ok(rt: &impl Print, ok: bool) -> io::Result<()> {
     if ok {
-        io::write_all(STDOUT_FILENO, b": ok, ");
+        rt.write_all(b": ok, ")
     } else {
-        io::write_all(STDOUT_FILENO, b": differs, ");
+        rt.write_all(b": differs, ")
     }
 }
 
-fn print_counts(r: Answered) {
-    print_number(b"taps ", r.count as u64);
-    print_number(b" images ", r.images as u64);
-    print_number(b" rays ", r.rays as u64);
-    print_number(b" bytes ", r.bytes as u64);
+fn print_counts(rt: &impl Print, r: Answered) -> io::Result<()> {
+    print_number(rt, b"taps ", r.count as u64)?;
+    print_number(rt, b" images ", r.images as u64)?;
+    print_number(rt, b" rays ", r.rays as u64)?;
+    print_number(rt, b" bytes ", r.bytes as u64)
 }
 
 // The verdict and the answer, to the end of the line.
-fn print_answer(ok: bool, r: Answered) {
-    print_ok(ok);
+fn print_answer(rt: &impl Print, ok: bool, r: Answered) -> io::Result<()> {
+    print_ok(rt, ok)?;
     if r.refusal == 0 {
-        print_counts(r);
+        print_counts(rt, r)?;
     } else {
-        print_number(b"refused ", r.refusal as u64);
+        print_number(rt, b"refused ", r.refusal as u64)?;
     }
-    io::write_all(STDOUT_FILENO, b"\n");
+    rt.write_all(b"\n")
 }
 
 // Runs a case in areas of its own, and compares.
-fn run_fresh(w: &[u32], f: &[f32], a: usize, b: usize, c: usize, d: usize, e: usize) -> bool
+fn run_fresh(
+    rt: &impl Print,
+    w: &[u32],
+    f: &[f32],
+    a: usize,
+    b: usize,
+    c: usize,
+    d: usize,
+    e: usize,
+) -> io::Result<bool>
     requires { (45 ≤ a) × (a ≤ b) × (b ≤ c) × (c ≤ d) × (d ≤ e) × (e ≤ length w.now) × (e ≤ length f.now) × (e ≤ 8192) }
 {
     let mut columns = floats_1472();
@@ -382,8 +394,8 @@ fn run_fresh(w: &[u32], f: &[f32], a: usize, b: usize, c: usize, d: usize, e: us
         e,
     );
     let ok = agrees(&out, w, e, r);
-    print_answer(ok, r);
-    ok
+    print_answer(rt, ok, r)?;
+    Ok(ok)
 }
 
 // A length of a line, cut so that it can be added to others.
@@ -398,13 +410,13 @@ fn limited(n: u32) -> usize
 }
 
 // A line that is no case.
-fn no_case() -> bool {
-    io::write_all(STDOUT_FILENO, b": differs, no case\n");
-    false
+fn no_case(rt: &impl Print) -> io::Result<bool> {
+    rt.write_all(b": differs, no case\n")?;
+    Ok(false)
 }
 
 // A case of so many digits.
-fn run_words(w: &[u32], f: &[f32], digits: usize) -> bool
+fn run_words(rt: &impl Print, w: &[u32], f: &[f32], digits: usize) -> io::Result<bool>
     requires { (length w.now ≡ 8192) × (length f.now ≡ 8192) }
 {
     let a = HEADER + limited(w[0]);
@@ -414,23 +426,23 @@ fn run_words(w: &[u32], f: &[f32], digits: usize) -> bool
     let e = d + limited(w[4]);
     let bytes = limited(w[44]);
     if LONGEST < e {
-        return no_case();
+        return no_case(rt);
     }
     if digits != 8 * (e + (bytes + 3) / 4) {
-        return no_case();
+        return no_case(rt);
     }
-    run_fresh(w, f, a, b, c, d, e)
+    run_fresh(rt, w, f, a, b, c, d, e)
 }
 
 // A line: its name, and whether the answer to it is the recorded one.
-fn run_line(line: &[u8]) -> bool {
+fn run_line(rt: &impl Print, line: &[u8]) -> io::Result<bool> {
     let end = words::name_end(line);
-    io::write_all(STDOUT_FILENO, &line[..end]);
+    rt.write_all(&line[..end])?;
     let mut w = line_words();
     let mut f = line_floats();
     let digits = words::hex_words(line, end, &mut w);
     words::floats_of(&w, &mut f);
-    run_words(&w, &f, digits)
+    run_words(rt, &w, &f, digits)
 }
 
 // ---- all lines
@@ -449,11 +461,8 @@ fn plus_unless(n: u64, so: bool) -> u64 {
 }
 
 // The last line.
-fn print_total(cases: u64, differ: u64) {
-    io::print_decimal(STDOUT_FILENO, cases);
-    io::write_all(STDOUT_FILENO, b" cases, ");
-    io::print_decimal(STDOUT_FILENO, differ);
-    io::write_all(STDOUT_FILENO, b" differ\n");
+fn print_total(rt: &impl Print, cases: u64, differ: u64) -> io::Result<()> {
+    println!(rt; "{cases} cases, {differ} differ")
 }
 
 // Whether a line is a remark.
@@ -462,7 +471,7 @@ fn remark(line: &[u8]) -> bool {
 }
 
 // Every line of the text, and the counts.
-fn run(all: &[u8]) {
+fn run(rt: &impl Print, all: &[u8]) -> io::Result<()> {
     let mut at = 0;
     let mut cases: u64 = 0;
     let mut differ: u64 = 0;
@@ -474,9 +483,9 @@ fn run(all: &[u8]) {
             continue;
         }
         cases = plus(cases);
-        differ = plus_unless(differ, run_line(&all[from..end]));
+        differ = plus_unless(differ, run_line(rt, &all[from..end])?);
     }
-    print_total(cases, differ);
+    print_total(rt, cases, differ)
 }
 
 // Room for all of standard input.
@@ -484,8 +493,23 @@ fn room() -> [u8; 600_000] {
     [0u8; 600_000]
 }
 
-fn main() {
+// Reads until `buf` is full or the input ends. Answers how many bytes stand at its start.
+fn read_full(input: &mut impl Read, buf: &mut [u8]) -> io::Result<usize>
+    ensures { IfOk result (λ n. n ≤ length buf.new) }
+{
+    let mut done = 0;
+    while done < buf.len() {
+        let n = input.read(&mut buf[done..])?;
+        if n == 0 {
+            return Ok(done);
+        }
+        done += n;
+    }
+    Ok(done)
+}
+
+fn main(rt: HostRuntime) -> io::Result<()> {
     let mut buf = room();
-    let n = io::read_full(0, &mut buf);
-    run(&buf[..n]);
+    let n = read_full(&mut rt.reader(), &mut buf)?;
+    run(&rt, &buf[..n])
 }
