@@ -8,9 +8,9 @@ use Rattle.air.proofs.band.Goals as goal
 
 pub factor-k-requires : goal.factor-k-requires
 factor-k-requires c = record {
-      table_value = c.requires.table_value;
-      steps_le_most_steps = subst (λ (s : ℕ). s ≤ most_steps) (sym c.steps.ensures) (let e : min (steps_of c.args.coefficient c.args.millimetres) most_steps ≤ most_steps = omega arith in e);
-    }
+  table_value = c.requires.table_value;
+  steps_le_most_steps = subst (λ (s : ℕ). s ≤ most_steps) (sym c.steps.ensures) (let e : min (steps_of c.args.coefficient c.args.millimetres) most_steps ≤ most_steps = omega arith in e);
+}
 
 pub returns : goal.returns
 unfolding band_of

@@ -5,9 +5,9 @@ use Rattle.air.proofs.factor_of.Goals as goal
 
 pub factor-requires : goal.factor-requires
 factor-requires c = record {
-      table_value = c.factors-table.ensures;
-      steps_le_most_steps = let h = c.if-steps.true in omega (arith, h);
-    }
+  table_value = c.factors-table.ensures;
+  steps_le_most_steps = let h = c.if-steps.true in omega (arith, h);
+}
 
 pub returns-then-steps : goal.returns-then-steps
 returns-then-steps c = c.factor.ensures

@@ -18,9 +18,9 @@ whole c = c.truncating_f64_to_u64.ensures ∙ ap (λ (y : Float). to_unsigned 64
 
 pub truncating_f64_to_u64-requires : goal.truncating_f64_to_u64-requires
 truncating_f64_to_u64-requires c = rw c.f32_to_f64_with_nan-twice.ensures record {
-      lower_bound = (close c).low;
-      upper_bound = (close c).high;
-    }
+  lower_bound = (close c).low;
+  upper_bound = (close c).high;
+}
 
 pub overflow_add-result : goal.overflow_add-result
 overflow_add-result c =

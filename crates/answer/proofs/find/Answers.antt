@@ -18,12 +18,12 @@ use Rattle.answer.proofs.find.Goals as goal
 
 pub returns-then-silent : goal.returns-then-silent
 returns-then-silent c = let a = c.args in record {
-      finds = record {
+  finds = record {
     over = λ s f l cleared same. silent_finds a.settings (triangles s) s.materials a.source a.listener (silent_of a.separated a.source a.listener
         a.m) (order_of_search a.settings) a.room a.floats.now a.numbers.now (◌∙◌ {b = c.silent.result} (sym c.silent.ensures) c.if-silent.true);
   };
-      found_le_room = omega arith;
-    }
+  found_le_room = omega arith;
+}
 
 pub build_scene-built-requires : goal.build_scene-built-requires
 build_scene-built-requires c =
@@ -91,18 +91,18 @@ pub search_images-requires : goal.search_images-requires
 search_images-requires c =
     let h = c.requires (◌∙◌ {b = c.silent.result} (sym c.silent.ensures)
     c.if-silent.false) in let t = h.lent in let d = h.held in let rr = h.for_found in let a = c.args in let p = c.build_scene-built.ensures.planes_stand in
-    let w = scene_tree_from_zero d.scene a.triangles.now a.handles.now a.n a.m c.build_scene-built.last.1.0 (take a.m c.build_scene-built.last.1.1.0) c.build_scene-built.last.0 c.build_scene-built.result.nodes (c.build_scene-built.ensures.tree_stands d.scene d.found d.loaded d.cleared) in record {
-      scene_lent = search_lent d.scene a.triangles.now a.handles.now a.n a.m (take (12 * a.m - 0) (drop 0 c.build_scene-built.last.0)) c.build_scene-built.last.1.0 (take a.m c.build_scene-built.last.1.1.0) (rows_in a.m c.build_scene-built.last.0) c.build_scene-built.result.nodes c.build_scene-built.last.1.1.1.1.1.1.1.1.1.1.1.1.1.1.0 c.build_scene-built.last.1.1.1.1.1.1.1.1.1.1.1.1.1.1.1.0
-          c.build_scene-built.last.1.1.1.1.1.1.1.1.1.1.1.1.1.0 c.build_scene-built.last.1.1.1.1.1.1.1.1.1.1.1.1.1.1.1.1.0 c.build_scene-built.result.planes w p.held a.materials.now d.same t.columns t.some;
+    let w = scene_tree_from_zero d.scene a.triangles.now a.handles.now a.n a.m c.build_scene-built.new.nodes (take a.m c.build_scene-built.new.leaf_order) c.build_scene-built.new.tree c.build_scene-built.result.nodes (c.build_scene-built.ensures.tree_stands d.scene d.found d.loaded d.cleared) in record {
+      scene_lent = search_lent d.scene a.triangles.now a.handles.now a.n a.m (take (12 * a.m - 0) (drop 0 c.build_scene-built.new.tree)) c.build_scene-built.new.nodes (take a.m c.build_scene-built.new.leaf_order) (rows_in a.m c.build_scene-built.new.tree) c.build_scene-built.result.nodes c.build_scene-built.new.plane_floats c.build_scene-built.new.plane_words
+          c.build_scene-built.new.plane_triangles c.build_scene-built.new.plane_edges c.build_scene-built.result.planes w p.held a.materials.now d.same t.columns t.some;
       order_le_max_order = (
-          omega (
-            arith,
-            c.search_order-order.ensures,
-          ),
-          omega (arith, p.most, h.few),
-          h.crossings,
-        );
-      candidate_rows = record { few = rr.few; floats = omega (arith, c.build_scene-built.kept.1.1.1.1.1.1.1.1.1.1.1.1.0, rr.floats); words = omega (arith, c.build_scene-built.kept.1.1.1.1.1.1.1.1.0, rr.words) };
+        omega (
+          arith,
+          c.search_order-order.ensures,
+        ),
+        omega (arith, p.most, h.few),
+        h.crossings,
+      );
+      candidate_rows = record { few = rr.few; floats = omega (arith, c.build_scene-built.auto.floats, rr.floats); words = omega (arith, c.build_scene-built.auto.numbers, rr.words) };
     }
 
 pub shape_of-tree : goal.shape_of-tree
@@ -130,7 +130,7 @@ pub shape_of-index : goal.shape_of-index
 shape_of-index c = c.build_scene-built.auto.index
 
 pub shape_of-numbers : goal.shape_of-numbers
-shape_of-numbers c = ◌∙◌ {c.build_scene-built = length c.build_scene-built.last.1.1.1.1.1.1.1.1.0} c.search_images.auto.candidate_words c.build_scene-built.kept.1.1.1.1.1.1.1.1.0
+shape_of-numbers c = ◌∙◌ {b = length c.build_scene-built.new.numbers} c.search_images.auto.candidate_words c.build_scene-built.auto.numbers
 
 pub shape_of-adjacency : goal.shape_of-adjacency
 shape_of-adjacency c = c.build_scene-built.auto.adjacency
@@ -142,7 +142,7 @@ pub shape_of-offsets : goal.shape_of-offsets
 shape_of-offsets c = c.build_scene-built.auto.offsets
 
 pub shape_of-floats : goal.shape_of-floats
-shape_of-floats c = ◌∙◌ {c.build_scene-built = length c.build_scene-built.last.1.1.1.1.1.1.1.1.1.1.1.1.0} c.search_images.auto.candidate_floats c.build_scene-built.kept.1.1.1.1.1.1.1.1.1.1.1.1.0
+shape_of-floats c = ◌∙◌ {b = length c.build_scene-built.new.floats} c.search_images.auto.candidate_floats c.build_scene-built.auto.floats
 
 pub shape_of-plane_triangles : goal.shape_of-plane_triangles
 shape_of-plane_triangles c = c.build_scene-built.auto.plane_triangles
@@ -158,16 +158,16 @@ shape_of-plane_edges c = c.build_scene-built.auto.plane_edges
 
 pub returns : goal.returns
 returns c =
-    let a = c.args in let quiet = ◌∙◌ {c.build_scene-built = c.silent.result} (sym c.silent.ensures) c.if-silent.false in let p = c.build_scene-built.ensures.planes_stand in record {
+    let a = c.args in let quiet = ◌∙◌ {b = c.silent.result} (sym c.silent.ensures) c.if-silent.false in let p = c.build_scene-built.ensures.planes_stand in record {
       finds = record {
         over = λ s f l cleared same.
-            let w = scene_tree_from_zero s a.triangles.now a.handles.now a.n a.m c.build_scene-built.last.1.0 (take a.m c.build_scene-built.last.1.1.0) c.build_scene-built.last.0 c.build_scene-built.result.nodes (c.build_scene-built.ensures.tree_stands s f l cleared) in
+            let w = scene_tree_from_zero s a.triangles.now a.handles.now a.n a.m c.build_scene-built.new.nodes (take a.m c.build_scene-built.new.leaf_order) c.build_scene-built.new.tree c.build_scene-built.result.nodes (c.build_scene-built.ensures.tree_stands s f l cleared) in
             let found = search c.search_images.result.images c.search_images.result.rays (candidates_in c.search_images.result.found c.search_images.new.candidate_floats c.search_images.new.candidate_words) c.search_images.result.over in
             heard_finds a.settings (triangles s) a.materials.now s.materials a.source a.listener (silent_of a.separated a.source a.listener a.m) c.search_order-order.result (order_of_search a.settings) a.room found quiet c.search_order-order.ensures same
-            (search_for_lem s a.triangles.now a.handles.now a.n a.m (take (12 * a.m - 0) (drop 0 c.build_scene-built.last.0)) c.build_scene-built.last.1.0 (take a.m c.build_scene-built.last.1.1.0) (rows_in a.m c.build_scene-built.last.0) c.build_scene-built.result.nodes c.build_scene-built.last.1.1.1.1.1.1.1.1.1.1.1.1.1.1.0 c.build_scene-built.last.1.1.1.1.1.1.1.1.1.1.1.1.1.1.1.0
-            c.build_scene-built.last.1.1.1.1.1.1.1.1.1.1.1.1.1.0 c.build_scene-built.last.1.1.1.1.1.1.1.1.1.1.1.1.1.1.1.1.0 c.build_scene-built.result.planes w p.held a.settings a.materials.now a.source a.listener c.search_order-order.result a.room found
-            (c.search_images.ensures.searched (nth_triangle (triangles s)) (tree_of (triangles s)) (search_reads s a.triangles.now a.handles.now a.n a.m (take (12 * a.m - 0) (drop 0 c.build_scene-built.last.0)) c.build_scene-built.last.1.0 (take a.m c.build_scene-built.last.1.1.0) (rows_in a.m c.build_scene-built.last.0) c.build_scene-built.result.nodes c.build_scene-built.last.1.1.1.1.1.1.1.1.1.1.1.1.1.1.0
-            c.build_scene-built.last.1.1.1.1.1.1.1.1.1.1.1.1.1.1.1.0 c.build_scene-built.last.1.1.1.1.1.1.1.1.1.1.1.1.1.0 c.build_scene-built.last.1.1.1.1.1.1.1.1.1.1.1.1.1.1.1.1.0 c.build_scene-built.result.planes w p.held)) (p.are s f l cleared));
+            (search_for_lem s a.triangles.now a.handles.now a.n a.m (take (12 * a.m - 0) (drop 0 c.build_scene-built.new.tree)) c.build_scene-built.new.nodes (take a.m c.build_scene-built.new.leaf_order) (rows_in a.m c.build_scene-built.new.tree) c.build_scene-built.result.nodes c.build_scene-built.new.plane_floats c.build_scene-built.new.plane_words
+            c.build_scene-built.new.plane_triangles c.build_scene-built.new.plane_edges c.build_scene-built.result.planes w p.held a.settings a.materials.now a.source a.listener c.search_order-order.result a.room found
+            (c.search_images.ensures.searched (nth_triangle (triangles s)) (tree_of (triangles s)) (search_reads s a.triangles.now a.handles.now a.n a.m (take (12 * a.m - 0) (drop 0 c.build_scene-built.new.tree)) c.build_scene-built.new.nodes (take a.m c.build_scene-built.new.leaf_order) (rows_in a.m c.build_scene-built.new.tree) c.build_scene-built.result.nodes c.build_scene-built.new.plane_floats
+            c.build_scene-built.new.plane_words c.build_scene-built.new.plane_triangles c.build_scene-built.new.plane_edges c.build_scene-built.result.planes w p.held)) (p.are s f l cleared));
       };
       found_le_room = c.search_images.ensures.few;
     }

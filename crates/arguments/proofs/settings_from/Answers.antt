@@ -86,6 +86,6 @@ bounds-floats-11 c = search rules
 pub returns : goal.returns
 unfolding given_settings
 returns c = rw (
-      ← c.curve_of-curve.ensures,
-      ← c.air_from-air.ensures,
-    )
+  ← c.curve_of-curve.ensures,
+  ← c.air_from-air.ensures,
+)

@@ -33,11 +33,11 @@ held-requires c = tt
 pub returns : goal.returns
 unfolding gain_of
 returns c = rw (
-      ← c.held-r.ensures,
-      ← c.held-rolloff.ensures,
-      ← c.held-near.ensures,
-      ← c.furthest-far.ensures,
-      ← c.between-d.ensures,
-      ← c.by_curve.ensures,
-      ← c.held.ensures,
-    )
+  ← c.held-r.ensures,
+  ← c.held-rolloff.ensures,
+  ← c.held-near.ensures,
+  ← c.furthest-far.ensures,
+  ← c.between-d.ensures,
+  ← c.by_curve.ensures,
+  ← c.held.ensures,
+)

@@ -23,9 +23,9 @@ returns-in_default c = λ tri h.
 
 pub locate_on_plane-requires : goal.locate_on_plane-requires
 locate_on_plane-requires c = record {
-      n_in_bounds = c.requires.planes_lent.columns_room;
-      runs_in = rw c.plane_at-plane.ensures (c.requires.planes_lent.held.runs _ c.requires.p_lt_count);
-    }
+  n_in_bounds = c.requires.planes_lent.columns_room;
+  runs_in = rw c.plane_at-plane.ensures (c.requires.planes_lent.held.runs _ c.requires.p_lt_count);
+}
 
 pub returns-in_default-locate_on_plane : goal.returns-in_default-locate_on_plane
 unfolding bounce_of PlanesRead

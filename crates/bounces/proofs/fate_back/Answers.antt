@@ -32,9 +32,9 @@ overflow_cast-p c = omega (arith, (c.shared_slice_known-in-loop-k-1.given (c.loo
 
 pub turn_on-requires : goal.turn_on-requires
 turn_on-requires c = record {
-      planes_lent = c.requires.planes_lent;
-      p_lt_count = c.requires.by_index (c.loop-k.k - 1) (omega (arith, c.loop-k.invariant.0, c.loop-k-test.true));
-    }
+  planes_lent = c.requires.planes_lent;
+  p_lt_count = c.requires.by_index (c.loop-k.k - 1) (omega (arith, c.loop-k.invariant.0, c.loop-k-test.true));
+}
 
 pub returns-in-NotCrossed : goal.returns-in-NotCrossed
 returns-in-NotCrossed c =
@@ -52,12 +52,11 @@ pub loop-k-smaller : goal.loop-k-smaller
 loop-k-smaller c = omega (arith, c.loop-k-test.true)
 
 pub loop-k-preserved : goal.loop-k-preserved
-loop-k-preserved c =
-    (
-      omega (arith, c.loop-k.invariant.0),
-      λ tri fade h. c.loop-k.invariant.1 tri fade h ∙ fate_next tri fade (plane_on (planes_in c.args.plane_floats.now c.args.plane_words.now c.args.plane_triangles.now c.args.plane_edges.now c.args.count) c.args.seq.now) (point_in c.args.images.now) c.loop-k.k c.loop-k.prev one32 [] []
-          c.loop-k-test.true c.vec_in-target.result (On c.in-On.q) c.vec_in-target.ensures (sym c.in-On.is ∙ c.turn_on.ensures tri fade h),
-    )
+loop-k-preserved c = (
+  omega (arith, c.loop-k.invariant.0),
+  λ tri fade h. c.loop-k.invariant.1 tri fade h ∙ fate_next tri fade (plane_on (planes_in c.args.plane_floats.now c.args.plane_words.now c.args.plane_triangles.now c.args.plane_edges.now c.args.count) c.args.seq.now) (point_in c.args.images.now) c.loop-k.k c.loop-k.prev one32 [] []
+      c.loop-k-test.true c.vec_in-target.result (On c.in-On.q) c.vec_in-target.ensures (sym c.in-On.is ∙ c.turn_on.ensures tri fade h),
+)
 
 pub returns : goal.returns
 returns c =

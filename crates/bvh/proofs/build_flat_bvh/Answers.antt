@@ -36,11 +36,11 @@ shape_of-nodes-then-count-eq0 c = c.build_tree-count.auto.nodes
 
 pub returns-then-count-eq0 : goal.returns-then-count-eq0
 returns-then-count-eq0 c =
-    let same-length-5 = c.build_tree-count.auto.scratch in
     let same-length-2 = c.build_tree-count.auto.keys in
     let same-length-4 = c.build_tree-count.auto.words in
+    let same_length = c.build_tree-count.auto.extents in
     let same-length-6 = c.build_tree-count.auto.areas in
-    let same_length = c.build_tree-count.auto.extents in record {
+    let same-length-5 = c.build_tree-count.auto.scratch in record {
       built = record {
         built = λ f. absurd (law.nothing_built _ _ _ _ _ _ _ _ c.build_tree-count.ensures c.if-count-eq0.true f);
         traced = λ f. absurd (law.nothing_built _ _ _ _ _ _ _ _ c.build_tree-count.ensures c.if-count-eq0.true f);
@@ -89,10 +89,10 @@ shape_of-tree c = c.put_traced.auto.tree
 
 pub returns : goal.returns
 returns c =
-    let same-length-9 = c.build_tree-count.auto.extents in
-    let same-length-13 = c.build_tree-count.auto.scratch in
     let same-length-12 = c.build_tree-count.auto.words in
+    let same-length-9 = c.build_tree-count.auto.extents in
     let same-length-14 = c.build_tree-count.auto.areas in
+    let same-length-13 = c.build_tree-count.auto.scratch in
     let same-length-10 = c.build_tree-count.auto.keys in
     let a = c.args in
     let m = length a.leaf_order.now in

@@ -17,9 +17,9 @@ overflow_mul-three c = let L = c.requires in let few = L.few in omega arith
 
 pub put_all_keys-requires : goal.put_all_keys-requires
 put_all_keys-requires c = let L = c.requires in record {
-      n_in_bounds = (L.wide, L.named, L.fewer);
-      count_in_bounds = L.keys_room;
-    }
+  n_in_bounds = (L.wide, L.named, L.fewer);
+  count_in_bounds = L.keys_room;
+}
 
 pub number-requires : goal.number-requires
 number-requires c = c.requires.few
@@ -117,12 +117,12 @@ build_sah-requires c =
     let few = L.few in record {
       listed = record { wide = omega arith; few = few; some = some; within = omega arith; size = ep; inside = c.number.ensures.1 };
       sorts = record {
-          keyed = law.keyed_in c.put_extents.new.extents (centroid_in a.triangles.now a.handles.now a.n) m c.put_all_keys.new.keys
-              (λ i h. (c.put_extents.ensures i h).1) (omega arith) (c.put_all_keys.ensures.1 c.if-put_all_keys.true);
-          words_room = L.words_room;
-          scratch_room = L.scratch_room;
-          areas_room = L.areas_room;
-        };
+        keyed = law.keyed_in c.put_extents.new.extents (centroid_in a.triangles.now a.handles.now a.n) m c.put_all_keys.new.keys
+            (λ i h. (c.put_extents.ensures i h).1) (omega arith) (c.put_all_keys.ensures.1 c.if-put_all_keys.true);
+        words_room = L.words_room;
+        scratch_room = L.scratch_room;
+        areas_room = L.areas_room;
+      };
       room = record { boxes_room = omega arith; nodes_room = omega arith; small = omega arith };
     }
 

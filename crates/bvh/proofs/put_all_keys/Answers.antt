@@ -38,8 +38,7 @@ shape_of-keys-then-put_axis-2 c = c.put_axis-then-put_axis-2.auto.keys ∙ c.put
 pub returns-then-put_axis-2 : goal.returns-then-put_axis-2
 returns-then-put_axis-2 c =
     let a = c.args in
-    let mid = centroid_in a.triangles.now a.handles.now a.n in
-    (
+    let mid = centroid_in a.triangles.now a.handles.now a.n in (
       law.finite_third mid a.count c.put_axis-then-put_axis-2.result (sym c.put_axis.ensures.0 ∙ c.if-put_axis.true) (sym c.put_axis-then-put_axis.ensures.0 ∙ c.if-put_axis-2.true) c.put_axis-then-put_axis-2.ensures.0,
       λ e. law.keys_in mid a.count c.put_axis.new.keys c.put_axis-then-put_axis.new.keys c.put_axis-then-put_axis-2.new.keys
           (c.put_axis.ensures.1 c.if-put_axis.true) (c.put_axis-then-put_axis.ensures.1 c.if-put_axis-2.true) (c.put_axis-then-put_axis-2.ensures.1 e) c.put_axis-then-put_axis.ensures.2 c.put_axis-then-put_axis-2.ensures.2,

@@ -4,14 +4,13 @@ use Rattle.laws.proofs.Lists.{zero_of}
 use Rattle.clearing.proofs.clear_keys.Goals as goal
 
 pub returns : goal.returns
-returns c =
-    (
-      zero_of 0 (length c.args.keys.now) _ c.wipe_u64.ensures,
-      zero_of 0 (length c.args.low_keys.now) _ c.wipe_u64-2.ensures,
-      zero_of 0 (length
-          c.args.words.now) _ c.wipe_u64-3.ensures,
-      zero_of 0 (length c.args.scratch.now) _ c.wipe_u64-4.ensures,
-    )
+returns c = (
+  zero_of 0 (length c.args.keys.now) _ c.wipe_u64.ensures,
+  zero_of 0 (length c.args.low_keys.now) _ c.wipe_u64-2.ensures,
+  zero_of 0 (length
+      c.args.words.now) _ c.wipe_u64-3.ensures,
+  zero_of 0 (length c.args.scratch.now) _ c.wipe_u64-4.ensures,
+)
 
 pub wipe_u64-requires : goal.wipe_u64-requires
 wipe_u64-requires c = tt

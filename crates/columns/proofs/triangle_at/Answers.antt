@@ -54,8 +54,8 @@ vec_at-requires-4 c = search rules
 pub returns : goal.returns
 unfolding triangle_at_of
 returns c = rw (
-      ← c.vec_at.ensures,
-      ← c.vec_at-2.ensures,
-      ← c.vec_at-3.ensures,
-      ← c.vec_at-4.ensures,
-    )
+  ← c.vec_at.ensures,
+  ← c.vec_at-2.ensures,
+  ← c.vec_at-3.ensures,
+  ← c.vec_at-4.ensures,
+)

@@ -17,21 +17,21 @@ is_finite-requires-then-is_finite-2 c = tt
 pub returns-then-is_finite-2 : goal.returns-then-is_finite-2
 unfolding is_finite_point
 returns-then-is_finite-2 c = rw (
-      ← c.is_finite.ensures,
-      c.if-is_finite.true,
-      ← c.is_finite-then-is_finite.ensures,
-      c.if-is_finite-2.true,
-      ← c.is_finite-then-is_finite-2.ensures,
-    )
+  ← c.is_finite.ensures,
+  c.if-is_finite.true,
+  ← c.is_finite-then-is_finite.ensures,
+  c.if-is_finite-2.true,
+  ← c.is_finite-then-is_finite-2.ensures,
+)
 
 pub returns-else-is_finite-2 : goal.returns-else-is_finite-2
 unfolding is_finite_point
 returns-else-is_finite-2 c = rw (
-      ← c.is_finite.ensures,
-      c.if-is_finite.true,
-      ← c.is_finite-then-is_finite.ensures,
-      c.if-is_finite-2.false,
-    )
+  ← c.is_finite.ensures,
+  c.if-is_finite.true,
+  ← c.is_finite-then-is_finite.ensures,
+  c.if-is_finite-2.false,
+)
 
 pub returns-else-is_finite : goal.returns-else-is_finite
 unfolding is_finite_point

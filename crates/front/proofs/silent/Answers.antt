@@ -17,22 +17,22 @@ finite_point-requires-then-finite_point c = tt
 pub returns-then-finite_point-2 : goal.returns-then-finite_point-2
 unfolding silent_of
 returns-then-finite_point-2 c = rw (
-      c.if-separated.false,
-      ← c.finite_point.ensures,
-      c.if-finite_point.true,
-      ← c.finite_point-then-finite_point.ensures,
-      c.if-finite_point-2.true,
-    )
+  c.if-separated.false,
+  ← c.finite_point.ensures,
+  c.if-finite_point.true,
+  ← c.finite_point-then-finite_point.ensures,
+  c.if-finite_point-2.true,
+)
 
 pub returns-else-finite_point-2 : goal.returns-else-finite_point-2
 unfolding silent_of
 returns-else-finite_point-2 c = rw (
-      c.if-separated.false,
-      ← c.finite_point.ensures,
-      c.if-finite_point.true,
-      ← c.finite_point-then-finite_point.ensures,
-      c.if-finite_point-2.false,
-    )
+  c.if-separated.false,
+  ← c.finite_point.ensures,
+  c.if-finite_point.true,
+  ← c.finite_point-then-finite_point.ensures,
+  c.if-finite_point-2.false,
+)
 
 pub returns-else-finite_point : goal.returns-else-finite_point
 unfolding silent_of

@@ -25,20 +25,20 @@ inside-requires c = tt
 pub returns-then-abs : goal.returns-then-abs
 unfolding contains_of
 returns-then-abs c = rw (
-      ← c.sub3-v2.ensures,
-      ← c.dot3-d20.ensures,
-      ← c.dot3-d21.ensures,
-      ← c.abs.ensures,
-      c.if-abs.true,
-      ← c.inside.ensures,
-    )
+  ← c.sub3-v2.ensures,
+  ← c.dot3-d20.ensures,
+  ← c.dot3-d21.ensures,
+  ← c.abs.ensures,
+  c.if-abs.true,
+  ← c.inside.ensures,
+)
 
 pub returns : goal.returns
 unfolding contains_of
 returns c = rw (
-      ← c.sub3-v2.ensures,
-      ← c.dot3-d20.ensures,
-      ← c.dot3-d21.ensures,
-      ← c.abs.ensures,
-      c.if-abs.false,
-    )
+  ← c.sub3-v2.ensures,
+  ← c.dot3-d20.ensures,
+  ← c.dot3-d21.ensures,
+  ← c.abs.ensures,
+  c.if-abs.false,
+)

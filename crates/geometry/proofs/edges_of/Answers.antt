@@ -25,9 +25,9 @@ sqrt-scale-requires c = tt
 pub returns : goal.returns
 unfolding edges_of_corners
 returns c = rw (
-      ← c.sub3-edge1.ensures,
-      ← c.sub3-edge2.ensures,
-      ← c.dot3.ensures,
-      ← c.dot3-2.ensures,
-      ← c.sqrt-scale.ensures,
-    )
+  ← c.sub3-edge1.ensures,
+  ← c.sub3-edge2.ensures,
+  ← c.dot3.ensures,
+  ← c.dot3-2.ensures,
+  ← c.sqrt-scale.ensures,
+)

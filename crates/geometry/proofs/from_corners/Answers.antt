@@ -21,8 +21,8 @@ grow-requires-3 c = tt
 pub returns : goal.returns
 unfolding from_corners_of
 returns c = rw (
-      ← c.new_empty.ensures,
-      ← c.grow.ensures,
-      ← c.grow-2.ensures,
-      ← c.grow-3.ensures,
-    )
+  ← c.new_empty.ensures,
+  ← c.grow.ensures,
+  ← c.grow-2.ensures,
+  ← c.grow-3.ensures,
+)

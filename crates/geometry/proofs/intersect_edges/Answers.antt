@@ -17,11 +17,11 @@ parallel-requires c = tt
 pub returns-then-parallel : goal.returns-then-parallel
 unfolding crossing_of
 returns-then-parallel c = rw (
-      ← c.cross3-h.ensures,
-      ← c.dot3-det.ensures,
-      ← c.parallel.ensures,
-      c.if-parallel.true,
-    )
+  ← c.cross3-h.ensures,
+  ← c.dot3-det.ensures,
+  ← c.parallel.ensures,
+  c.if-parallel.true,
+)
 
 pub sub3-requires : goal.sub3-requires
 unfolding crossing_of
@@ -34,10 +34,10 @@ solve-requires c = tt
 pub returns : goal.returns
 unfolding crossing_of
 returns c = rw (
-      ← c.cross3-h.ensures,
-      ← c.dot3-det.ensures,
-      ← c.parallel.ensures,
-      c.if-parallel.false,
-      ← c.sub3.ensures,
-      ← c.solve.ensures,
-    )
+  ← c.cross3-h.ensures,
+  ← c.dot3-det.ensures,
+  ← c.parallel.ensures,
+  c.if-parallel.false,
+  ← c.sub3.ensures,
+  ← c.solve.ensures,
+)

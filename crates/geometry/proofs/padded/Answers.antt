@@ -17,7 +17,7 @@ pad-z-requires c = tt
 pub returns : goal.returns
 unfolding padded_of
 returns c = rw (
-      ← c.pad-x.ensures,
-      ← c.pad-y.ensures,
-      ← c.pad-z.ensures,
-    )
+  ← c.pad-x.ensures,
+  ← c.pad-y.ensures,
+  ← c.pad-z.ensures,
+)

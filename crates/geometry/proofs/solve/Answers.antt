@@ -29,14 +29,14 @@ outside-requires-2 c = tt
 pub returns-then-outside-2 : goal.returns-then-outside-2
 unfolding solve_of
 returns-then-outside-2 c = rw (
-      ← c.dot3.ensures,
-      ← c.outside.ensures,
-      c.if-outside.false,
-      ← c.cross3-q.ensures,
-      ← c.dot3-2.ensures,
-      ← c.outside-2.ensures,
-      c.if-outside-2.true,
-    )
+  ← c.dot3.ensures,
+  ← c.outside.ensures,
+  c.if-outside.false,
+  ← c.cross3-q.ensures,
+  ← c.dot3-2.ensures,
+  ← c.outside-2.ensures,
+  c.if-outside-2.true,
+)
 
 pub dot3-requires-3 : goal.dot3-requires-3
 unfolding solve_of
@@ -49,13 +49,13 @@ within-requires c = tt
 pub returns : goal.returns
 unfolding solve_of
 returns c = rw (
-      ← c.dot3.ensures,
-      ← c.outside.ensures,
-      c.if-outside.false,
-      ← c.cross3-q.ensures,
-      ← c.dot3-2.ensures,
-      ← c.outside-2.ensures,
-      c.if-outside-2.false,
-      ← c.dot3-3.ensures,
-      ← c.within.ensures,
-    )
+  ← c.dot3.ensures,
+  ← c.outside.ensures,
+  c.if-outside.false,
+  ← c.cross3-q.ensures,
+  ← c.dot3-2.ensures,
+  ← c.outside-2.ensures,
+  c.if-outside-2.false,
+  ← c.dot3-3.ensures,
+  ← c.within.ensures,
+)

@@ -12,8 +12,7 @@ loop-i-init c = (omega arith, refl, refl)
 
 pub loop-i-preserved : goal.loop-i-preserved
 loop-i-preserved c =
-    let a = c.args in
-    (
+    let a = c.args in (
       omega arith,
       length-set c.loop-i.out (a.at + c.loop-i.i) (get_or a.bytes.now c.loop-i.i 0) ∙ c.loop-i.invariant.1,
       (rw c.loop-i.invariant.2 (sets_more a.out.now a.at c.loop-i.i a.bytes.now c.loop-i-test.true)),

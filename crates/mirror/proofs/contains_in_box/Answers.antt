@@ -16,21 +16,18 @@ within-requires-then-within-2 c = tt
 
 pub returns-then-within-2 : goal.returns-then-within-2
 unfolding contains_in_box_of
-returns-then-within-2 c is es = let at-if2 = c.before in
-    let at-if1 = at-if2.before.before in
-    rw (
-      ← at-if1.before.within.ensures,
-      at-if1.if1.true,
-      ← at-if2.before.within2.ensures,
-      at-if2.if2.true,
-      ← c.within3.ensures,
-    )
+returns-then-within-2 c is es = rw (
+  ← c.within.ensures,
+  c.if-within.true,
+  ← c.within-then-within.ensures,
+  c.if-within-2.true,
+  ← c.within-then-within-2.ensures,
+)
 
 pub returns-else-within-2 : goal.returns-else-within-2
 unfolding contains_in_box_of
-returns-else-within-2 c is es = let at-if1 = c.before.before in
-    rw (← at-if1.before.within.ensures, at-if1.if1.true, ← c.before.within2.ensures, c.if2.false)
+returns-else-within-2 c is es = rw (← c.within.ensures, c.if-within.true, ← c.within-then-within.ensures, c.if-within-2.false)
 
 pub returns-else-within : goal.returns-else-within
 unfolding contains_in_box_of
-returns-else-within c is es = rw (← c.before.within.ensures, c.if1.false)
+returns-else-within c is es = rw (← c.within.ensures, c.if-within.false)

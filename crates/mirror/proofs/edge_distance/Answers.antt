@@ -26,7 +26,7 @@ point_segment_distance-requires c = tt
 pub returns : goal.returns
 unfolding edge_in
 returns c = rw (
-      ← c.vec_in-a.ensures,
-      ← c.vec_in-b.ensures,
-      ← c.point_segment_distance.ensures,
-    )
+  ← c.vec_in-a.ensures,
+  ← c.vec_in-b.ensures,
+  ← c.point_segment_distance.ensures,
+)

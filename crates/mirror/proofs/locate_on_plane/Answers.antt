@@ -5,9 +5,9 @@ use Rattle.mirror.proofs.locate_on_plane.Goals as goal
 
 pub surface-requires : goal.surface-requires
 surface-requires c = record {
-      n_in_bounds = c.requires.n_in_bounds;
-      count_in_bounds = (c.requires.runs_in.members_room, c.requires.runs_in.below);
-    }
+  n_in_bounds = c.requires.n_in_bounds;
+  count_in_bounds = (c.requires.runs_in.members_room, c.requires.runs_in.below);
+}
 
 pub returns-in_default : goal.returns-in_default
 returns-in_default c = λ tri h. rw (locate_surface, ← c.surface.ensures tri (border_of c.args.plane c.args.plane_edges.now) h, c.in_default.is)

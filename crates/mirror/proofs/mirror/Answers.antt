@@ -8,4 +8,4 @@ signed_distance-d-requires c = tt
 
 pub returns : goal.returns
 unfolding mirror_of
-returns c is es = rw (← c.before.before.before.before.before.before.signed-distance.ensures is es)
+returns c is es = rw (← c.signed_distance-d.ensures is es)

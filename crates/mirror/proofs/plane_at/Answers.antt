@@ -142,11 +142,11 @@ bounds-plane_words-w-5 c = search rules
 pub returns : goal.returns
 unfolding row_of
 returns c = rw (
-      ← c.vec_in.ensures,
-      ← c.vec_in-2.ensures,
-      ← c.vec_in-3.ensures,
-      ← c.wide.ensures,
-      ← c.wide-2.ensures,
-      ← c.wide-3.ensures,
-      ← c.wide-4.ensures,
-    )
+  ← c.vec_in.ensures,
+  ← c.vec_in-2.ensures,
+  ← c.vec_in-3.ensures,
+  ← c.wide.ensures,
+  ← c.wide-2.ensures,
+  ← c.wide-3.ensures,
+  ← c.wide-4.ensures,
+)

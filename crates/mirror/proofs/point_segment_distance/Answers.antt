@@ -21,8 +21,8 @@ distance3-requires c = tt
 pub returns : goal.returns
 unfolding point_segment_distance_of
 returns c = rw (
-      ← c.sub3-ab.ensures,
-      ← c.nearest-t.ensures,
-      ← c.along.ensures,
-      ← c.distance3.ensures,
-    )
+  ← c.sub3-ab.ensures,
+  ← c.nearest-t.ensures,
+  ← c.along.ensures,
+  ← c.distance3.ensures,
+)

@@ -8,4 +8,4 @@ dot3-requires c = tt
 
 pub returns : goal.returns
 unfolding signed_distance_of
-returns c is es = rw (← c.before.dot3.ensures)
+returns c is es = rw (← c.dot3.ensures)

@@ -30,10 +30,10 @@ enum_told-in_default-best c = search rules
 pub returns-in_default-best : goal.returns-in_default-best
 unfolding snap_edges_of
 returns-in_default-best c = rw (
-      ← c.intersect_edges.ensures,
-      c.in-At.is,
-      c.in_default-best.is,
-    )
+  ← c.intersect_edges.ensures,
+  c.in-At.is,
+  c.in_default-best.is,
+)
 
 pub abs-requires : goal.abs-requires
 unfolding snap_edges_of
@@ -46,21 +46,21 @@ abs-requires-2 c = tt
 pub returns-then-abs : goal.returns-then-abs
 unfolding snap_edges_of
 returns-then-abs c = rw (
-      ← c.intersect_edges.ensures,
-      c.in-At.is,
-      c.in-Met.is,
-      ← c.abs.ensures,
-      ← c.abs-2.ensures,
-      c.if-abs.true,
-    )
+  ← c.intersect_edges.ensures,
+  c.in-At.is,
+  c.in-Met.is,
+  ← c.abs.ensures,
+  ← c.abs-2.ensures,
+  c.if-abs.true,
+)
 
 pub returns : goal.returns
 unfolding snap_edges_of
 returns c = rw (
-      ← c.intersect_edges.ensures,
-      c.in-At.is,
-      c.in-Met.is,
-      ← c.abs.ensures,
-      ← c.abs-2.ensures,
-      c.if-abs.false,
-    )
+  ← c.intersect_edges.ensures,
+  c.in-At.is,
+  c.in-Met.is,
+  ← c.abs.ensures,
+  ← c.abs-2.ensures,
+  c.if-abs.false,
+)

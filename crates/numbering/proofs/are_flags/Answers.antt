@@ -20,8 +20,7 @@ returns-then-on-i-gt1 c =
 
 pub loop-i-preserved : goal.loop-i-preserved
 loop-i-preserved c =
-    let at-args = c.args in
-    (
+    let at-args = c.args in (
       omega arith,
       sym (ap (λ (b : Bool). b && flags (drop (c.loop-i.i + 1) at-args.on.now)) (le-leb _ 1 c.if-on-i-gt1.false))
           ∙ sym (flags_at at-args.on.now c.loop-i.i c.loop-i-test.true) ∙ c.loop-i.invariant.1,

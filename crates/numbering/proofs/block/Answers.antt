@@ -31,8 +31,7 @@ overflow_add-m c =
 
 pub loop-k-preserved : goal.loop-k-preserved
 loop-k-preserved c =
-    let at-args = c.args in
-    (
+    let at-args = c.args in (
       omega arith,
       c.least-b.ensures ∙ ap (λ (b : ℕ). min cap (1 + at-args.m * b)) c.loop-k.invariant.1 ∙ sym (block_more at-args.m c.loop-k.k),
     )

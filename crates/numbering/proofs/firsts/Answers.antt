@@ -25,8 +25,7 @@ overflow_add-e c =
 
 pub loop-p-preserved : goal.loop-p-preserved
 loop-p-preserved c =
-    let at-args = c.args in
-    (
+    let at-args = c.args in (
       omega arith,
       ap₂ (λ (a b : ℕ). a + b) c.loop-p.invariant.1 c.counts-e.ensures ∙ sym (firsts_more at-args.on.now c.loop-p.p),
     )

@@ -96,8 +96,7 @@ loop-rest-smaller c =
 pub loop-rest-preserved : goal.loop-rest-preserved
 loop-rest-preserved c =
     let at-args = c.args in
-    let at_pre = c.requires in
-    (
+    let at_pre = c.requires in (
       c.loop-rest.invariant.0,
       walk_on at-args.on.now at-args.order at-args.place (at_pre) c.loop-rest.planes c.loop-rest.len
           c.loop-rest.rest c.loop-rest.d c.loop-rest.invariant.1 c.block-b.result

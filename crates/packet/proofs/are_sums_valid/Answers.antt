@@ -33,12 +33,11 @@ returns-then-last-e c =
     sym (c.loop-i.invariant.2 ∙ rw (falling_step c.args.count c.loop-i.i c.args.taps.now c.loop-i-test.true c.loop-i.last, ← c.squared_gain_sum-e.ensures, c.if-e.true, c.if-last-e.true)) ∙ falling_valid _
 
 pub loop-i-preserved : goal.loop-i-preserved
-loop-i-preserved c =
-    (
-      omega arith,
-      (finite_gains_both c.args.count c.loop-i.i c.args.taps.now c.loop-i-test.true c.loop-i.invariant.1).1,
-      c.loop-i.invariant.2 ∙ rw (falling_step c.args.count c.loop-i.i c.args.taps.now c.loop-i-test.true c.loop-i.last, ← c.squared_gain_sum-e.ensures, c.if-e.true, c.if-last-e.false),
-    )
+loop-i-preserved c = (
+  omega arith,
+  (finite_gains_both c.args.count c.loop-i.i c.args.taps.now c.loop-i-test.true c.loop-i.invariant.1).1,
+  c.loop-i.invariant.2 ∙ rw (falling_step c.args.count c.loop-i.i c.args.taps.now c.loop-i-test.true c.loop-i.last, ← c.squared_gain_sum-e.ensures, c.if-e.true, c.if-last-e.false),
+)
 
 pub returns : goal.returns
 unfolding falling

@@ -18,26 +18,26 @@ corner-a-requires c = let room = c.requires.room in omega arith
 pub corner-b-requires : goal.corner-b-requires
 unfolding corners_in
 corner-b-requires c = let room = c.requires.room in record {
-      i_in_bounds = omega arith;
-      in_bounds = omega arith;
-      made_bound = rw c.corner-a.ensures (omega arith);
-    }
+  i_in_bounds = omega arith;
+  in_bounds = omega arith;
+  made_bound = rw c.corner-a.ensures (omega arith);
+}
 
 pub corner-c-requires : goal.corner-c-requires
 unfolding corners_in
 corner-c-requires c = let room = c.requires.room in record {
-      i_in_bounds = omega arith;
-      in_bounds = omega arith;
-      made_bound = rw (c.corner-b.ensures, c.corner-a.ensures) (omega arith);
-    }
+  i_in_bounds = omega arith;
+  in_bounds = omega arith;
+  made_bound = rw (c.corner-b.ensures, c.corner-a.ensures) (omega arith);
+}
 
 pub keep-requires : goal.keep-requires
 unfolding corners_in
 keep-requires c = let room = c.requires.room in record {
-      room = room;
-      far_value = c.if-st.false;
-      made_value = rw (c.corner-c.ensures, c.corner-b.ensures, c.corner-a.ensures) (omega arith);
-    }
+  room = room;
+  far_value = c.if-st.false;
+  made_value = rw (c.corner-c.ensures, c.corner-b.ensures, c.corner-a.ensures) (omega arith);
+}
 
 pub shape_of-triangles-then-k-vertices : goal.shape_of-triangles-then-k-vertices
 unfolding corners_in
@@ -68,10 +68,10 @@ returns-then-k-vertices c = let done = c.keep.ensures in
 pub returns-else-k-vertices : goal.returns-else-k-vertices
 unfolding corners_in
 returns-else-k-vertices c = record {
-      made = rw (lt-ltb _ _ c.if-i-vertices.true, lt-ltb _ _ c.if-j-vertices.true, le-ltb _ _ c.if-k-vertices.false) (sym (run_none _ _));
-      kept = omega arith;
-      placed = omega arith;
-    }
+  made = rw (lt-ltb _ _ c.if-i-vertices.true, lt-ltb _ _ c.if-j-vertices.true, le-ltb _ _ c.if-k-vertices.false) (sym (run_none _ _));
+  kept = omega arith;
+  placed = omega arith;
+}
 
 pub returns-else-j-vertices : goal.returns-else-j-vertices
 unfolding corners_in

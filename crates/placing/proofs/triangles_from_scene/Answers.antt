@@ -5,11 +5,11 @@ use Rattle.placing.proofs.triangles_from_scene.Goals as goal
 
 pub place_all-st-requires : goal.place_all-st-requires
 place_all-st-requires c = record {
-      fits = c.requires.fits;
-      n_le_most_triples = c.requires.n_le_most_triples;
-      n_in_bounds = c.requires.n_in_bounds;
-      n_in_bounds_2 = c.requires.n_in_bounds_2;
-    }
+  fits = c.requires.fits;
+  n_le_most_triples = c.requires.n_le_most_triples;
+  n_in_bounds = c.requires.n_in_bounds;
+  n_in_bounds_2 = c.requires.n_in_bounds_2;
+}
 
 pub clear_f32-requires : goal.clear_f32-requires
 clear_f32-requires c = tt

@@ -41,81 +41,81 @@ group_planes-requires c =
       n_in_bounds = (t.columns, t.named, q.1);
       m_le_n = (t.some, omega (arith, t.few, t.some), q.2);
       grouped = (
-            grouped c.merge_patches-ng.new.queue c.merge_patches-ng.new.offsets a.np ng
-                (merge_settings a.on a.least a.most) (triangles_in a.triangles.now a.handles.now a.n a.m) (patches_in a.plane_floats.now a.of.now
-                a.m a.np) (patches_length a.plane_floats.now a.of.now a.m a.np) is (omega (
-                  arith,
-                  few,
-                  q.0,
-                  t.some,
-                  c.merge_patches-ng.auto.offsets,
-                  g.offsets_room,
-                )) (omega (
-                  arith,
-                  ends,
-                  q.0,
-                  t.some,
-                  c.merge_patches-ng.auto.queue,
-                  g.queue_room,
-                )),
-            omega (arith, few, q.0, t.some, t.few),
-          );
+        grouped c.merge_patches-ng.new.queue c.merge_patches-ng.new.offsets a.np ng
+            (merge_settings a.on a.least a.most) (triangles_in a.triangles.now a.handles.now a.n a.m) (patches_in a.plane_floats.now a.of.now
+            a.m a.np) (patches_length a.plane_floats.now a.of.now a.m a.np) is (omega (
+              arith,
+              few,
+              q.0,
+              t.some,
+              c.merge_patches-ng.auto.offsets,
+              g.offsets_room,
+            )) (omega (
+              arith,
+              ends,
+              q.0,
+              t.some,
+              c.merge_patches-ng.auto.queue,
+              g.queue_room,
+            )),
+        omega (arith, few, q.0, t.some, t.few),
+      );
       np_in_bounds = (
-              omega (
-                arith,
-                c.merge_patches-ng.auto.tsorted,
-                g.index_room,
-                q.0,
-                t.some,
-              ),
-              omega (
-                arith,
-                c.merge_patches-ng.auto.order,
-                g.first_room,
-                t.some,
-              ),
-            );
+        omega (
+          arith,
+          c.merge_patches-ng.auto.tsorted,
+          g.index_room,
+          q.0,
+          t.some,
+        ),
+        omega (
+          arith,
+          c.merge_patches-ng.auto.order,
+          g.first_room,
+          t.some,
+        ),
+      );
       m_in_bounds = (
-                omega (
-                  arith,
-                  c.merge_patches-ng.auto.words,
-                  g.words_room,
-                  t.some,
-                ),
-                omega (
-                  arith,
-                  c.merge_patches-ng.auto.scratch,
-                  g.scratch_room,
-                  t.some,
-                ),
-              );
+        omega (
+          arith,
+          c.merge_patches-ng.auto.words,
+          g.words_room,
+          t.some,
+        ),
+        omega (
+          arith,
+          c.merge_patches-ng.auto.scratch,
+          g.scratch_room,
+          t.some,
+        ),
+      );
       m_in_bounds_2 = (
-                  omega (
-                    arith,
-                    c.merge_patches-ng.auto.astarts,
-                    g.plane_triangles_room,
-                    t.some,
-                  ),
-                  omega (
-                    arith,
-                    c.merge_patches-ng.auto.tstarts,
-                    g.next_room,
-                    few,
-                    q.0,
-                    t.some,
-                  ),
-                );
+        omega (
+          arith,
+          c.merge_patches-ng.auto.astarts,
+          g.plane_triangles_room,
+          t.some,
+        ),
+        omega (
+          arith,
+          c.merge_patches-ng.auto.tstarts,
+          g.next_room,
+          few,
+          q.0,
+          t.some,
+        ),
+      );
       ng_in_bounds = (
-                  omega (arith, g.floats_room, few, q.0, t.some),
-                  omega (
-                    arith,
-                    c.merge_patches-ng.auto.asorted,
-                    g.adjacency_room,
-                    few,
-                    q.0,
-                    t.some,
-                  ),
-                );
+        omega (arith, g.floats_room, few, q.0, t.some),
+        omega (
+          arith,
+          c.merge_patches-ng.auto.asorted,
+          g.adjacency_room,
+          few,
+          q.0,
+          t.some,
+        ),
+      );
     }
 
 pub shape_of-keys : goal.shape_of-keys
@@ -123,31 +123,31 @@ shape_of-keys c = c.merge_patches-ng.auto.keys
 
 pub shape_of-words : goal.shape_of-words
 shape_of-words c =
-    ◌∙◌ {b = length c.merge_patches-ng.last.1.1.1.1.1.1.1.1.1.1.1.1.1.0} c.group_planes.auto.words c.merge_patches-ng.kept.1.1.1.1.1.1.1.1.1.1.1.1.1.0
+    ◌∙◌ {b = length c.merge_patches-ng.new.words} c.group_planes.auto.words c.merge_patches-ng.auto.words
 
 pub shape_of-scratch : goal.shape_of-scratch
 shape_of-scratch c =
-    ◌∙◌ {b = length c.merge_patches-ng.last.1.1.1.1.1.1.1.1.1.1.1.1.1.1.0} c.group_planes.auto.scratch c.merge_patches-ng.kept.1.1.1.1.1.1.1.1.1.1.1.1.1.1.0
+    ◌∙◌ {b = length c.merge_patches-ng.new.scratch} c.group_planes.auto.scratch c.merge_patches-ng.auto.scratch
 
 pub shape_of-index : goal.shape_of-index
 shape_of-index c =
-    ◌∙◌ {b = length c.merge_patches-ng.last.1.1.1.1.1.1.1.1.1.1.1.1.1.1.1.0} c.group_planes.auto.group_of c.merge_patches-ng.kept.1.1.1.1.1.1.1.1.1.1.1.1.1.1.1.0
+    ◌∙◌ {b = length c.merge_patches-ng.new.tsorted} c.group_planes.auto.group_of c.merge_patches-ng.auto.tsorted
 
 pub shape_of-next : goal.shape_of-next
 shape_of-next c =
-    ◌∙◌ {b = length c.merge_patches-ng.last.1.1.1.1.1.1.1.1.1.1.1.1.1.1.1.1.0} c.group_planes.auto.mstarts c.merge_patches-ng.kept.1.1.1.1.1.1.1.1.1.1.1.1.1.1.1.1.0
+    ◌∙◌ {b = length c.merge_patches-ng.new.tstarts} c.group_planes.auto.mstarts c.merge_patches-ng.auto.tstarts
 
 pub shape_of-adjacency : goal.shape_of-adjacency
 shape_of-adjacency c =
-    ◌∙◌ {b = length c.merge_patches-ng.last.1.1.1.1.1.1.1.1.1.1.1.1.1.1.1.1.1.0} c.group_planes.auto.group_words c.merge_patches-ng.kept.1.1.1.1.1.1.1.1.1.1.1.1.1.1.1.1.1.0
+    ◌∙◌ {b = length c.merge_patches-ng.new.asorted} c.group_planes.auto.group_words c.merge_patches-ng.auto.asorted
 
 pub shape_of-plane_triangles : goal.shape_of-plane_triangles
 shape_of-plane_triangles c =
-    ◌∙◌ {b = length c.merge_patches-ng.last.1.1.1.1.1.1.1.1.1.1.1.1.1.1.1.1.1.1.0} c.group_planes.auto.plane_triangles c.merge_patches-ng.kept.1.1.1.1.1.1.1.1.1.1.1.1.1.1.1.1.1.1.0
+    ◌∙◌ {b = length c.merge_patches-ng.new.astarts} c.group_planes.auto.plane_triangles c.merge_patches-ng.auto.astarts
 
 pub shape_of-first : goal.shape_of-first
 shape_of-first c =
-    ◌∙◌ {b = length c.merge_patches-ng.last.1.1.1.1.1.1.1.1.1.1.1.1.1.1.1.1.1.1.1.0} c.group_planes.auto.plane_of c.merge_patches-ng.kept.1.1.1.1.1.1.1.1.1.1.1.1.1.1.1.1.1.1.1.0
+    ◌∙◌ {b = length c.merge_patches-ng.new.order} c.group_planes.auto.plane_of c.merge_patches-ng.auto.order
 
 pub shape_of-plane_words : goal.shape_of-plane_words
 shape_of-plane_words c = c.merge_patches-ng.auto.assigned

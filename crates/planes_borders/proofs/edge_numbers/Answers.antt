@@ -18,12 +18,7 @@ corner_numbers-requires c =
 
 pub returns : goal.returns
 returns c =
-    let same-length-3 = search rules in
-    let same-length-5 = search rules in
-    let same-length-4 = search rules in
-    let same_length = search rules in
-    let same-length-2 = search rules in
     let a = c.args in record {
       numbers = edge_numbered a.triangles.now a.n a.n c.corner_numbers.new.numbers c.corner_numbers.ensures.numbers;
-      rest = (same_length, same-length-2, same-length-3, same-length-4, same-length-5);
+      rest = ((search rules), (search rules), (search rules), (search rules), (search rules));
     }

@@ -14,10 +14,10 @@ use Rattle.planes_buried.proofs.open_patches.Goals as goal
 pub returns-else-reach : goal.returns-else-reach
 unfolding open_of
 returns-else-reach c = record {
-      by_index = λ tri k h. sym (rw c.if-reach.false);
-      upper_bound = (omega arith, c.requires.numbered);
-      rest = (refl, refl, refl);
-    }
+  by_index = λ tri k h. sym (rw c.if-reach.false);
+  upper_bound = (omega arith, c.requires.numbered);
+  rest = (refl, refl, refl);
+}
 
 pub largest_triangles-requires : goal.largest_triangles-requires
 largest_triangles-requires c =
@@ -34,7 +34,7 @@ mark_open-requires c =
       held = c.requires.held;
       count_nonzero = c.requires.count_nonzero;
       by_index = λ i h. let b = largest_below a.triangles.now a.handles.now a.n a.m a.of.now a.np c.largest_triangles.new.areas
-              c.largest_triangles.new.largest p.3 c.largest_triangles.ensures i h q.0 in omega arith;
+          c.largest_triangles.new.largest p.3 c.largest_triangles.ensures i h q.0 in omega arith;
     }
 
 pub close_rows-r-requires : goal.close_rows-r-requires
@@ -50,9 +50,6 @@ renumber-requires c =
 
 pub returns : goal.returns
 returns c =
-    let same-length-3 = search rules in
-    let same-length-2 = search rules in
-    let same_length = search rules in
     let a = c.args in let q = c.requires.np_le_m in let f = c.mark_open.new.flags in let old = c.requires.numbered in
     let far : a.np ≤ none_of = omega (arith, c.requires.n_in_bounds.3, q.0) in
     let le = open_le f a.np in
@@ -62,5 +59,5 @@ returns c =
           c.close_rows-r.new.numbers c.close_rows-r.result q.0 c.if-reach.true (λ p g. c.mark_open.ensures p g tri k h) er
           c.close_rows-r.ensures.by_index c.close_rows-r.ensures.by_index_2 old c.renumber.ensures;
       upper_bound = (omega arith, rw er (numbered_new f a.np far c.close_rows-r.new.numbers c.close_rows-r.ensures.by_index a.m a.of.now c.renumber.new.of old c.renumber.ensures));
-      rest = (same_length, same-length-2, same-length-3);
+      rest = ((search rules), (search rules), (search rules));
     }

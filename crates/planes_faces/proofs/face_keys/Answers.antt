@@ -16,10 +16,10 @@ bounds-low_keys-i c = let k = c.loop-i.invariant.1.len_lo in omega arith
 
 pub loop-i-preserved : goal.loop-i-preserved
 loop-i-preserved c = let g = c.args in (
-      omega arith,
-      keys_more g.numbers.now g.n c.loop-i.i g.keys.now g.low_keys.now c.loop-i.keys c.loop-i.low_keys c.face_hi.result c.face_lo.result c.loop-i.invariant.1 (omega (arith, c.loop-i-test.true, c.requires.keys_len)) (omega (arith, c.loop-i-test.true, c.requires.low_keys_len))
-          c.face_hi.ensures c.face_lo.ensures,
-    )
+  omega arith,
+  keys_more g.numbers.now g.n c.loop-i.i g.keys.now g.low_keys.now c.loop-i.keys c.loop-i.low_keys c.face_hi.result c.face_lo.result c.loop-i.invariant.1 (omega (arith, c.loop-i-test.true, c.requires.keys_len)) (omega (arith, c.loop-i-test.true, c.requires.low_keys_len))
+      c.face_hi.ensures c.face_lo.ensures,
+)
 
 pub shape_of-keys : goal.shape_of-keys
 shape_of-keys c = c.loop-i.invariant.1.len_hi

@@ -45,10 +45,10 @@ slice_bounds-face_keys-end-4 c = sym (length-take-le c.args.n c.args.vlo.now (om
 
 pub face_keys-requires : goal.face_keys-requires
 face_keys-requires c = record {
-      n_in_bounds = omega (arith, c.first_indexes.auto.first, c.requires.n_in_bounds_3);
-      keys_len = length-take-le c.args.n c.args.vhi.now (omega (arith, c.requires.vhi_len));
-      low_keys_len = length-take-le c.args.n c.args.vlo.now (omega (arith, c.requires.vlo_len));
-    }
+  n_in_bounds = omega (arith, c.first_indexes.auto.first, c.requires.n_in_bounds_3);
+  keys_len = length-take-le c.args.n c.args.vhi.now (omega (arith, c.requires.vhi_len));
+  low_keys_len = length-take-le c.args.n c.args.vlo.now (omega (arith, c.requires.vlo_len));
+}
 
 pub slice_bounds-first_indexes-end : goal.slice_bounds-first_indexes-end
 slice_bounds-first_indexes-end c =
@@ -102,7 +102,7 @@ pub shape_of-vlo : goal.shape_of-vlo
 shape_of-vlo c = length_front c.args.vlo.now c.face_keys.new.low_keys c.args.n c.face_keys.auto.low_keys
 
 pub shape_of-index : goal.shape_of-index
-shape_of-index c = length_front c.first_indexes.new.index c.first_indexes-2.last.1.1.0 c.args.n c.first_indexes-2.kept.1.1.0 ∙ c.first_indexes.auto.index
+shape_of-index c = length_front c.first_indexes.new.index c.first_indexes-2.new.index c.args.n c.first_indexes-2.auto.index ∙ c.first_indexes.auto.index
 
 pub returns : goal.returns
 returns c =

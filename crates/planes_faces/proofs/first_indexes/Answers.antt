@@ -36,15 +36,12 @@ mark_run_starts-requires c =
       below = c.requires.below;
       keys_in_bounds = c.requires.keys_in_bounds_3;
       below_2 = sorted_below (key_of c.args.keys.now) (length c.args.keys.now) c.sort_by_key.new.index c.sort_by_key-2.new.index c.sort_by_key-2.ensures.sorted
-              (sorted_below (key_of c.args.low_keys.now) (length c.args.keys.now) xs c.sort_by_key.new.index c.sort_by_key.ensures.sorted (counted_below n (length c.args.keys.now) xs c.count_up.ensures c.requires.index_len));
+          (sorted_below (key_of c.args.low_keys.now) (length c.args.keys.now) xs c.sort_by_key.new.index c.sort_by_key.ensures.sorted (counted_below n (length c.args.keys.now) xs c.count_up.ensures c.requires.index_len));
     }
 
 pub returns : goal.returns
-returns c =
-    let same-length-2 = search rules in
-    let same-length-3 = search rules in
-    let same_length = search rules in record {
-      firsts = indexes_are c.args.keys.now c.args.low_keys.now c.count_up.new.index c.sort_by_key.new.index c.sort_by_key-2.new.index c.args.first.now c.mark_run_starts.new.first
-          (c.count_up.ensures ∙ ap up_to c.requires.index_len) c.sort_by_key.ensures.sorted c.sort_by_key-2.ensures.sorted c.mark_run_starts.ensures c.requires.below c.requires.keys_in_bounds_3;
-      rest = (same_length, same-length-2, same-length-3);
-    }
+returns c = record {
+  firsts = indexes_are c.args.keys.now c.args.low_keys.now c.count_up.new.index c.sort_by_key.new.index c.sort_by_key-2.new.index c.args.first.now c.mark_run_starts.new.first
+      (c.count_up.ensures ∙ ap up_to c.requires.index_len) c.sort_by_key.ensures.sorted c.sort_by_key-2.ensures.sorted c.mark_run_starts.ensures c.requires.below c.requires.keys_in_bounds_3;
+  rest = ((search rules), (search rules), (search rules));
+}

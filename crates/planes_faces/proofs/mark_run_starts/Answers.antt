@@ -35,11 +35,11 @@ bounds-index-p c = search rules
 pub run_start-start-requires : goal.run_start-start-requires
 unfolding Below
 run_start-start-requires c = record {
-      low_keys_len = c.requires.low_keys_len;
-      below = c.requires.below;
-      start_in_bounds = c.loop-p.invariant.1;
-      x_in_bounds = c.requires.below_2 c.loop-p.p c.loop-p-test.true;
-    }
+  low_keys_len = c.requires.low_keys_len;
+  below = c.requires.below;
+  start_in_bounds = c.loop-p.invariant.1;
+  x_in_bounds = c.requires.below_2 c.loop-p.p c.loop-p-test.true;
+}
 
 pub overflow_cast-first : goal.overflow_cast-first
 unfolding Below

@@ -16,8 +16,7 @@ bounds-low_keys-put c = omega (arith, c.loop-i.invariant.1.len_lo, c.loop-i-test
 
 pub loop-i-preserved : goal.loop-i-preserved
 loop-i-preserved c =
-    let g = c.args in
-    (
+    let g = c.args in (
       omega arith,
       made_more g.triangles.now g.n g.at g.put g.scale c.loop-i.i g.keys.now g.low_keys.now c.loop-i.keys c.loop-i.low_keys c.step-x.result c.step-y.result c.step-z.result c.pair.result c.wide.result c.loop-i.invariant.1
           (omega (arith, c.loop-i-test.true, c.requires.n_in_bounds_2)) (omega (arith, c.loop-i-test.true, c.requires.n_in_bounds_3))

@@ -11,7 +11,7 @@ overflow_cast-p c = omega (arith, c.shared_slice_known-4-1.given 0)
 
 pub row_at-seed-requires : goal.row_at-seed-requires
 unfolding Below
-row_at-seed-requires c = let p = c.requires.1.1 in let b = c.requires.below 0 c.requires.group_nonzero in omega (arith, c.requires.np_in_bounds, b)
+row_at-seed-requires c = let b = c.requires.below 0 c.requires.group_nonzero in omega (arith, c.requires.np_in_bounds, b)
 
 pub returns-then-group-eq1 : goal.returns-then-group-eq1
 unfolding plane_row_of
@@ -19,10 +19,10 @@ returns-then-group-eq1 c = rw (eq-eqb _ _ c.if-group-eq1.true, head_at c.args.gr
 
 pub fitted-requires : goal.fitted-requires
 fitted-requires c = let p = c.requires in record {
-      n_in_bounds = p.n_in_bounds;
-      n_in_bounds_2 = p.n_in_bounds_2;
-      below = p.below_2;
-    }
+  n_in_bounds = p.n_in_bounds;
+  n_in_bounds_2 = p.n_in_bounds_2;
+  below = p.below_2;
+}
 
 pub returns : goal.returns
 unfolding plane_row_of

@@ -38,15 +38,15 @@ grow_groups-requires c =
     let a = c.args in
     let w = c.requires.np_in_bounds_3 in
     let e = c.clear_u32.ensures in
-    let room = length_front a.queue.now c.adjacency.last.1.1.1.1.1.1.1.1.0 (3 * a.m) c.adjacency.kept.1.1.1.1.1.1.1.1.0 in record {
+    let room = length_front a.queue.now c.adjacency.new.vsorted (3 * a.m) c.adjacency.auto.vsorted in record {
       n_in_bounds = c.requires.n_in_bounds;
       np_in_bounds = c.requires.np_in_bounds;
       table = c.requires.table;
       np_le_most_triangles = c.requires.m_le_most_triangles.2;
-      table_2 = table_is a.np a.np a.np c.adjacency.last.1.1.1.1.1.1.1.1.1.1.0 c.adjacency.last.1.1.1.1.1.1.1.1.1.1.1.0 (is_joined a.numbers.now a.n a.vertices a.of.now a.m a.np) c.adjacency.ensures.row_bounds (omega (arith, c.adjacency.kept.1.1.1.1.1.1.1.1.1.1.1.0, c.requires.m_in_bounds_2.1)) c.adjacency.ensures.by_index (omega arith);
+      table_2 = table_is a.np a.np a.np c.adjacency.new.sorted c.adjacency.new.starts (is_joined a.numbers.now a.n a.vertices a.of.now a.m a.np) c.adjacency.ensures.row_bounds (omega (arith, c.adjacency.auto.starts, c.requires.m_in_bounds_2.1)) c.adjacency.ensures.by_index (omega arith);
       np_in_bounds_2 = c.requires.np_in_bounds_2;
-      queue = rw e (queue_none a.np (length a.assigned.now) (c.adjacency.last.1.1.1.1.1.1.1.1.0 ++ drop (3 * a.m) a.queue.now) w.0 (omega (arith, room, w.1)));
-      np_in_bounds_3 = omega (arith, c.adjacency.kept.1.1.1.1.1.1.1.1.1.0, w.2);
+      queue = rw e (queue_none a.np (length a.assigned.now) (c.adjacency.new.vsorted ++ drop (3 * a.m) a.queue.now) w.0 (omega (arith, room, w.1)));
+      np_in_bounds_3 = omega (arith, c.adjacency.auto.vstarts, w.2);
     }
 
 pub shape_of-words : goal.shape_of-words
@@ -81,8 +81,8 @@ returns c =
       upper_bound = c.grow_groups.ensures.upper_bound;
       grouped = c.grow_groups.ensures.grouped;
       by_index = λ adj same.
-            c.grow_groups.ensures.by_index adj (rows_adjacent a.np c.adjacency.new.sorted c.adjacency.new.starts (is_joined a.numbers.now a.n a.vertices a.of.now a.m a.np) adj c.adjacency.ensures.by_index same)
-            ∙ ap (groups_from a.np adj f (take a.np a.order.now)) (ap (free_of a.np) e ∙ free_all a.np (length a.assigned.now) c.requires.np_in_bounds_3.0);
+          c.grow_groups.ensures.by_index adj (rows_adjacent a.np c.adjacency.new.sorted c.adjacency.new.starts (is_joined a.numbers.now a.n a.vertices a.of.now a.m a.np) adj c.adjacency.ensures.by_index same)
+          ∙ ap (groups_from a.np adj f (take a.np a.order.now)) (ap (free_of a.np) e ∙ free_all a.np (length a.assigned.now) c.requires.np_in_bounds_3.0);
     }
 
 pub clear_u32-requires : goal.clear_u32-requires

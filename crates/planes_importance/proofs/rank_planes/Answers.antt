@@ -19,7 +19,6 @@ put_keys-requires c =
 
 pub sort_by_key-requires : goal.sort_by_key-requires
 sort_by_key-requires c =
-    let p = c.requires.1.1.1.1.1.1 in
     let k = c.put_keys.ensures in
     let keys = k.keys_after _ c.centre.ensures c.half_diag.ensures in record {
       index_in_bounds = rw (k.index_after, up_to_length _) c.requires.index_in_bounds;
@@ -29,15 +28,12 @@ sort_by_key-requires c =
 
 pub returns : goal.returns
 returns c =
-    let same_length = search rules in
-    let same-length-4 = search rules in
-    let same-length-3 = search rules in
     let k = c.put_keys.ensures in
     let box = c.scene_box-b.ensures in
     let keys = k.keys_after _ (c.centre.ensures ∙ ap centre_of box)
     (c.half_diag.ensures ∙ ap half_diag_of box) in record {
       ranked = c.sort_by_key.ensures.sorted ∙ ranking_is _ _ _ _ _ _ _ _ c.requires.planes_held _ _ keys k.index_after;
-      rest = (same_length, same-length-3, same-length-4);
+      rest = ((search rules), (search rules), (search rules));
     }
 
 pub centre-requires : goal.centre-requires

@@ -22,7 +22,6 @@ vertex_words-k-requires c =
 pub make_rows-requires : goal.make_rows-requires
 make_rows-requires c =
     let p = c.requires in
-    let q = p.1.1.1.1.1.1.1 in
     let k = c.vertex_words-k.ensures.upper_bound in record {
       k_in_bounds = omega (arith, k, c.vertex_words-k.auto.words, c.requires.m_in_bounds_2);
       k_in_bounds_2 = omega (arith, k, c.requires.m_in_bounds_3);
@@ -34,7 +33,6 @@ make_rows-requires c =
 
 pub link_rows-links-requires : goal.link_rows-links-requires
 link_rows-links-requires c =
-    let q = c.requires.1.1.1.1.1.1.1 in
     let r = c.make_rows.auto in record {
       rows_in_bounds = omega (arith, c.requires.vertices_in_bounds, r.offsets);
       row_bounds = c.make_rows.ensures.bounds;
@@ -44,14 +42,13 @@ link_rows-links-requires c =
 pub make_rows-requires-2 : goal.make_rows-requires-2
 make_rows-requires-2 c =
     let p = c.requires in
-    let q = p.1.1.1.1.1.1.1 in
     let k = c.link_rows-links.ensures.upper_bound in
     let r = c.make_rows.auto in
     let v = r.sorted in record {
       k_in_bounds = omega (arith, k, v, c.requires.vsorted_len, c.requires.m_in_bounds_2, r.words, c.vertex_words-k.auto.words, c.link_rows-links.auto.words);
       k_in_bounds_2 = omega (arith, k, v, c.requires.vsorted_len, c.requires.m_in_bounds_3, r.scratch);
       k_in_bounds_3 = omega
-              (arith, k, v, c.requires.vsorted_len, c.requires.m_in_bounds_4);
+          (arith, k, v, c.requires.vsorted_len, c.requires.m_in_bounds_4);
       k_bound = omega (arith, k, v, c.requires.vsorted_len, p.m_le_most_triangles);
       rows_le_most_rows = omega (arith, p.np_le_most_triangles);
       rows_in_bounds = c.requires.np_in_bounds;
@@ -59,16 +56,12 @@ make_rows-requires-2 c =
 
 pub returns : goal.returns
 returns c =
-    let same_length = search rules in
-    let same-length-4 = search rules in
-    let same-length-3 = search rules in
-    let same-length-2 = search rules in
     let a = c.args in record {
       row_bounds = c.make_rows-2.ensures.bounds;
       by_index = λ p h.
-            c.make_rows-2.ensures.are p h
-            ∙ joined_is a.numbers.now a.n a.of.now a.m a.np a.vertices (row_in c.make_rows.new.sorted c.make_rows.new.offsets) c.link_rows-links.new.words c.link_rows-links.result p c.link_rows-links.ensures.by_index
-            (λ v l. c.make_rows.ensures.are v l ∙ run_is a.numbers.now a.n a.of.now a.m a.np c.vertex_words-k.last.1.1.1.1.1.0 c.vertex_words-k.result v c.vertex_words-k.ensures.by_index)
-            ∙ joined_cut a.numbers.now a.n a.of.now a.m a.np a.vertices p c.requires.np_le_most_triangles;
-      rest = (same_length, same-length-2, same-length-3, same-length-4);
+          c.make_rows-2.ensures.are p h
+          ∙ joined_is a.numbers.now a.n a.of.now a.m a.np a.vertices (row_in c.make_rows.new.sorted c.make_rows.new.offsets) c.link_rows-links.new.words c.link_rows-links.result p c.link_rows-links.ensures.by_index
+          (λ v l. c.make_rows.ensures.are v l ∙ run_is a.numbers.now a.n a.of.now a.m a.np c.vertex_words-k.new.words c.vertex_words-k.result v c.vertex_words-k.ensures.by_index)
+          ∙ joined_cut a.numbers.now a.n a.of.now a.m a.np a.vertices p c.requires.np_le_most_triangles;
+      rest = ((search rules), (search rules), (search rules), (search rules));
     }

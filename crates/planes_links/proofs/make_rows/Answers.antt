@@ -17,8 +17,7 @@ slice_bounds-sort_rows-end-4 c =
 pub sort_rows-requires : goal.sort_rows-requires
 sort_rows-requires c =
     let w = length-take-le c.args.k c.args.words.now c.requires.k_in_bounds in
-    let s = length-take-le c.args.k c.args.scratch.now c.requires.k_in_bounds_2 in
-    let p = c.requires.1.1 in record {
+    let s = length-take-le c.args.k c.args.scratch.now c.requires.k_in_bounds_2 in record {
       scratch_len = s ∙ sym w;
       words_in_bounds = omega (arith, w, c.requires.k_in_bounds_3);
       words_len_bound = omega (arith, w, c.requires.k_bound);

@@ -31,5 +31,5 @@ row_starts-requires c =
 
 pub returns : goal.returns
 returns c =
-    rows_are c.args.words.now c.sort_words.new.a c.compact-k.last.1.0 c.compact-k.result c.sort_words.ensures.sorted c.compact-k.ensures.sorted_after
-    c.row_starts.new.offsets c.args.rows (omega (arith, c.compact-k.ensures.upper_bound, c.compact-k.kept.1.0, c.sort_words.auto.a, c.requires.words_in_bounds)) c.row_starts.ensures
+    rows_are c.args.words.now c.sort_words.new.a c.compact-k.new.sorted c.compact-k.result c.sort_words.ensures.sorted c.compact-k.ensures.sorted_after
+    c.row_starts.new.offsets c.args.rows (omega (arith, c.compact-k.ensures.upper_bound, c.compact-k.auto.sorted, c.sort_words.auto.a, c.requires.words_in_bounds)) c.row_starts.ensures

@@ -39,11 +39,11 @@ returns-then-early c = let a = c.args in let st = a.settings in let s = scene a.
     let some = early_some k e in
     let less = early_less k e in
     traced st a.c s a.source a.listener a.separated c.refused.result a.out.now a.out.now w
-    (work c.load_scene-loaded.last.1.1.1.1.1.1.1.1.1.0 c.load_scene-loaded.last.1.1.1.1.1.1.1.1.1.1.0 a.tree.now a.nodes.now a.leaf_order.now a.keys.now a.low_keys.now a.words.now a.scratch.now a.index.now a.numbers.now a.adjacency.now a.queue.now a.offsets.now a.floats.now a.plane_triangles.now a.plane_floats.now
+    (work c.load_scene-loaded.new.triangles c.load_scene-loaded.new.handles a.tree.now a.nodes.now a.leaf_order.now a.keys.now a.low_keys.now a.words.now a.scratch.now a.index.now a.numbers.now a.adjacency.now a.queue.now a.offsets.now a.floats.now a.plane_triangles.now a.plane_floats.now
     a.plane_words.now a.plane_edges.now)
     (refused_answers k (query_in st a.c s a.source a.listener a.separated) c.refused.result a.out.now a.out.now some
     (c.refused.ensures ∙ ap (λ j. answered_of (refused j)) is) refl)
-    (scene_found k w c.load_scene-loaded.last.1.1.1.1.1.1.1.1.1.0 c.load_scene-loaded.last.1.1.1.1.1.1.1.1.1.1.0 (l.filled ∙ left_found k _ _ _ some less) (l.named ∙ left_found k _ _ _ some less) e)
+    (scene_found k w c.load_scene-loaded.new.triangles c.load_scene-loaded.new.handles (l.filled ∙ left_found k _ _ _ some less) (l.named ∙ left_found k _ _ _ some less) e)
 
 pub answer_loaded-requires : goal.answer_loaded-requires
 answer_loaded-requires c =
@@ -55,14 +55,14 @@ answer_loaded-requires c =
     let is = front_refusal k s c.load_scene-loaded.result c.front_of-front.result l.answer c.front_of-front.ensures in record {
       ready = λ none.
           let fr = fronted k s c.load_scene-loaded.result c.front_of-front.result l.answer c.front_of-front.ensures (sym is ∙ none) in
-          let there = loaded st a.c s lens a.triangles.now a.handles.now c.load_scene-loaded.result c.load_scene-loaded.last.1.1.1.1.1.1.1.1.1.0 c.load_scene-loaded.last.1.1.1.1.1.1.1.1.1.1.0 c.front_of-front.result.kept (placings s) c.front_of-front.result.triples fr.loaded l in
-          let acc = loaded_accepted st a.c s lens a.triangles.now a.handles.now c.load_scene-loaded.result c.load_scene-loaded.last.1.1.1.1.1.1.1.1.1.0 c.load_scene-loaded.last.1.1.1.1.1.1.1.1.1.1.0 c.front_of-front.result.kept (placings s) c.front_of-front.result.triples l fr.loaded in
+          let there = loaded st a.c s lens a.triangles.now a.handles.now c.load_scene-loaded.result c.load_scene-loaded.new.triangles c.load_scene-loaded.new.handles c.front_of-front.result.kept (placings s) c.front_of-front.result.triples fr.loaded l in
+          let acc = loaded_accepted st a.c s lens a.triangles.now a.handles.now c.load_scene-loaded.result c.load_scene-loaded.new.triangles c.load_scene-loaded.new.handles c.front_of-front.result.kept (placings s) c.front_of-front.result.triples l fr.loaded in
           let room = acc.room in
-          let lim = limits s c.load_scene-loaded.last.1.1.1.1.1.1.1.1.1.0 c.load_scene-loaded.last.1.1.1.1.1.1.1.1.1.1.0 c.front_of-front.result.triples c.front_of-front.result.kept there in
+          let lim = limits s c.load_scene-loaded.new.triangles c.load_scene-loaded.new.handles c.front_of-front.result.triples c.front_of-front.result.kept there in
           let inside = within st a.c acc.settings in
           record {
             scene = record { scene = s; loaded = there; same = refl };
-            lent = record { few = omega (arith, lim.most); some = lim.fewer; columns = omega (arith, c.load_scene-loaded.kept.1.1.1.1.1.1.1.1.1.0, room.triangles_room); named = omega (arith, c.load_scene-loaded.kept.1.1.1.1.1.1.1.1.1.1.0, room.handles_room) };
+            lent = record { few = omega (arith, lim.most); some = lim.fewer; columns = omega (arith, c.load_scene-loaded.auto.triangles, room.triangles_room); named = omega (arith, c.load_scene-loaded.auto.handles, room.handles_room) };
             for_tree = record { tree_room = room.tree_room; nodes_room = room.nodes_room; leaf_order_room = room.leaf_order_room };
             for_planes = record {
               keys_room = omega (arith, room.keys_room);
@@ -101,10 +101,10 @@ answer_loaded-requires c =
     }
 
 pub shape_of-triangles : goal.shape_of-triangles
-shape_of-triangles c = ◌∙◌ {b = length c.load_scene-loaded.last.1.1.1.1.1.1.1.1.1.0} c.answer_loaded.auto.triangles c.load_scene-loaded.kept.1.1.1.1.1.1.1.1.1.0
+shape_of-triangles c = ◌∙◌ {b = length c.load_scene-loaded.new.triangles} c.answer_loaded.auto.triangles c.load_scene-loaded.auto.triangles
 
 pub shape_of-handles : goal.shape_of-handles
-shape_of-handles c = ◌∙◌ {b = length c.load_scene-loaded.last.1.1.1.1.1.1.1.1.1.1.0} c.answer_loaded.auto.handles c.load_scene-loaded.kept.1.1.1.1.1.1.1.1.1.1.0
+shape_of-handles c = ◌∙◌ {b = length c.load_scene-loaded.new.handles} c.answer_loaded.auto.handles c.load_scene-loaded.auto.handles
 
 pub shape_of-tree : goal.shape_of-tree
 shape_of-tree c = c.answer_loaded.auto.tree
@@ -177,10 +177,10 @@ returns c = let a = c.args in let st = a.settings in let s = scene a.meshes.now 
     (λ none. let fr = fronted k s c.load_scene-loaded.result c.front_of-front.result l.answer c.front_of-front.ensures (sym is ∙ none) in fr.kept)
     (c.answer_loaded.ensures.answers_loaded.over s (λ none.
     let fr = fronted k s c.load_scene-loaded.result c.front_of-front.result l.answer c.front_of-front.ensures (sym is ∙ none) in
-    let there = loaded st a.c s lens a.triangles.now a.handles.now c.load_scene-loaded.result c.load_scene-loaded.last.1.1.1.1.1.1.1.1.1.0 c.load_scene-loaded.last.1.1.1.1.1.1.1.1.1.1.0 c.front_of-front.result.kept (placings s) c.front_of-front.result.triples fr.loaded l in there) refl))
+    let there = loaded st a.c s lens a.triangles.now a.handles.now c.load_scene-loaded.result c.load_scene-loaded.new.triangles c.load_scene-loaded.new.handles c.front_of-front.result.kept (placings s) c.front_of-front.result.triples fr.loaded l in there) refl))
     (work_cleared k w left (all_zero w left c.answer_loaded.ensures.planes_zero c.answer_loaded.ensures.scene_zero record {
-      triangles_same = ◌∙◌ {b = length c.load_scene-loaded.last.1.1.1.1.1.1.1.1.1.0} c.answer_loaded.auto.triangles c.load_scene-loaded.kept.1.1.1.1.1.1.1.1.1.0;
-      handles_same = ◌∙◌ {b = length c.load_scene-loaded.last.1.1.1.1.1.1.1.1.1.1.0} c.answer_loaded.auto.handles c.load_scene-loaded.kept.1.1.1.1.1.1.1.1.1.1.0;
+      triangles_same = ◌∙◌ {b = length c.load_scene-loaded.new.triangles} c.answer_loaded.auto.triangles c.load_scene-loaded.auto.triangles;
+      handles_same = ◌∙◌ {b = length c.load_scene-loaded.new.handles} c.answer_loaded.auto.handles c.load_scene-loaded.auto.handles;
       tree_same = c.answer_loaded.auto.tree;
       nodes_same = c.answer_loaded.auto.nodes;
       leaf_order_same = c.answer_loaded.auto.leaf_order;

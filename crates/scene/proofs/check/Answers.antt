@@ -22,13 +22,13 @@ unknown_handle-requires c = tt
 pub returns-then-unknown_handle : goal.returns-then-unknown_handle
 unfolding check_of first_of_five refusal1 refusal2 refusal3 refusal4 refusal5
 returns-then-unknown_handle c = rw (
-      ← c.within_limits.ensures,
-      c.if-within_limits.true,
-      ← c.lengths_right.ensures,
-      c.if-lengths_right.true,
-      ← c.unknown_handle.ensures,
-      c.if-unknown_handle.true,
-    )
+  ← c.within_limits.ensures,
+  c.if-within_limits.true,
+  ← c.lengths_right.ensures,
+  c.if-lengths_right.true,
+  ← c.unknown_handle.ensures,
+  c.if-unknown_handle.true,
+)
 
 pub whole_triples-t-requires : goal.whole_triples-t-requires
 unfolding check_of first_of_five refusal1 refusal2 refusal3 refusal4 refusal5
@@ -91,11 +91,11 @@ returns-then-lengths_right c = let l = c.args.meshes.now in
 pub returns-then-within_limits : goal.returns-then-within_limits
 unfolding check_of first_of_five refusal1 refusal2 refusal3 refusal4 refusal5
 returns-then-within_limits c = rw (
-      ← c.within_limits.ensures,
-      c.if-within_limits.true,
-      ← c.lengths_right.ensures,
-      c.if-lengths_right.false,
-    )
+  ← c.within_limits.ensures,
+  c.if-within_limits.true,
+  ← c.lengths_right.ensures,
+  c.if-lengths_right.false,
+)
 
 pub returns : goal.returns
 unfolding check_of first_of_five refusal1 refusal2 refusal3 refusal4 refusal5

@@ -21,34 +21,34 @@ air_number-requires-then-air_number-3 c = tt
 pub returns-then-air_number-3 : goal.returns-then-air_number-3
 unfolding high_air_of
 returns-then-air_number-3 c = rw (
-      ← c.air_number.ensures,
-      c.if-air_number.true,
-      ← c.air_number-then-air_number.ensures,
-      c.if-air_number-2.true,
-      ← c.air_number-then-air_number-2.ensures,
-      c.if-air_number-3.true,
-      ← c.air_number-then-air_number-3.ensures,
-    )
+  ← c.air_number.ensures,
+  c.if-air_number.true,
+  ← c.air_number-then-air_number.ensures,
+  c.if-air_number-2.true,
+  ← c.air_number-then-air_number-2.ensures,
+  c.if-air_number-3.true,
+  ← c.air_number-then-air_number-3.ensures,
+)
 
 pub returns-else-air_number-3 : goal.returns-else-air_number-3
 unfolding high_air_of
 returns-else-air_number-3 c = rw (
-      ← c.air_number.ensures,
-      c.if-air_number.true,
-      ← c.air_number-then-air_number.ensures,
-      c.if-air_number-2.true,
-      ← c.air_number-then-air_number-2.ensures,
-      c.if-air_number-3.false,
-    )
+  ← c.air_number.ensures,
+  c.if-air_number.true,
+  ← c.air_number-then-air_number.ensures,
+  c.if-air_number-2.true,
+  ← c.air_number-then-air_number-2.ensures,
+  c.if-air_number-3.false,
+)
 
 pub returns-else-air_number-2 : goal.returns-else-air_number-2
 unfolding high_air_of
 returns-else-air_number-2 c = rw (
-      ← c.air_number.ensures,
-      c.if-air_number.true,
-      ← c.air_number-then-air_number.ensures,
-      c.if-air_number-2.false,
-    )
+  ← c.air_number.ensures,
+  c.if-air_number.true,
+  ← c.air_number-then-air_number.ensures,
+  c.if-air_number-2.false,
+)
 
 pub returns-else-air_number : goal.returns-else-air_number
 unfolding high_air_of

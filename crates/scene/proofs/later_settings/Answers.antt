@@ -17,21 +17,21 @@ high_air-requires c = tt
 pub returns-then-low_air : goal.returns-then-low_air
 unfolding later_settings_of
 returns-then-low_air c = rw (
-      ← c.probe_settings.ensures,
-      c.if-probe_settings.true,
-      ← c.low_air.ensures,
-      c.if-low_air.true,
-      ← c.high_air.ensures,
-    )
+  ← c.probe_settings.ensures,
+  c.if-probe_settings.true,
+  ← c.low_air.ensures,
+  c.if-low_air.true,
+  ← c.high_air.ensures,
+)
 
 pub returns-else-low_air : goal.returns-else-low_air
 unfolding later_settings_of
 returns-else-low_air c = rw (
-      ← c.probe_settings.ensures,
-      c.if-probe_settings.true,
-      ← c.low_air.ensures,
-      c.if-low_air.false,
-    )
+  ← c.probe_settings.ensures,
+  c.if-probe_settings.true,
+  ← c.low_air.ensures,
+  c.if-low_air.false,
+)
 
 pub returns-else-probe_settings : goal.returns-else-probe_settings
 unfolding later_settings_of

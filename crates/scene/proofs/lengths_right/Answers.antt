@@ -25,49 +25,49 @@ materials_right-requires c = tt
 pub returns-then-indices_right : goal.returns-then-indices_right
 unfolding lengths_right_of
 returns-then-indices_right c = rw (
-      ← c.meshes_whole.ensures,
-      c.if-meshes_whole.true,
-      ← c.transforms_right.ensures,
-      c.if-transforms_right.true,
-      ← c.positions_right.ensures,
-      c.if-positions_right.true,
-      ← c.indices_right.ensures,
-      c.if-indices_right.true,
-      ← c.materials_right.ensures,
-    )
+  ← c.meshes_whole.ensures,
+  c.if-meshes_whole.true,
+  ← c.transforms_right.ensures,
+  c.if-transforms_right.true,
+  ← c.positions_right.ensures,
+  c.if-positions_right.true,
+  ← c.indices_right.ensures,
+  c.if-indices_right.true,
+  ← c.materials_right.ensures,
+)
 
 pub returns-else-indices_right : goal.returns-else-indices_right
 unfolding lengths_right_of
 returns-else-indices_right c = rw (
-      ← c.meshes_whole.ensures,
-      c.if-meshes_whole.true,
-      ← c.transforms_right.ensures,
-      c.if-transforms_right.true,
-      ← c.positions_right.ensures,
-      c.if-positions_right.true,
-      ← c.indices_right.ensures,
-      c.if-indices_right.false,
-    )
+  ← c.meshes_whole.ensures,
+  c.if-meshes_whole.true,
+  ← c.transforms_right.ensures,
+  c.if-transforms_right.true,
+  ← c.positions_right.ensures,
+  c.if-positions_right.true,
+  ← c.indices_right.ensures,
+  c.if-indices_right.false,
+)
 
 pub returns-else-positions_right : goal.returns-else-positions_right
 unfolding lengths_right_of
 returns-else-positions_right c = rw (
-      ← c.meshes_whole.ensures,
-      c.if-meshes_whole.true,
-      ← c.transforms_right.ensures,
-      c.if-transforms_right.true,
-      ← c.positions_right.ensures,
-      c.if-positions_right.false,
-    )
+  ← c.meshes_whole.ensures,
+  c.if-meshes_whole.true,
+  ← c.transforms_right.ensures,
+  c.if-transforms_right.true,
+  ← c.positions_right.ensures,
+  c.if-positions_right.false,
+)
 
 pub returns-else-transforms_right : goal.returns-else-transforms_right
 unfolding lengths_right_of
 returns-else-transforms_right c = rw (
-      ← c.meshes_whole.ensures,
-      c.if-meshes_whole.true,
-      ← c.transforms_right.ensures,
-      c.if-transforms_right.false,
-    )
+  ← c.meshes_whole.ensures,
+  c.if-meshes_whole.true,
+  ← c.transforms_right.ensures,
+  c.if-transforms_right.false,
+)
 
 pub returns-else-meshes_whole : goal.returns-else-meshes_whole
 unfolding lengths_right_of

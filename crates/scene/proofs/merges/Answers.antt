@@ -21,34 +21,34 @@ is_finite-requires-then-is_finite-2 c = tt
 pub returns-then-is_finite-2 : goal.returns-then-is_finite-2
 unfolding merges_of
 returns-then-is_finite-2 c = rw (
-      ← c.between.ensures,
-      c.if-between.true,
-      ← c.is_finite.ensures,
-      c.if-is_finite.true,
-      ← c.is_finite-then-is_finite.ensures,
-      c.if-is_finite-2.true,
-      ← c.is_finite-then-is_finite-2.ensures,
-    )
+  ← c.between.ensures,
+  c.if-between.true,
+  ← c.is_finite.ensures,
+  c.if-is_finite.true,
+  ← c.is_finite-then-is_finite.ensures,
+  c.if-is_finite-2.true,
+  ← c.is_finite-then-is_finite-2.ensures,
+)
 
 pub returns-else-is_finite-2 : goal.returns-else-is_finite-2
 unfolding merges_of
 returns-else-is_finite-2 c = rw (
-      ← c.between.ensures,
-      c.if-between.true,
-      ← c.is_finite.ensures,
-      c.if-is_finite.true,
-      ← c.is_finite-then-is_finite.ensures,
-      c.if-is_finite-2.false,
-    )
+  ← c.between.ensures,
+  c.if-between.true,
+  ← c.is_finite.ensures,
+  c.if-is_finite.true,
+  ← c.is_finite-then-is_finite.ensures,
+  c.if-is_finite-2.false,
+)
 
 pub returns-else-is_finite : goal.returns-else-is_finite
 unfolding merges_of
 returns-else-is_finite c = rw (
-      ← c.between.ensures,
-      c.if-between.true,
-      ← c.is_finite.ensures,
-      c.if-is_finite.false,
-    )
+  ← c.between.ensures,
+  c.if-between.true,
+  ← c.is_finite.ensures,
+  c.if-is_finite.false,
+)
 
 pub returns-else-between : goal.returns-else-between
 unfolding merges_of

@@ -21,34 +21,34 @@ model_number-requires-then-model_number-3 c = tt
 pub returns-then-model_number-3 : goal.returns-then-model_number-3
 unfolding model_numbers_of
 returns-then-model_number-3 c = rw (
-      ← c.model_number.ensures,
-      c.if-model_number.true,
-      ← c.model_number-then-model_number.ensures,
-      c.if-model_number-2.true,
-      ← c.model_number-then-model_number-2.ensures,
-      c.if-model_number-3.true,
-      ← c.model_number-then-model_number-3.ensures,
-    )
+  ← c.model_number.ensures,
+  c.if-model_number.true,
+  ← c.model_number-then-model_number.ensures,
+  c.if-model_number-2.true,
+  ← c.model_number-then-model_number-2.ensures,
+  c.if-model_number-3.true,
+  ← c.model_number-then-model_number-3.ensures,
+)
 
 pub returns-else-model_number-3 : goal.returns-else-model_number-3
 unfolding model_numbers_of
 returns-else-model_number-3 c = rw (
-      ← c.model_number.ensures,
-      c.if-model_number.true,
-      ← c.model_number-then-model_number.ensures,
-      c.if-model_number-2.true,
-      ← c.model_number-then-model_number-2.ensures,
-      c.if-model_number-3.false,
-    )
+  ← c.model_number.ensures,
+  c.if-model_number.true,
+  ← c.model_number-then-model_number.ensures,
+  c.if-model_number-2.true,
+  ← c.model_number-then-model_number-2.ensures,
+  c.if-model_number-3.false,
+)
 
 pub returns-else-model_number-2 : goal.returns-else-model_number-2
 unfolding model_numbers_of
 returns-else-model_number-2 c = rw (
-      ← c.model_number.ensures,
-      c.if-model_number.true,
-      ← c.model_number-then-model_number.ensures,
-      c.if-model_number-2.false,
-    )
+  ← c.model_number.ensures,
+  c.if-model_number.true,
+  ← c.model_number-then-model_number.ensures,
+  c.if-model_number-2.false,
+)
 
 pub returns-else-model_number : goal.returns-else-model_number
 unfolding model_numbers_of

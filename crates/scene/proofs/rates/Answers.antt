@@ -17,21 +17,21 @@ between-requires-then-between c = tt
 pub returns-then-between : goal.returns-then-between
 unfolding rates_of
 returns-then-between c = rw (
-      ← c.above_zero.ensures,
-      c.if-above_zero.true,
-      ← c.between.ensures,
-      c.if-between.true,
-      ← c.between-then-between.ensures,
-    )
+  ← c.above_zero.ensures,
+  c.if-above_zero.true,
+  ← c.between.ensures,
+  c.if-between.true,
+  ← c.between-then-between.ensures,
+)
 
 pub returns-else-between : goal.returns-else-between
 unfolding rates_of
 returns-else-between c = rw (
-      ← c.above_zero.ensures,
-      c.if-above_zero.true,
-      ← c.between.ensures,
-      c.if-between.false,
-    )
+  ← c.above_zero.ensures,
+  c.if-above_zero.true,
+  ← c.between.ensures,
+  c.if-between.false,
+)
 
 pub returns-else-above_zero : goal.returns-else-above_zero
 unfolding rates_of

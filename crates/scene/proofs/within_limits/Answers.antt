@@ -25,40 +25,40 @@ later_settings-requires c = tt
 pub returns-then-model_numbers : goal.returns-then-model_numbers
 unfolding settings_of
 returns-then-model_numbers c = rw (
-      ← c.counts.ensures,
-      c.if-counts.true,
-      ← c.rates.ensures,
-      c.if-rates.true,
-      ← c.merges.ensures,
-      c.if-merges.true,
-      ← c.model_numbers.ensures,
-      c.if-model_numbers.true,
-      ← c.later_settings.ensures,
-    )
+  ← c.counts.ensures,
+  c.if-counts.true,
+  ← c.rates.ensures,
+  c.if-rates.true,
+  ← c.merges.ensures,
+  c.if-merges.true,
+  ← c.model_numbers.ensures,
+  c.if-model_numbers.true,
+  ← c.later_settings.ensures,
+)
 
 pub returns-else-model_numbers : goal.returns-else-model_numbers
 unfolding settings_of
 returns-else-model_numbers c = rw (
-      ← c.counts.ensures,
-      c.if-counts.true,
-      ← c.rates.ensures,
-      c.if-rates.true,
-      ← c.merges.ensures,
-      c.if-merges.true,
-      ← c.model_numbers.ensures,
-      c.if-model_numbers.false,
-    )
+  ← c.counts.ensures,
+  c.if-counts.true,
+  ← c.rates.ensures,
+  c.if-rates.true,
+  ← c.merges.ensures,
+  c.if-merges.true,
+  ← c.model_numbers.ensures,
+  c.if-model_numbers.false,
+)
 
 pub returns-else-merges : goal.returns-else-merges
 unfolding settings_of
 returns-else-merges c = rw (
-      ← c.counts.ensures,
-      c.if-counts.true,
-      ← c.rates.ensures,
-      c.if-rates.true,
-      ← c.merges.ensures,
-      c.if-merges.false,
-    )
+  ← c.counts.ensures,
+  c.if-counts.true,
+  ← c.rates.ensures,
+  c.if-rates.true,
+  ← c.merges.ensures,
+  c.if-merges.false,
+)
 
 pub returns-else-rates : goal.returns-else-rates
 unfolding settings_of

@@ -66,25 +66,25 @@ slice_bounds-build_planes-end-4 c = let h = c.requires in let t = h.lent in let 
 
 pub build_planes-planes-requires : goal.build_planes-planes-requires
 build_planes-planes-requires c =
-    let h = c.requires in let t = h.lent in let p = h.for_planes in let a = c.args in let w = scene_tree_from_zero h.scene a.triangles.now a.handles.now a.n a.m c.scene_bvh-nodes_count.last.1.1.1.1.1.1.1.1.1.1.1.0 (take a.m c.scene_bvh-nodes_count.last.1.1.1.1.1.1.0) c.scene_bvh-nodes_count.last.1.1.1.1.1.1.1.1.1.1.1.1.0 c.scene_bvh-nodes_count.result (c.scene_bvh-nodes_count.ensures.stands h.scene h.found h.loaded h.cleared) in record {
+    let h = c.requires in let t = h.lent in let p = h.for_planes in let a = c.args in let w = scene_tree_from_zero h.scene a.triangles.now a.handles.now a.n a.m c.scene_bvh-nodes_count.new.nodes (take a.m c.scene_bvh-nodes_count.new.leaf_order) c.scene_bvh-nodes_count.new.tree c.scene_bvh-nodes_count.result (c.scene_bvh-nodes_count.ensures.stands h.scene h.found h.loaded h.cleared) in record {
       triangles_lent = t;
       held = (w.tree.held, w.tree.some);
       planes_room = record {
-          keys_room = omega (arith, c.scene_bvh-nodes_count.kept.1.1.1.1.1.0, p.keys_room);
-          low_keys_room = p.low_keys_room;
-          words_room = omega (arith, c.scene_bvh-nodes_count.kept.1.1.1.1.1.1.1.0, p.words_room);
-          scratch_room = omega (arith, c.scene_bvh-nodes_count.kept.1.1.1.1.1.1.1.1.0, p.scratch_room);
-          index_room = p.index_room;
-          numbers_room = p.numbers_room;
-          adjacency_room = p.adjacency_room;
-          queue_room = p.queue_room;
-          offsets_room = p.offsets_room;
-          plane_triangles_room = p.plane_triangles_room;
-          plane_words_room = p.plane_words_room;
-          plane_floats_room = omega (arith, c.scene_bvh-nodes_count.kept.1.1.1.1.0, p.plane_floats_room);
-          floats_room = omega (arith, c.scene_bvh-nodes_count.kept.1.1.1.1.1.1.1.1.1.1.0, p.floats_room);
-          plane_edges_room = omega (arith, c.scene_bvh-nodes_count.kept.1.1.1.1.1.1.1.1.1.0, p.plane_edges_room);
-        };
+        keys_room = omega (arith, c.scene_bvh-nodes_count.auto.keys, p.keys_room);
+        low_keys_room = p.low_keys_room;
+        words_room = omega (arith, c.scene_bvh-nodes_count.auto.words, p.words_room);
+        scratch_room = omega (arith, c.scene_bvh-nodes_count.auto.scratch, p.scratch_room);
+        index_room = p.index_room;
+        numbers_room = p.numbers_room;
+        adjacency_room = p.adjacency_room;
+        queue_room = p.queue_room;
+        offsets_room = p.offsets_room;
+        plane_triangles_room = p.plane_triangles_room;
+        plane_words_room = p.plane_words_room;
+        plane_floats_room = omega (arith, c.scene_bvh-nodes_count.auto.extents, p.plane_floats_room);
+        floats_room = omega (arith, c.scene_bvh-nodes_count.auto.boxes, p.floats_room);
+        plane_edges_room = omega (arith, c.scene_bvh-nodes_count.auto.areas, p.plane_edges_room);
+      };
     }
 
 pub shape_of-tree : goal.shape_of-tree
@@ -97,16 +97,16 @@ pub shape_of-leaf_order : goal.shape_of-leaf_order
 shape_of-leaf_order c = c.scene_bvh-nodes_count.auto.leaf_order
 
 pub shape_of-keys : goal.shape_of-keys
-shape_of-keys c = ◌∙◌ {c.scene_bvh-nodes_count = length c.scene_bvh-nodes_count.last.1.1.1.1.1.0} {c = length c.args.keys.now} c.build_planes-planes.auto.keys c.scene_bvh-nodes_count.kept.1.1.1.1.1.0
+shape_of-keys c = ◌∙◌ {b = length c.scene_bvh-nodes_count.new.keys} {c = length c.args.keys.now} c.build_planes-planes.auto.keys c.scene_bvh-nodes_count.auto.keys
 
 pub shape_of-low_keys : goal.shape_of-low_keys
 shape_of-low_keys c = c.build_planes-planes.auto.low_keys
 
 pub shape_of-words : goal.shape_of-words
-shape_of-words c = ◌∙◌ {c.scene_bvh-nodes_count = length c.scene_bvh-nodes_count.last.1.1.1.1.1.1.1.0} {c = length c.args.words.now} c.build_planes-planes.auto.words c.scene_bvh-nodes_count.kept.1.1.1.1.1.1.1.0
+shape_of-words c = ◌∙◌ {b = length c.scene_bvh-nodes_count.new.words} {c = length c.args.words.now} c.build_planes-planes.auto.words c.scene_bvh-nodes_count.auto.words
 
 pub shape_of-scratch : goal.shape_of-scratch
-shape_of-scratch c = ◌∙◌ {c.scene_bvh-nodes_count = length c.scene_bvh-nodes_count.last.1.1.1.1.1.1.1.1.0} {c = length c.args.scratch.now} c.build_planes-planes.auto.scratch c.scene_bvh-nodes_count.kept.1.1.1.1.1.1.1.1.0
+shape_of-scratch c = ◌∙◌ {b = length c.scene_bvh-nodes_count.new.scratch} {c = length c.args.scratch.now} c.build_planes-planes.auto.scratch c.scene_bvh-nodes_count.auto.scratch
 
 pub shape_of-index : goal.shape_of-index
 shape_of-index c = c.build_planes-planes.auto.index
@@ -124,39 +124,39 @@ pub shape_of-offsets : goal.shape_of-offsets
 shape_of-offsets c = c.build_planes-planes.auto.offsets
 
 pub shape_of-floats : goal.shape_of-floats
-shape_of-floats c = ◌∙◌ {c.scene_bvh-nodes_count = length c.scene_bvh-nodes_count.last.1.1.1.1.1.1.1.1.1.1.0} {c = length c.args.floats.now} c.build_planes-planes.auto.floats c.scene_bvh-nodes_count.kept.1.1.1.1.1.1.1.1.1.1.0
+shape_of-floats c = ◌∙◌ {b = length c.scene_bvh-nodes_count.new.boxes} {c = length c.args.floats.now} c.build_planes-planes.auto.floats c.scene_bvh-nodes_count.auto.boxes
 
 pub shape_of-plane_triangles : goal.shape_of-plane_triangles
 shape_of-plane_triangles c = c.build_planes-planes.auto.plane_triangles
 
 pub shape_of-plane_floats : goal.shape_of-plane_floats
-shape_of-plane_floats c = ◌∙◌ {c.scene_bvh-nodes_count = length c.scene_bvh-nodes_count.last.1.1.1.1.0} {c = length c.args.plane_floats.now} c.build_planes-planes.auto.plane_floats c.scene_bvh-nodes_count.kept.1.1.1.1.0
+shape_of-plane_floats c = ◌∙◌ {b = length c.scene_bvh-nodes_count.new.extents} {c = length c.args.plane_floats.now} c.build_planes-planes.auto.plane_floats c.scene_bvh-nodes_count.auto.extents
 
 pub shape_of-plane_words : goal.shape_of-plane_words
 shape_of-plane_words c = c.build_planes-planes.auto.plane_words
 
 pub shape_of-plane_edges : goal.shape_of-plane_edges
-shape_of-plane_edges c = ◌∙◌ {c.scene_bvh-nodes_count = length c.scene_bvh-nodes_count.last.1.1.1.1.1.1.1.1.1.0} {c = length c.args.plane_edges.now} c.build_planes-planes.auto.plane_edges c.scene_bvh-nodes_count.kept.1.1.1.1.1.1.1.1.1.0
+shape_of-plane_edges c = ◌∙◌ {b = length c.scene_bvh-nodes_count.new.areas} {c = length c.args.plane_edges.now} c.build_planes-planes.auto.plane_edges c.scene_bvh-nodes_count.auto.areas
 
 pub returns : goal.returns
 returns c =
+    let same-length-11 = c.build_planes-planes.auto.queue in
+    let same-length-12 = c.build_planes-planes.auto.offsets in
+    let same-length-7 = ◌∙◌ {b = length c.scene_bvh-nodes_count.new.scratch} {c = length c.args.scratch.now} c.build_planes-planes.auto.scratch c.scene_bvh-nodes_count.auto.scratch in
+    let same-length-13 = ◌∙◌ {b = length c.scene_bvh-nodes_count.new.boxes} {c = length c.args.floats.now} c.build_planes-planes.auto.floats c.scene_bvh-nodes_count.auto.boxes in
     let same-length-9 = c.build_planes-planes.auto.numbers in
     let same-length-10 = c.build_planes-planes.auto.adjacency in
+    let same-length-6 = ◌∙◌ {b = length c.scene_bvh-nodes_count.new.words} {c = length c.args.words.now} c.build_planes-planes.auto.words c.scene_bvh-nodes_count.auto.words in
     let same-length-8 = c.build_planes-planes.auto.index in
     let same-length-5 = c.build_planes-planes.auto.low_keys in
-    let same-length-4 = ◌∙◌ {c.scene_bvh-nodes_count = length c.scene_bvh-nodes_count.last.1.1.1.1.1.0} {c = length c.args.keys.now} c.build_planes-planes.auto.keys c.scene_bvh-nodes_count.kept.1.1.1.1.1.0 in
-    let same-length-13 = ◌∙◌ {c.scene_bvh-nodes_count = length c.scene_bvh-nodes_count.last.1.1.1.1.1.1.1.1.1.1.0} {c = length c.args.floats.now} c.build_planes-planes.auto.floats c.scene_bvh-nodes_count.kept.1.1.1.1.1.1.1.1.1.1.0 in
-    let same-length-12 = c.build_planes-planes.auto.offsets in
-    let same-length-6 = ◌∙◌ {c.scene_bvh-nodes_count = length c.scene_bvh-nodes_count.last.1.1.1.1.1.1.1.0} {c = length c.args.words.now} c.build_planes-planes.auto.words c.scene_bvh-nodes_count.kept.1.1.1.1.1.1.1.0 in
-    let same-length-7 = ◌∙◌ {c.scene_bvh-nodes_count = length c.scene_bvh-nodes_count.last.1.1.1.1.1.1.1.1.0} {c = length c.args.scratch.now} c.build_planes-planes.auto.scratch c.scene_bvh-nodes_count.kept.1.1.1.1.1.1.1.1.0 in
-    let same-length-11 = c.build_planes-planes.auto.queue in
+    let same-length-4 = ◌∙◌ {b = length c.scene_bvh-nodes_count.new.keys} {c = length c.args.keys.now} c.build_planes-planes.auto.keys c.scene_bvh-nodes_count.auto.keys in
     let a = c.args in record {
       tree_stands = c.scene_bvh-nodes_count.ensures.stands;
       planes_stand = record {
         are = λ s found l cleared.
-            let w = scene_tree_from_zero s a.triangles.now a.handles.now a.n a.m c.scene_bvh-nodes_count.last.1.1.1.1.1.1.1.1.1.1.1.0 (take a.m c.scene_bvh-nodes_count.last.1.1.1.1.1.1.0) c.scene_bvh-nodes_count.last.1.1.1.1.1.1.1.1.1.1.1.1.0 c.scene_bvh-nodes_count.result (c.scene_bvh-nodes_count.ensures.stands s found l cleared) in
-            planes_are (triangles s) a.triangles.now a.handles.now a.n a.m s.materials w.triangles_read a.settings (take (12 * a.m - 0) (drop 0 c.scene_bvh-nodes_count.last.1.1.1.1.1.1.1.1.1.1.1.1.0)) c.scene_bvh-nodes_count.last.1.1.1.1.1.1.1.1.1.1.1.0 (take a.m c.scene_bvh-nodes_count.last.1.1.1.1.1.1.0) (rows_in a.m c.scene_bvh-nodes_count.last.1.1.1.1.1.1.1.1.1.1.1.1.0)
-            c.scene_bvh-nodes_count.result c.build_planes-planes.last.1.1.1.1.1.1.1.1.1.1.1.1.1.1.1.1.1.1.1.1.1.0 c.build_planes-planes.last.1.1.1.1.1.1.1.1.1.1.1.1.1.1.1.1.1.1.1.1.1.1.0 c.build_planes-planes.last.1.1.1.1.1.1.1.1.1.1.1.1.1.1.1.1.1.1.1.1.0 c.build_planes-planes.last.1.1.1.1.1.1.1.1.1.1.1.1.1.1.1.1.1.1.1.1.1.1.1.0 c.build_planes-planes.result w.tree c.build_planes-planes.ensures.by_index;
+            let w = scene_tree_from_zero s a.triangles.now a.handles.now a.n a.m c.scene_bvh-nodes_count.new.nodes (take a.m c.scene_bvh-nodes_count.new.leaf_order) c.scene_bvh-nodes_count.new.tree c.scene_bvh-nodes_count.result (c.scene_bvh-nodes_count.ensures.stands s found l cleared) in
+            planes_are (triangles s) a.triangles.now a.handles.now a.n a.m s.materials w.triangles_read a.settings (take (12 * a.m - 0) (drop 0 c.scene_bvh-nodes_count.new.tree)) c.scene_bvh-nodes_count.new.nodes (take a.m c.scene_bvh-nodes_count.new.leaf_order) (rows_in a.m c.scene_bvh-nodes_count.new.tree)
+            c.scene_bvh-nodes_count.result c.build_planes-planes.new.plane_floats c.build_planes-planes.new.plane_words c.build_planes-planes.new.plane_triangles c.build_planes-planes.new.plane_edges c.build_planes-planes.result w.tree c.build_planes-planes.ensures.by_index;
         most = c.build_planes-planes.ensures.upper_bound.0;
         held = c.build_planes-planes.ensures.upper_bound.1;
       };

@@ -8,30 +8,8 @@ use lib.ListN.{length, take}
 use Rattle.sequences.specs.Allowed.{upto, at}
 use Rattle.search.specs.Contract.{SearchAreas, search_areas, state, firsts_of, Sound, SearchReady, Visitable, Visited, Walked}
 use Rattle.search.proofs.Walks as law
-use borrow.Fn.Kinds.{In}
-use borrow.Fn.PlainCycle.{Measures, is, falls, and}
-use Rattle.search.proofs.expand_images.Reads as expand
-use Rattle.search.proofs.expand_images.Kinds as kinds
-use Rattle.search.proofs.+expand_images.Lts-expand_images as lts
-use Rattle.search.proofs.may.Reads as may
-use Rattle.search.proofs.push.Reads as push
-use Rattle.search.proofs.too_far.Reads as too_far
-use Rattle.search.proofs.passed_over.Reads as passed
-use Rattle.search.proofs.visit.Reads as visit
-use Rattle.search.proofs.last_planes.Reads as last
-use Rattle.search.proofs.+expand_images.{statement}
-use Rattle.search.proofs.+expand_images.Tie.{close}
 
-abbrev μ_expand : Measures 15 kinds.ps ℕ
-μ_expand κs a = a.1.1.1.1.1.1.1.1.1.1.1.0.order - a.1.1.1.1.1.1.1.1.1.1.1.1.0
-
-abbrev expand_at : ℕ → In 15 kinds.ps
-expand_at t = and 15 kinds.ps (is 15 kinds.ps μ_expand t) expand.Pre
-
-abbrev expand_below : ℕ → In 15 kinds.ps
-expand_below t = and 15 kinds.ps (falls 15 kinds.ps ◌<◌ μ_expand t) expand.Pre
-
-abbrev invariant-loop : lts.invariant-loop
+abbrev invariant-loop : tie.invariant-loop
 invariant-loop padded nodes perm rows handles materials columns floats words members edges q depth seq₀ images₀ fs₀ ws₀ s₀ p₀ seq images fs ws s p =
     (p ≤ q.count)
     × (length seq ≡ length seq₀)
@@ -40,12 +18,12 @@ invariant-loop padded nodes perm rows handles materials columns floats words mem
     × (length ws ≡ length ws₀)
     × Walked (search_areas padded nodes perm rows handles materials columns floats words members edges) q depth (upto (at (firsts_of (search_areas padded nodes perm rows handles materials columns floats words members edges) q) (q.order - (depth + 1)) (take depth seq₀)) p) (state seq₀ images₀ s₀) fs₀ ws₀ (state seq images s) fs ws
 
-abbrev decreases-loop : lts.decreases-loop
+abbrev decreases-loop : tie.decreases-loop
 decreases-loop padded nodes perm rows handles materials columns floats words members edges q depth seq₀ images₀ fs₀ ws₀ s₀ p₀ seq images fs ws s p = q.count - p
 
 -- too far or not, the image was visited
 joined :
-    (t : ℕ) (c : lts.Joined4 (may.Asked, may.Learnt, push.Asked, push.Learnt, too_far.Asked, too_far.Learnt, passed.Asked, passed.Learnt, visit.Asked, visit.Learnt, last.Asked, last.Learnt, expand_below t, expand.Post) (expand_at t) expand.Post invariant-loop decreases-loop) →
+    (t : ℕ) (c : tie.Joined4) →
     let a = c.before.before.before.before.before.before.before.before.before.before.before.before.before.before.before.before.before.before.before.before.before.before.before.before.before.before.before.before.before.before.before.before.before.before.args in
     Visited (search_areas a.padded.now a.nodes.now a.leaf_order.now a.leaves.now a.handles.now a.materials.now a.triangles.now a.plane_floats.now a.plane_words.now a.plane_triangles.now a.plane_edges.now) a.q (a.depth + 1) c.before.before.before.before.before.before.before.push.new.1.1.1.1.1.0
     c.before.before.before.before.before.before.before.before.before.before.before.before.before.before.before.before.before.before.loop.s c.before.before.before.before.before.before.before.before.before.before.before.before.before.before.before.before.before.before.loop.candidate-floats
@@ -56,7 +34,7 @@ joined t c =
     let b7 = c.before.before.before.before.before.before.before in
     let b34 = b7.before.before.before.before.before.before.before.before.before.before.before.before.before.before.before.before.before.before.before.before.before.before.before.before.before.before.before in
     let a = b34.args in
-    let pre = b34.requires.1 in
+    let pre = b34.requires in
     let l = c.before.before.before.before.before.before.before.before.before.before.before.before.before.before.before.before.before.before.loop in
     let S : SearchAreas = (search_areas a.padded.now a.nodes.now a.leaf_order.now a.leaves.now a.handles.now a.materials.now a.triangles.now a.plane_floats.now a.plane_words.now a.plane_triangles.now a.plane_edges.now) in
     let r : SearchReady S a.q a.depth (state l.seq l.images l.s) l.candidate-floats l.candidate-words =
@@ -69,7 +47,7 @@ joined t c =
     (λ w. rw (w.10, w.11, w.12) (w.5.ensures, w.5.kept.1.1.1.1.1.1.1.1.1.1.1.1.1.1.1.1.0, w.5.kept.1.1.1.1.1.1.1.1.1.1.1.1.1.1.1.1.1.0))
     c.if4.branch
 
-loop-holds : (t : ℕ) → lts.Need-loop-init (may.Asked, may.Learnt, push.Asked, push.Learnt, too_far.Asked, too_far.Learnt, passed.Asked, passed.Learnt, visit.Asked, visit.Learnt, last.Asked, last.Learnt, expand_below t, expand.Post) (expand_at t) expand.Post invariant-loop decreases-loop
+loop-holds : tie.Need-loop-init
 unfolding upto
 loop-holds t c =
     let a = c.before.before.before.before.before.before.before.before.before.before.before.before.before.before.before.args in (
@@ -79,21 +57,21 @@ loop-holds t c =
       refl,
       refl,
       law.walked_none (search_areas a.padded.now a.nodes.now a.leaf_order.now a.leaves.now a.handles.now a.materials.now a.triangles.now a.plane_floats.now a.plane_words.now a.plane_triangles.now a.plane_edges.now) a.q a.depth (state a.seq.now a.images.now a.t)
-          a.candidate-floats.now a.candidate-words.now c.before.before.before.before.before.before.before.before.before.before.before.before.before.before.before.requires.1.sound,
+          a.candidate-floats.now a.candidate-words.now c.before.before.before.before.before.before.before.before.before.before.before.before.before.before.before.requires.sound,
     )
 
-add-p : (t : ℕ) → lts.Need-overflow-add-p (may.Asked, may.Learnt, push.Asked, push.Learnt, too_far.Asked, too_far.Learnt, passed.Asked, passed.Learnt, visit.Asked, visit.Learnt, last.Asked, last.Learnt, expand_below t, expand.Post) (expand_at t) expand.Post invariant-loop decreases-loop
+add-p : tie.Need-overflow-add-p
 add-p t c =
-    omega (arith, c.if1.true, c.before.before.before.before.before.before.before.before.before.before.before.before.before.before.before.before.before.before.requires.1.small)
+    omega (arith, c.if1.true, c.before.before.before.before.before.before.before.before.before.before.before.before.before.before.before.before.before.before.requires.small)
 
-loop-less : (t : ℕ) → lts.Need-loop-smaller (may.Asked, may.Learnt, push.Asked, push.Learnt, too_far.Asked, too_far.Learnt, passed.Asked, passed.Learnt, visit.Asked, visit.Learnt, last.Asked, last.Learnt, expand_below t, expand.Post) (expand_at t) expand.Post invariant-loop decreases-loop
+loop-less : tie.Need-loop-smaller
 loop-less t c =
     omega (arith, c.before.before.before.if1.true)
 
-loop-again : (t : ℕ) → lts.Need-loop-preserved (may.Asked, may.Learnt, push.Asked, push.Learnt, too_far.Asked, too_far.Learnt, passed.Asked, passed.Learnt, visit.Asked, visit.Learnt, last.Asked, last.Learnt, expand_below t, expand.Post) (expand_at t) expand.Post invariant-loop decreases-loop
+loop-again : tie.Need-loop-preserved
 loop-again t c =
     let a = c.before.before.before.before.before.before.before.before.before.before.before.before.before.before.before.before.before.before.before.before.before.args in
-    let pre = c.before.before.before.before.before.before.before.before.before.before.before.before.before.before.before.before.before.before.before.before.before.requires.1 in
+    let pre = c.before.before.before.before.before.before.before.before.before.before.before.before.before.before.before.before.before.before.before.before.before.requires in
     let l = c.before.before.before.before.before.loop in
     let S : SearchAreas = (search_areas a.padded.now a.nodes.now a.leaf_order.now a.leaves.now a.handles.now a.materials.now a.triangles.now a.plane_floats.now a.plane_words.now a.plane_triangles.now a.plane_edges.now) in (
       omega (arith, c.before.before.before.if1.true),
@@ -105,59 +83,59 @@ loop-again t c =
           (law.walked_full S a.q a.depth _ (state l.seq l.images l.s) l.candidate-floats l.candidate-words c.if2.true l.invariant.5.sound),
     )
 
-may-requires : (t : ℕ) → lts.Need-may-requires (may.Asked, may.Learnt, push.Asked, push.Learnt, too_far.Asked, too_far.Learnt, passed.Asked, passed.Learnt, visit.Asked, visit.Learnt, last.Asked, last.Learnt, expand_below t, expand.Post) (expand_at t) expand.Post invariant-loop decreases-loop
+may-requires : tie.Need-may-requires
 may-requires t c κs =
     let a = c.before.before.before.before.before.before.before.before.before.before.before.before.before.before.before.before.before.before.before.before.before.before.args in
-    let pre = c.before.before.before.before.before.before.before.before.before.before.before.before.before.before.before.before.before.before.before.before.before.before.requires.1 in
+    let pre = c.before.before.before.before.before.before.before.before.before.before.before.before.before.before.before.before.before.before.before.before.before.before.requires in
     let l = c.before.before.before.before.before.before.loop in
     let S : SearchAreas = (search_areas a.padded.now a.nodes.now a.leaf_order.now a.leaves.now a.handles.now a.materials.now a.triangles.now a.plane_floats.now a.plane_words.now a.plane_triangles.now a.plane_edges.now) in
     let h = pre.lent.planes.held in
     ((omega (arith, pre.deep, pre.within, l.invariant.5.sound.seq_room), c.before.before.before.before.if1.true), (h.floats_room, h.words_room))
 
-push-requires : (t : ℕ) → lts.Need-push-requires (may.Asked, may.Learnt, push.Asked, push.Learnt, too_far.Asked, too_far.Learnt, passed.Asked, passed.Learnt, visit.Asked, visit.Learnt, last.Asked, last.Learnt, expand_below t, expand.Post) (expand_at t) expand.Post invariant-loop decreases-loop
+push-requires : tie.Need-push-requires
 push-requires t c κs =
     let a = c.before.before.before.before.before.before.before.before.before.before.before.before.before.before.before.before.before.before.before.before.before.before.before.before.before.before.args in
-    let pre = c.before.before.before.before.before.before.before.before.before.before.before.before.before.before.before.before.before.before.before.before.before.before.before.before.before.before.requires.1 in
+    let pre = c.before.before.before.before.before.before.before.before.before.before.before.before.before.before.before.before.before.before.before.before.before.before.before.before.before.before.requires in
     let l = c.before.before.before.before.before.before.before.before.before.before.loop in
     let S : SearchAreas = (search_areas a.padded.now a.nodes.now a.leaf_order.now a.leaves.now a.handles.now a.materials.now a.triangles.now a.plane_floats.now a.plane_words.now a.plane_triangles.now a.plane_edges.now) in
     let h = pre.lent.planes.held in
     ((omega (arith, pre.deep, pre.within, l.invariant.5.sound.seq_room), omega (arith, pre.deep, pre.within, l.invariant.5.sound.images_room), c.before.before.before.before.before.before.before.before.if1.true, pre.small), (h.floats_room, h.words_room))
 
-add-too-far : (t : ℕ) → lts.Need-overflow-add-too-far (may.Asked, may.Learnt, push.Asked, push.Learnt, too_far.Asked, too_far.Learnt, passed.Asked, passed.Learnt, visit.Asked, visit.Learnt, last.Asked, last.Learnt, expand_below t, expand.Post) (expand_at t) expand.Post invariant-loop decreases-loop
+add-too-far : tie.Need-overflow-add-too-far
 add-too-far t c =
     omega (
       arith,
-      c.before.before.before.before.before.before.before.before.before.before.before.before.before.before.before.before.before.before.before.before.before.before.before.before.before.before.before.before.before.before.before.before.requires.1.deep,
-      c.before.before.before.before.before.before.before.before.before.before.before.before.before.before.before.before.before.before.before.before.before.before.before.before.before.before.before.before.before.before.before.before.requires.1.within,
+      c.before.before.before.before.before.before.before.before.before.before.before.before.before.before.before.before.before.before.before.before.before.before.before.before.before.before.before.before.before.before.before.before.requires.deep,
+      c.before.before.before.before.before.before.before.before.before.before.before.before.before.before.before.before.before.before.before.before.before.before.before.before.before.before.before.before.before.before.before.before.requires.within,
     )
 
-too-far-requires : (t : ℕ) → lts.Need-too-far-requires (may.Asked, may.Learnt, push.Asked, push.Learnt, too_far.Asked, too_far.Learnt, passed.Asked, passed.Learnt, visit.Asked, visit.Learnt, last.Asked, last.Learnt, expand_below t, expand.Post) (expand_at t) expand.Post invariant-loop decreases-loop
+too-far-requires : tie.Need-too-far-requires
 too-far-requires t c κs =
-    let pre = c.before.before.before.before.before.before.before.before.before.before.before.before.before.before.before.before.before.before.before.before.before.before.before.before.before.before.before.before.before.before.before.before.requires.1 in
+    let pre = c.before.before.before.before.before.before.before.before.before.before.before.before.before.before.before.before.before.before.before.before.before.before.before.before.before.before.before.before.before.before.before.before.requires in
     omega (arith, pre.deep, pre.within, c.before.before.before.before.before.before.before.before.before.before.before.before.before.before.before.before.loop.invariant.5.sound.images_room, c.before.before.before.before.before.push.auto.1.1.1.1.1.1.0)
 
-passed-over-requires : (t : ℕ) → lts.Need-passed-over-requires (may.Asked, may.Learnt, push.Asked, push.Learnt, too_far.Asked, too_far.Learnt, passed.Asked, passed.Learnt, visit.Asked, visit.Learnt, last.Asked, last.Learnt, expand_below t, expand.Post) (expand_at t) expand.Post invariant-loop decreases-loop
+passed-over-requires : tie.Need-passed-over-requires
 passed-over-requires t c κs =
     omega (
       arith,
       c.before.before.before.before.before.before.before.before.before.before.before.before.before.if2.false,
-      c.before.before.before.before.before.before.before.before.before.before.before.before.before.before.before.before.before.before.before.before.before.before.before.before.before.before.before.before.before.before.before.before.before.before.requires.1.bound,
+      c.before.before.before.before.before.before.before.before.before.before.before.before.before.before.before.before.before.before.before.before.before.before.before.before.before.before.before.before.before.before.before.before.before.before.requires.bound,
     )
 
-add-visit : (t : ℕ) → lts.Need-overflow-add-visit (may.Asked, may.Learnt, push.Asked, push.Learnt, too_far.Asked, too_far.Learnt, passed.Asked, passed.Learnt, visit.Asked, visit.Learnt, last.Asked, last.Learnt, expand_below t, expand.Post) (expand_at t) expand.Post invariant-loop decreases-loop
+add-visit : tie.Need-overflow-add-visit
 add-visit t c =
     omega (
       arith,
-      c.before.before.before.before.before.before.before.before.before.before.before.before.before.before.before.before.before.before.before.before.before.before.before.before.before.before.before.before.before.before.before.before.before.before.requires.1.deep,
-      c.before.before.before.before.before.before.before.before.before.before.before.before.before.before.before.before.before.before.before.before.before.before.before.before.before.before.before.before.before.before.before.before.before.before.requires.1.within,
+      c.before.before.before.before.before.before.before.before.before.before.before.before.before.before.before.before.before.before.before.before.before.before.before.before.before.before.before.before.before.before.before.before.before.before.requires.deep,
+      c.before.before.before.before.before.before.before.before.before.before.before.before.before.before.before.before.before.before.before.before.before.before.before.before.before.before.before.before.before.before.before.before.before.before.requires.within,
     )
 
-visit-requires : (t : ℕ) → lts.Need-visit-requires (may.Asked, may.Learnt, push.Asked, push.Learnt, too_far.Asked, too_far.Learnt, passed.Asked, passed.Learnt, visit.Asked, visit.Learnt, last.Asked, last.Learnt, expand_below t, expand.Post) (expand_at t) expand.Post invariant-loop decreases-loop
+visit-requires : tie.Need-visit-requires
 visit-requires t c κs =
     let b11 = c.before.before.before.before.before.before.before.before.before.before.before in
     let b38 = b11.before.before.before.before.before.before.before.before.before.before.before.before.before.before.before.before.before.before.before.before.before.before.before.before.before.before.before in
     let a = b38.args in
-    let pre = b38.requires.1 in
+    let pre = b38.requires in
     let l = c.before.before.before.before.before.before.before.before.before.before.before.before.before.before.before.before.before.before.before.before.before.before.loop in
     let S : SearchAreas = (search_areas a.padded.now a.nodes.now a.leaf_order.now a.leaves.now a.handles.now a.materials.now a.triangles.now a.plane_floats.now a.plane_words.now a.plane_triangles.now a.plane_edges.now) in
     let r : SearchReady S a.q a.depth (state l.seq l.images l.s) l.candidate-floats l.candidate-words =
@@ -165,22 +143,22 @@ visit-requires t c κs =
     law.visitable_push S a.q a.depth l.p l.seq b11.push.new.1.1.1.1.1.0 l.images b11.push.new.1.1.1.1.1.1.0 l.s b11.push.ensures.0 (b11.push.ensures.1 a.plane_triangles.now a.plane_edges.now) l.candidate-floats l.candidate-words r
     c.before.before.before.before.before.before.before.before.before.before.before.before.before.before.before.before.before.before.before.before.if1.true c.before.before.before.before.before.before.before.before.before.before.before.before.before.before.before.before.before.if2.false
 
-add-if5 : (t : ℕ) → lts.Need-overflow-add-if5 (may.Asked, may.Learnt, push.Asked, push.Learnt, too_far.Asked, too_far.Learnt, passed.Asked, passed.Learnt, visit.Asked, visit.Learnt, last.Asked, last.Learnt, expand_below t, expand.Post) (expand_at t) expand.Post invariant-loop decreases-loop
+add-if5 : tie.Need-overflow-add-if5
 add-if5 t c =
     omega (
       arith,
-      c.before.before.before.before.before.before.before.before.before.before.before.before.before.before.before.before.before.before.before.before.before.before.before.before.before.before.before.before.before.before.before.before.before.before.requires.1.deep,
-      c.before.before.before.before.before.before.before.before.before.before.before.before.before.before.before.before.before.before.before.before.before.before.before.before.before.before.before.before.before.before.before.before.before.before.requires.1.within,
+      c.before.before.before.before.before.before.before.before.before.before.before.before.before.before.before.before.before.before.before.before.before.before.before.before.before.before.before.before.before.before.before.before.before.before.requires.deep,
+      c.before.before.before.before.before.before.before.before.before.before.before.before.before.before.before.before.before.before.before.before.before.before.before.before.before.before.before.before.before.before.before.before.before.before.requires.within,
     )
 
-loop-less-2 : (t : ℕ) → lts.Need-loop-smaller-2 (may.Asked, may.Learnt, push.Asked, push.Learnt, too_far.Asked, too_far.Learnt, passed.Asked, passed.Learnt, visit.Asked, visit.Learnt, last.Asked, last.Learnt, expand_below t, expand.Post) (expand_at t) expand.Post invariant-loop decreases-loop
+loop-less-2 : tie.Need-loop-smaller-2
 loop-less-2 t c =
     omega (arith, c.before.before.before.before.before.before.before.before.before.before.before.before.before.before.before.before.before.before.if1.true)
 
-loop-again-2 : (t : ℕ) → lts.Need-loop-preserved-2 (may.Asked, may.Learnt, push.Asked, push.Learnt, too_far.Asked, too_far.Learnt, passed.Asked, passed.Learnt, visit.Asked, visit.Learnt, last.Asked, last.Learnt, expand_below t, expand.Post) (expand_at t) expand.Post invariant-loop decreases-loop
+loop-again-2 : tie.Need-loop-preserved-2
 loop-again-2 t c =
     let a = c.before.before.before.before.before.before.before.before.before.before.before.before.before.before.before.before.before.before.before.before.before.before.before.before.before.before.before.before.before.before.before.before.before.before.before.before.args in
-    let pre = c.before.before.before.before.before.before.before.before.before.before.before.before.before.before.before.before.before.before.before.before.before.before.before.before.before.before.before.before.before.before.before.before.before.before.before.before.requires.1 in
+    let pre = c.before.before.before.before.before.before.before.before.before.before.before.before.before.before.before.before.before.before.before.before.before.before.before.before.before.before.before.before.before.before.before.before.before.before.before.before.requires in
     let l = c.before.before.before.before.before.before.before.before.before.before.before.before.before.before.before.before.before.before.before.before.loop in
     let S : SearchAreas = (search_areas a.padded.now a.nodes.now a.leaf_order.now a.leaves.now a.handles.now a.materials.now a.triangles.now a.plane_floats.now a.plane_words.now a.plane_triangles.now a.plane_edges.now) in
     let r : SearchReady S a.q a.depth (state l.seq l.images l.s) l.candidate-floats l.candidate-words =
@@ -204,26 +182,26 @@ loop-again-2 t c =
           j.0 sound (omega (arith, c.if5.true))),
     )
 
-add-if6 : (t : ℕ) → lts.Need-overflow-add-if6 (may.Asked, may.Learnt, push.Asked, push.Learnt, too_far.Asked, too_far.Learnt, passed.Asked, passed.Learnt, visit.Asked, visit.Learnt, last.Asked, last.Learnt, expand_below t, expand.Post) (expand_at t) expand.Post invariant-loop decreases-loop
+add-if6 : tie.Need-overflow-add-if6
 add-if6 t c =
     omega (
       arith,
-      c.before.before.before.before.before.before.before.before.before.before.before.before.before.before.before.before.before.before.before.before.before.before.before.before.before.before.before.before.before.before.before.before.before.before.before.before.requires.1.deep,
-      c.before.before.before.before.before.before.before.before.before.before.before.before.before.before.before.before.before.before.before.before.before.before.before.before.before.before.before.before.before.before.before.before.before.before.before.before.requires.1.within,
+      c.before.before.before.before.before.before.before.before.before.before.before.before.before.before.before.before.before.before.before.before.before.before.before.before.before.before.before.before.before.before.before.before.before.before.before.before.requires.deep,
+      c.before.before.before.before.before.before.before.before.before.before.before.before.before.before.before.before.before.before.before.before.before.before.before.before.before.before.before.before.before.before.before.before.before.before.before.before.requires.within,
     )
 
-add-last-planes : (t : ℕ) → lts.Need-overflow-add-last-planes (may.Asked, may.Learnt, push.Asked, push.Learnt, too_far.Asked, too_far.Learnt, passed.Asked, passed.Learnt, visit.Asked, visit.Learnt, last.Asked, last.Learnt, expand_below t, expand.Post) (expand_at t) expand.Post invariant-loop decreases-loop
+add-last-planes : tie.Need-overflow-add-last-planes
 add-last-planes t c =
     omega (
       arith,
-      c.before.before.before.before.before.before.before.before.before.before.before.before.before.before.before.before.before.before.before.before.before.before.before.before.before.before.before.before.before.before.before.before.before.before.before.before.before.before.requires.1.deep,
-      c.before.before.before.before.before.before.before.before.before.before.before.before.before.before.before.before.before.before.before.before.before.before.before.before.before.before.before.before.before.before.before.before.before.before.before.before.before.before.requires.1.within,
+      c.before.before.before.before.before.before.before.before.before.before.before.before.before.before.before.before.before.before.before.before.before.before.before.before.before.before.before.before.before.before.before.before.before.before.before.before.before.before.requires.deep,
+      c.before.before.before.before.before.before.before.before.before.before.before.before.before.before.before.before.before.before.before.before.before.before.before.before.before.before.before.before.before.before.before.before.before.before.before.before.before.before.requires.within,
     )
 
-last-planes-requires : (t : ℕ) → lts.Need-last-planes-requires (may.Asked, may.Learnt, push.Asked, push.Learnt, too_far.Asked, too_far.Learnt, passed.Asked, passed.Learnt, visit.Asked, visit.Learnt, last.Asked, last.Learnt, expand_below t, expand.Post) (expand_at t) expand.Post invariant-loop decreases-loop
+last-planes-requires : tie.Need-last-planes-requires
 last-planes-requires t c κs =
     let a = c.before.before.before.before.before.before.before.before.before.before.before.before.before.before.before.before.before.before.before.before.before.before.before.before.before.before.before.before.before.before.before.before.before.before.before.before.before.before.before.before.before.before.args in
-    let pre = c.before.before.before.before.before.before.before.before.before.before.before.before.before.before.before.before.before.before.before.before.before.before.before.before.before.before.before.before.before.before.before.before.before.before.before.before.before.before.before.before.before.before.requires.1 in
+    let pre = c.before.before.before.before.before.before.before.before.before.before.before.before.before.before.before.before.before.before.before.before.before.before.before.before.before.before.before.before.before.before.before.before.before.before.before.before.before.before.before.before.before.before.requires in
     let l = c.before.before.before.before.before.before.before.before.before.before.before.before.before.before.before.before.before.before.before.before.before.before.before.before.before.before.loop in
     let S : SearchAreas = (search_areas a.padded.now a.nodes.now a.leaf_order.now a.leaves.now a.handles.now a.materials.now a.triangles.now a.plane_floats.now a.plane_words.now a.plane_triangles.now a.plane_edges.now) in
     let r : SearchReady S a.q a.depth (state l.seq l.images l.s) l.candidate-floats l.candidate-words =
@@ -240,14 +218,14 @@ last-planes-requires t c κs =
           (arith, c.before.before.before.before.if6.true)) j.1 j.2 sound,
     )
 
-loop-less-3 : (t : ℕ) → lts.Need-loop-smaller-3 (may.Asked, may.Learnt, push.Asked, push.Learnt, too_far.Asked, too_far.Learnt, passed.Asked, passed.Learnt, visit.Asked, visit.Learnt, last.Asked, last.Learnt, expand_below t, expand.Post) (expand_at t) expand.Post invariant-loop decreases-loop
+loop-less-3 : tie.Need-loop-smaller-3
 loop-less-3 t c =
     omega (arith, c.before.before.before.before.before.before.before.before.before.before.before.before.before.before.before.before.before.before.before.before.before.before.before.before.before.before.before.before.before.before.before.before.before.if1.true)
 
-loop-again-3 : (t : ℕ) → lts.Need-loop-preserved-3 (may.Asked, may.Learnt, push.Asked, push.Learnt, too_far.Asked, too_far.Learnt, passed.Asked, passed.Learnt, visit.Asked, visit.Learnt, last.Asked, last.Learnt, expand_below t, expand.Post) (expand_at t) expand.Post invariant-loop decreases-loop
+loop-again-3 : tie.Need-loop-preserved-3
 loop-again-3 t c =
     let a = c.before.before.before.before.before.before.before.before.before.before.before.before.before.before.before.before.before.before.before.before.before.before.before.before.before.before.before.before.before.before.before.before.before.before.before.before.before.before.before.before.before.before.before.before.before.before.before.before.before.before.before.args in
-    let pre = c.before.before.before.before.before.before.before.before.before.before.before.before.before.before.before.before.before.before.before.before.before.before.before.before.before.before.before.before.before.before.before.before.before.before.before.before.before.before.before.before.before.before.before.before.before.before.before.before.before.before.before.requires.1 in
+    let pre = c.before.before.before.before.before.before.before.before.before.before.before.before.before.before.before.before.before.before.before.before.before.before.before.before.before.before.before.before.before.before.before.before.before.before.before.before.before.before.before.before.before.before.before.before.before.before.before.before.before.before.before.requires in
     let l = c.before.before.before.before.before.before.before.before.before.before.before.before.before.before.before.before.before.before.before.before.before.before.before.before.before.before.before.before.before.before.before.before.before.before.before.loop in
     let S : SearchAreas = (search_areas a.padded.now a.nodes.now a.leaf_order.now a.leaves.now a.handles.now a.materials.now a.triangles.now a.plane_floats.now a.plane_words.now a.plane_triangles.now a.plane_edges.now) in
     let r : SearchReady S a.q a.depth (state l.seq l.images l.s) l.candidate-floats l.candidate-words =
@@ -266,18 +244,18 @@ loop-again-3 t c =
           ∙ c.before.before.before.before.before.before.before.before.before.before.before.before.before.before.before.before.before.before.before.before.before.before.before.before.before.before.before.if3.true) c.before.before.before.before.before.before.before.before.before.before.before.before.before.before.before.before.before.before.before.before.before.before.before.before.push.ensures.0 j.0 c.before.before.before.before.before.before.before.before.last-planes.ensures),
     )
 
-add-expand-images : (t : ℕ) → lts.Need-overflow-add-expand-images (may.Asked, may.Learnt, push.Asked, push.Learnt, too_far.Asked, too_far.Learnt, passed.Asked, passed.Learnt, visit.Asked, visit.Learnt, last.Asked, last.Learnt, expand_below t, expand.Post) (expand_at t) expand.Post invariant-loop decreases-loop
+add-expand-images : tie.Need-overflow-add-expand-images
 add-expand-images t c =
     omega (
       arith,
-      c.before.before.before.before.before.before.before.before.before.before.before.before.before.before.before.before.before.before.before.before.before.before.before.before.before.before.before.before.before.before.before.before.before.before.before.before.before.before.requires.1.deep,
-      c.before.before.before.before.before.before.before.before.before.before.before.before.before.before.before.before.before.before.before.before.before.before.before.before.before.before.before.before.before.before.before.before.before.before.before.before.before.before.requires.1.within,
+      c.before.before.before.before.before.before.before.before.before.before.before.before.before.before.before.before.before.before.before.before.before.before.before.before.before.before.before.before.before.before.before.before.before.before.before.before.before.before.requires.deep,
+      c.before.before.before.before.before.before.before.before.before.before.before.before.before.before.before.before.before.before.before.before.before.before.before.before.before.before.before.before.before.before.before.before.before.before.before.before.before.before.requires.within,
     )
 
-expand-images-requires : (t : ℕ) → lts.Need-expand-images-requires (may.Asked, may.Learnt, push.Asked, push.Learnt, too_far.Asked, too_far.Learnt, passed.Asked, passed.Learnt, visit.Asked, visit.Learnt, last.Asked, last.Learnt, expand_below t, expand.Post) (expand_at t) expand.Post invariant-loop decreases-loop
+expand-images-requires : tie.Need-expand-images-requires
 expand-images-requires t c κs =
     let a = c.before.before.before.before.before.before.before.before.before.before.before.before.before.before.before.before.before.before.before.before.before.before.before.before.before.before.before.before.before.before.before.before.before.before.before.before.before.before.before.before.before.before.args in
-    let pre = c.before.before.before.before.before.before.before.before.before.before.before.before.before.before.before.before.before.before.before.before.before.before.before.before.before.before.before.before.before.before.before.before.before.before.before.before.before.before.before.before.before.before.requires.1 in
+    let pre = c.before.before.before.before.before.before.before.before.before.before.before.before.before.before.before.before.before.before.before.before.before.before.before.before.before.before.before.before.before.before.before.before.before.before.before.before.before.before.before.before.before.before.requires in
     let l = c.before.before.before.before.before.before.before.before.before.before.before.before.before.before.before.before.before.before.before.before.before.before.before.before.before.before.loop in
     let S : SearchAreas = (search_areas a.padded.now a.nodes.now a.leaf_order.now a.leaves.now a.handles.now a.materials.now a.triangles.now a.plane_floats.now a.plane_words.now a.plane_triangles.now a.plane_edges.now) in
     let r : SearchReady S a.q a.depth (state l.seq l.images l.s) l.candidate-floats l.candidate-words =
@@ -289,19 +267,19 @@ expand-images-requires t c κs =
     let j = joined t c.before.before.before.before.before.before.before.before in
     let sound : Sound S a.q (a.depth + 1) (state c.before.before.before.before.before.before.before.before.before.before.before.before.before.before.before.push.new.1.1.1.1.1.0 c.before.before.before.before.before.before.before.before.before.before.before.before.before.before.before.push.new.1.1.1.1.1.1.0 c.before.before.before.before.before.before.before.before.if4.s) =
     law.sound_visit S a.q (a.depth + 1) c.before.before.before.before.before.before.before.before.before.before.before.before.before.before.before.push.new.1.1.1.1.1.0 c.before.before.before.before.before.before.before.before.before.before.before.before.before.before.before.push.new.1.1.1.1.1.1.0 l.s c.before.before.before.before.before.before.before.before.if4.s l.candidate-floats c.before.before.before.before.before.before.before.before.if4.candidate-floats l.candidate-words c.before.before.before.before.before.before.before.before.if4.candidate-words j.0 v.sound in (
-      omega (arith, c.before.before.before.before.before.before.before.before.before.before.before.before.before.before.before.before.before.before.before.before.before.before.before.before.before.before.before.before.before.before.before.before.before.before.before.before.before.before.before.before.before.before.requires.0, pre.deep),
+      omega (arith, c.before.before.before.before.before.before.before.before.before.before.before.before.before.before.before.before.before.before.before.before.before.before.before.before.before.before.before.before.before.before.before.before.before.before.before.before.before.before.before.before.before.before.requires.MEASURE, pre.deep),
       law.ready_same S a.q a.depth (a.depth + 1) (state l.seq l.images l.s) (state c.before.before.before.before.before.before.before.before.before.before.before.before.before.before.before.push.new.1.1.1.1.1.0 c.before.before.before.before.before.before.before.before.before.before.before.before.before.before.before.push.new.1.1.1.1.1.1.0 c.before.before.before.before.before.before.before.before.if4.s) l.candidate-floats c.before.before.before.before.before.before.before.before.if4.candidate-floats l.candidate-words c.before.before.before.before.before.before.before.before.if4.candidate-words r (omega
           (arith, pre.deep, c.before.before.before.before.before.before.if5.false)) j.1 j.2 sound,
     )
 
-loop-less-4 : (t : ℕ) → lts.Need-loop-smaller-4 (may.Asked, may.Learnt, push.Asked, push.Learnt, too_far.Asked, too_far.Learnt, passed.Asked, passed.Learnt, visit.Asked, visit.Learnt, last.Asked, last.Learnt, expand_below t, expand.Post) (expand_at t) expand.Post invariant-loop decreases-loop
+loop-less-4 : tie.Need-loop-smaller-4
 loop-less-4 t c =
     omega (arith, c.before.before.before.before.before.before.before.before.before.before.before.before.before.before.before.before.before.before.before.before.before.before.before.before.before.before.before.before.before.before.before.before.before.if1.true)
 
-loop-again-4 : (t : ℕ) → lts.Need-loop-preserved-4 (may.Asked, may.Learnt, push.Asked, push.Learnt, too_far.Asked, too_far.Learnt, passed.Asked, passed.Learnt, visit.Asked, visit.Learnt, last.Asked, last.Learnt, expand_below t, expand.Post) (expand_at t) expand.Post invariant-loop decreases-loop
+loop-again-4 : tie.Need-loop-preserved-4
 loop-again-4 t c =
     let a = c.before.before.before.before.before.before.before.before.before.before.before.before.before.before.before.before.before.before.before.before.before.before.before.before.before.before.before.before.before.before.before.before.before.before.before.before.before.before.before.before.before.before.before.before.before.before.before.before.before.before.before.args in
-    let pre = c.before.before.before.before.before.before.before.before.before.before.before.before.before.before.before.before.before.before.before.before.before.before.before.before.before.before.before.before.before.before.before.before.before.before.before.before.before.before.before.before.before.before.before.before.before.before.before.before.before.before.before.requires.1 in
+    let pre = c.before.before.before.before.before.before.before.before.before.before.before.before.before.before.before.before.before.before.before.before.before.before.before.before.before.before.before.before.before.before.before.before.before.before.before.before.before.before.before.before.before.before.before.before.before.before.before.before.before.before.before.requires in
     let l = c.before.before.before.before.before.before.before.before.before.before.before.before.before.before.before.before.before.before.before.before.before.before.before.before.before.before.before.before.before.before.before.before.before.before.before.loop in
     let S : SearchAreas = (search_areas a.padded.now a.nodes.now a.leaf_order.now a.leaves.now a.handles.now a.materials.now a.triangles.now a.plane_floats.now a.plane_words.now a.plane_triangles.now a.plane_edges.now) in
     let r : SearchReady S a.q a.depth (state l.seq l.images l.s) l.candidate-floats l.candidate-words =
@@ -320,14 +298,14 @@ loop-again-4 t c =
           ∙ c.before.before.before.before.before.before.before.before.before.before.before.before.before.before.before.before.before.before.before.before.before.before.before.before.before.before.before.if3.true) c.before.before.before.before.before.before.before.before.before.before.before.before.before.before.before.before.before.before.before.before.before.before.before.before.push.ensures.0 j.0 c.before.before.before.before.before.before.before.before.expand-images.ensures),
     )
 
-loop-less-5 : (t : ℕ) → lts.Need-loop-smaller-5 (may.Asked, may.Learnt, push.Asked, push.Learnt, too_far.Asked, too_far.Learnt, passed.Asked, passed.Learnt, visit.Asked, visit.Learnt, last.Asked, last.Learnt, expand_below t, expand.Post) (expand_at t) expand.Post invariant-loop decreases-loop
+loop-less-5 : tie.Need-loop-smaller-5
 loop-less-5 t c =
     omega (arith, c.before.before.before.before.before.before.if1.true)
 
-loop-again-5 : (t : ℕ) → lts.Need-loop-preserved-5 (may.Asked, may.Learnt, push.Asked, push.Learnt, too_far.Asked, too_far.Learnt, passed.Asked, passed.Learnt, visit.Asked, visit.Learnt, last.Asked, last.Learnt, expand_below t, expand.Post) (expand_at t) expand.Post invariant-loop decreases-loop
+loop-again-5 : tie.Need-loop-preserved-5
 loop-again-5 t c =
     let a = c.before.before.before.before.before.before.before.before.before.before.before.before.before.before.before.before.before.before.before.before.before.before.before.before.args in
-    let pre = c.before.before.before.before.before.before.before.before.before.before.before.before.before.before.before.before.before.before.before.before.before.before.before.before.requires.1 in
+    let pre = c.before.before.before.before.before.before.before.before.before.before.before.before.before.before.before.before.before.before.before.before.before.before.before.before.requires in
     let l = c.before.before.before.before.before.before.before.before.loop in
     let S : SearchAreas = (search_areas a.padded.now a.nodes.now a.leaf_order.now a.leaves.now a.handles.now a.materials.now a.triangles.now a.plane_floats.now a.plane_words.now a.plane_triangles.now a.plane_edges.now) in (
       omega (arith, c.before.before.before.before.before.before.if1.true),
@@ -339,26 +317,26 @@ loop-again-5 t c =
           (law.walked_not S a.q a.depth (a.q.order - (a.depth + 1)) l.p (state l.seq l.images l.s) l.candidate-floats l.candidate-words (sym (c.before.may.ensures a.plane_triangles.now a.plane_edges.now) ∙ c.if3.false) l.invariant.5.sound),
     )
 
-same_length : (t : ℕ) → lts.Need-same-length (may.Asked, may.Learnt, push.Asked, push.Learnt, too_far.Asked, too_far.Learnt, passed.Asked, passed.Learnt, visit.Asked, visit.Learnt, last.Asked, last.Learnt, expand_below t, expand.Post) (expand_at t) expand.Post invariant-loop decreases-loop
+same_length : tie.Need-same-length
 same_length t c =
     c.before.before.loop.invariant.1
 
-same-length-2 : (t : ℕ) → lts.Need-same-length-2 (may.Asked, may.Learnt, push.Asked, push.Learnt, too_far.Asked, too_far.Learnt, passed.Asked, passed.Learnt, visit.Asked, visit.Learnt, last.Asked, last.Learnt, expand_below t, expand.Post) (expand_at t) expand.Post invariant-loop decreases-loop
+same-length-2 : tie.Need-same-length-2
 same-length-2 t c =
     c.before.before.loop.invariant.2
 
-same-length-3 : (t : ℕ) → lts.Need-same-length-3 (may.Asked, may.Learnt, push.Asked, push.Learnt, too_far.Asked, too_far.Learnt, passed.Asked, passed.Learnt, visit.Asked, visit.Learnt, last.Asked, last.Learnt, expand_below t, expand.Post) (expand_at t) expand.Post invariant-loop decreases-loop
+same-length-3 : tie.Need-same-length-3
 same-length-3 t c =
     c.before.before.loop.invariant.3
 
-same-length-4 : (t : ℕ) → lts.Need-same-length-4 (may.Asked, may.Learnt, push.Asked, push.Learnt, too_far.Asked, too_far.Learnt, passed.Asked, passed.Learnt, visit.Asked, visit.Learnt, last.Asked, last.Learnt, expand_below t, expand.Post) (expand_at t) expand.Post invariant-loop decreases-loop
+same-length-4 : tie.Need-same-length-4
 same-length-4 t c =
     c.before.before.loop.invariant.4
 
-returns : (t : ℕ) → lts.Need-returns (may.Asked, may.Learnt, push.Asked, push.Learnt, too_far.Asked, too_far.Learnt, passed.Asked, passed.Learnt, visit.Asked, visit.Learnt, last.Asked, last.Learnt, expand_below t, expand.Post) (expand_at t) expand.Post invariant-loop decreases-loop
+returns : tie.Need-returns
 returns t c =
     let a = c.before.before.before.before.before.before.before.before.before.before.before.before.before.before.before.before.before.before.args in
-    let pre = c.before.before.before.before.before.before.before.before.before.before.before.before.before.before.before.before.before.before.requires.1 in
+    let pre = c.before.before.before.before.before.before.before.before.before.before.before.before.before.before.before.before.before.before.requires in
     let l = c.before.before.loop in
     let S : SearchAreas = (search_areas a.padded.now a.nodes.now a.leaf_order.now a.leaves.now a.handles.now a.materials.now a.triangles.now a.plane_floats.now a.plane_words.now a.plane_triangles.now a.plane_edges.now) in
     let e : l.p ≡ a.q.count = omega (arith, c.if1.false, l.invariant.0) in
@@ -366,39 +344,35 @@ returns t c =
 
 pub +expand_images_spec : {M : Type 1} → statement M
 +expand_images_spec =
-    close μ_expand λ t. lts.spec
-    (may.Asked, may.Learnt, push.Asked, push.Learnt, too_far.Asked, too_far.Learnt, passed.Asked, passed.Learnt, visit.Asked, visit.Learnt, last.Asked, last.Learnt, expand_below t, expand.Post)
-    (expand_at t)
-    expand.Post
-    invariant-loop
+    tie.close (tie.spec invariant-loop
     decreases-loop
-    (loop-holds t)
-    (add-p t)
-    (loop-less t)
-    (loop-again t)
-    (may-requires t)
-    (push-requires t)
-    (add-too-far t)
-    (too-far-requires t)
-    (passed-over-requires t)
-    (add-visit t)
-    (visit-requires t)
-    (add-if5 t)
-    (loop-less-2 t)
-    (loop-again-2 t)
-    (add-if6 t)
-    (add-last-planes t)
-    (last-planes-requires t)
-    (loop-less-3 t)
-    (loop-again-3 t)
-    (add-expand-images t)
-    (expand-images-requires t)
-    (loop-less-4 t)
-    (loop-again-4 t)
-    (loop-less-5 t)
-    (loop-again-5 t)
-    (same_length t)
-    (same-length-2 t)
-    (same-length-3 t)
-    (same-length-4 t)
-    (returns t)
+    loop-holds
+    add-p
+    loop-less
+    loop-again
+    may-requires
+    push-requires
+    add-too-far
+    too-far-requires
+    passed-over-requires
+    add-visit
+    visit-requires
+    add-if5
+    loop-less-2
+    loop-again-2
+    add-if6
+    add-last-planes
+    last-planes-requires
+    loop-less-3
+    loop-again-3
+    add-expand-images
+    expand-images-requires
+    loop-less-4
+    loop-again-4
+    loop-less-5
+    loop-again-5
+    same_length
+    same-length-2
+    same-length-3
+    same-length-4
+    returns)

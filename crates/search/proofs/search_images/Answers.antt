@@ -13,11 +13,11 @@ use Rattle.search.proofs.search_images.Goals as goal
 
 pub returns-then-order-eq0 : goal.returns-then-order-eq0
 returns-then-order-eq0 c = let a = c.args in record {
-      searched = λ tri t h. searched_none (on_bytes (planes_in a.plane_floats.now a.plane_words.now a.plane_triangles.now a.plane_edges.now a.count) a.source) a.order a.room (outcomes_of a.settings (planes_in a.plane_floats.now a.plane_words.now a.plane_triangles.now a.plane_edges.now a.count) tri t a.materials.now a.source a.listener)
+  searched = λ tri t h. searched_none (on_bytes (planes_in a.plane_floats.now a.plane_words.now a.plane_triangles.now a.plane_edges.now a.count) a.source) a.order a.room (outcomes_of a.settings (planes_in a.plane_floats.now a.plane_words.now a.plane_triangles.now a.plane_edges.now a.count) tri t a.materials.now a.source a.listener)
       a.candidate_floats.now a.candidate_words.now c.if-order-eq0.true;
-      few = omega arith;
-      rest = (refl, refl);
-    }
+  few = omega arith;
+  rest = (refl, refl);
+}
 
 pub expand_images-s-requires : goal.expand_images-s-requires
 expand_images-s-requires c =
@@ -49,8 +49,8 @@ shape_of-candidate_words c = c.expand_images-s.auto.candidate_words
 
 pub returns : goal.returns
 returns c =
-    let same_length = c.expand_images-s.auto.candidate_floats in
     let same-length-2 = c.expand_images-s.auto.candidate_words in
+    let same_length = c.expand_images-s.auto.candidate_floats in
     let a = c.args in
     let b = c.first_images-images.ensures in
     let q : Task = record { listener = a.listener; beyond = c.square_beyond-beyond.result; n = a.n; count = a.count; order = a.order; nodes_count = a.nodes_count; room = a.room; source = a.source; limit = most; settings = a.settings } in

@@ -37,12 +37,12 @@ clamp-requires-8 c = tt
 pub returns : goal.returns
 unfolding clamped_of
 returns c = rw (
-      ← c.clamp.ensures,
-      ← c.clamp-2.ensures,
-      ← c.clamp-3.ensures,
-      ← c.clamp-4.ensures,
-      ← c.clamp-5.ensures,
-      ← c.clamp-6.ensures,
-      ← c.clamp-7.ensures,
-      ← c.clamp-8.ensures,
-    )
+  ← c.clamp.ensures,
+  ← c.clamp-2.ensures,
+  ← c.clamp-3.ensures,
+  ← c.clamp-4.ensures,
+  ← c.clamp-5.ensures,
+  ← c.clamp-6.ensures,
+  ← c.clamp-7.ensures,
+  ← c.clamp-8.ensures,
+)

@@ -17,11 +17,11 @@ sqrt-requires c = tt
 pub returns-then-is_finite : goal.returns-then-is_finite
 unfolding coefficient_of
 returns-then-is_finite c = rw (
-      ← c.is_finite.ensures,
-      c.if-is_finite.true,
-      ← c.clamp.ensures,
-      ← c.sqrt.ensures,
-    )
+  ← c.is_finite.ensures,
+  c.if-is_finite.true,
+  ← c.clamp.ensures,
+  ← c.sqrt.ensures,
+)
 
 pub sqrt-requires-2 : goal.sqrt-requires-2
 unfolding coefficient_of

@@ -37,12 +37,12 @@ coefficient-requires-8 c = tt
 pub returns : goal.returns
 unfolding coefficients_of
 returns c = rw (
-      ← c.coefficient.ensures,
-      ← c.coefficient-2.ensures,
-      ← c.coefficient-3.ensures,
-      ← c.coefficient-4.ensures,
-      ← c.coefficient-5.ensures,
-      ← c.coefficient-6.ensures,
-      ← c.coefficient-7.ensures,
-      ← c.coefficient-8.ensures,
-    )
+  ← c.coefficient.ensures,
+  ← c.coefficient-2.ensures,
+  ← c.coefficient-3.ensures,
+  ← c.coefficient-4.ensures,
+  ← c.coefficient-5.ensures,
+  ← c.coefficient-6.ensures,
+  ← c.coefficient-7.ensures,
+  ← c.coefficient-8.ensures,
+)

@@ -10,9 +10,9 @@ use Rattle.segments.proofs.segment_transmission.Goals as goal
 
 pub walk-requires : goal.walk-requires
 walk-requires c = record {
-      traceable = c.requires.traceable;
-      left_bound = omega (arith, c.requires.crossing_limit_bound);
-    }
+  traceable = c.requires.traceable;
+  left_bound = omega (arith, c.requires.crossing_limit_bound);
+}
 
 pub returns : goal.returns
 unfolding segment_transmission_of

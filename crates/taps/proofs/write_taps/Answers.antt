@@ -39,10 +39,6 @@ slice_bounds-write-end c = sym (c.put_taps.auto.taps ∙ c.fresh_taps-taps.ensur
 
 pub returns : goal.returns
 returns c =
-    let same-length-3 = search rules in
-    let same-length-4 = search rules in
-    let same_length = search rules in
-    let same-length-2 = search rules in
     let a = c.args in
     let p = c.requires in
     let e = ended a.speed a.rate a.limit a.n a.images a.candidate_floats.now a.candidate_words.now c.fresh_positions-kept.result _ _ p.few p.sendable
@@ -57,7 +53,7 @@ returns c =
       count = e.0;
       bytes = e.1.0;
       packet = e.1.1;
-      rest = (same_length, same-length-2, same-length-3, same-length-4);
+      rest = ((search rules), (search rules), (search rules), (search rules));
     }
 
 pub fresh_positions-kept-requires : goal.fresh_positions-kept-requires

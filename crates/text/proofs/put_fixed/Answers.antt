@@ -7,11 +7,10 @@ use Rattle.text.proofs.put_fixed.Goals as goal
 
 pub returns-then-m : goal.returns-then-m
 unfolding fixed_of
-returns-then-m c =
-    (
-      rw (← c.power-tens.ensures.0, ← c.scaled-m.ensures, eq-eqb _ _ c.if-m.true) c.put.ensures,
-      omega (arith, c.put.ensures.ends, c.put.auto, c.requires.1),
-    )
+returns-then-m c = (
+  rw (← c.power-tens.ensures.0, ← c.scaled-m.ensures, eq-eqb _ _ c.if-m.true) c.put.ensures,
+  omega (arith, c.put.ensures.ends, c.put.auto, c.requires.1),
+)
 
 pub put_parts-requires : goal.put_parts-requires
 put_parts-requires c =

@@ -7,9 +7,9 @@ use Rattle.text.proofs.scaled.Goals as goal
 pub truncating_f64_to_u64-requires : goal.truncating_f64_to_u64-requires
 unfolding of_bits neg
 truncating_f64_to_u64-requires c = record {
-      lower_bound = subst T (sym c.if-y.true) tt;
-      upper_bound = subst T (sym c.if-y-2.true) tt;
-    }
+  lower_bound = subst T (sym c.if-y.true) tt;
+  upper_bound = subst T (sym c.if-y-2.true) tt;
+}
 
 pub returns-then-y-2 : goal.returns-then-y-2
 unfolding scaled_of

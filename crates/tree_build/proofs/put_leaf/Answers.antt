@@ -21,9 +21,9 @@ slice_bounds-bounds-end c = let L = c.requires.listed in let R = c.requires.room
 
 pub bounds-b-requires : goal.bounds-b-requires
 bounds-b-requires c = let a = c.args in let L = c.requires.listed in record {
-      n_in_bounds = L.wide;
-      below = below_take a.n (a.hi - a.lo) (drop a.lo a.leaf_order.now) (below_drop a.n a.lo a.leaf_order.now L.inside);
-    }
+  n_in_bounds = L.wide;
+  below = below_take a.n (a.hi - a.lo) (drop a.lo a.leaf_order.now) (below_drop a.n a.lo a.leaf_order.now L.inside);
+}
 
 pub overflow_cast-lo : goal.overflow_cast-lo
 overflow_cast-lo c =

@@ -21,9 +21,9 @@ returns-then-hi-lo-le4 c =
 
 pub split_part-requires : goal.split_part-requires
 split_part-requires c = record {
-      listed = c.requires.listed;
-      sorts = c.requires.sorts;
-    }
+  listed = c.requires.listed;
+  sorts = c.requires.sorts;
+}
 
 pub shape_of-leaf_order : goal.shape_of-leaf_order
 shape_of-leaf_order c = c.split_part.auto.leaf_order

@@ -7,18 +7,18 @@ use Rattle.tree_split.proofs.search_axes.Goals as goal
 
 pub centroid_aabb-m-requires : goal.centroid_aabb-m-requires
 centroid_aabb-m-requires c = let S = c.requires in record {
-      n_in_bounds = S.wide;
-      below = S.inside;
-    }
+  n_in_bounds = S.wide;
+  below = S.inside;
+}
 
 pub search_axis-c1-requires : goal.search_axis-c1-requires
 search_axis-c1-requires c = let S = c.requires in let k = S.keyed in record {
-      n_in_bounds = S.wide;
-      below = S.inside;
-      part_nonzero = (S.some, S.few);
-      part_in_bounds = (S.words_room, S.scratch_room, S.areas_room);
-      n_in_bounds_2 = (k.xs, k.xo);
-    }
+  n_in_bounds = S.wide;
+  below = S.inside;
+  part_nonzero = (S.some, S.few);
+  part_in_bounds = (S.words_room, S.scratch_room, S.areas_room);
+  n_in_bounds_2 = (k.xs, k.xo);
+}
 
 pub search_axis-c2-requires : goal.search_axis-c2-requires
 search_axis-c2-requires c =

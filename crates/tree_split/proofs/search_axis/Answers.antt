@@ -13,10 +13,10 @@ returns-then-span c =
 
 pub sort_by_centroid-requires : goal.sort_by_centroid-requires
 sort_by_centroid-requires c = let pre = c.requires in let r = pre.part_in_bounds in record {
-      below = pre.below;
-      part_in_bounds = (r.0, r.1);
-      n_in_bounds = pre.n_in_bounds_2;
-    }
+  below = pre.below;
+  part_in_bounds = (r.0, r.1);
+  n_in_bounds = pre.n_in_bounds_2;
+}
 
 pub suffix_areas-requires : goal.suffix_areas-requires
 suffix_areas-requires c =

@@ -5,10 +5,10 @@ use Rattle.tree_split.proofs.sort_by_axis.Goals as goal
 
 pub sort_by_centroid-requires : goal.sort_by_centroid-requires
 sort_by_centroid-requires c = let pre = c.requires in let k = pre.keyed in record {
-      below = pre.below;
-      part_in_bounds = pre.part_in_bounds;
-      n_in_bounds = (k.xs, rw c.if-axis-eq0.true k.xo);
-    }
+  below = pre.below;
+  part_in_bounds = pre.part_in_bounds;
+  n_in_bounds = (k.xs, rw c.if-axis-eq0.true k.xo);
+}
 
 pub shape_of-part-then-axis-eq0 : goal.shape_of-part-then-axis-eq0
 shape_of-part-then-axis-eq0 c = c.sort_by_centroid.auto.part
@@ -24,10 +24,10 @@ returns-then-axis-eq0 c = c.sort_by_centroid.ensures
 
 pub sort_by_centroid-requires-then-axis-eq1 : goal.sort_by_centroid-requires-then-axis-eq1
 sort_by_centroid-requires-then-axis-eq1 c = let pre = c.requires in let k = pre.keyed in record {
-      below = pre.below;
-      part_in_bounds = pre.part_in_bounds;
-      n_in_bounds = (k.ys, rw c.if-axis-eq1.true k.yo);
-    }
+  below = pre.below;
+  part_in_bounds = pre.part_in_bounds;
+  n_in_bounds = (k.ys, rw c.if-axis-eq1.true k.yo);
+}
 
 pub shape_of-part-then-axis-eq1 : goal.shape_of-part-then-axis-eq1
 shape_of-part-then-axis-eq1 c = c.sort_by_centroid-then-axis-eq1.auto.part

@@ -9,10 +9,10 @@ use Rattle.tree_split.proofs.sort_by_centroid.Goals as goal
 
 pub sort_by_key-requires : goal.sort_by_key-requires
 sort_by_key-requires c = let p = c.requires in record {
-      index_in_bounds = p.part_in_bounds.0;
-      index_in_bounds_2 = p.part_in_bounds.1;
-      below = below_more _ _ _ p.n_in_bounds.0 p.below;
-    }
+  index_in_bounds = p.part_in_bounds.0;
+  index_in_bounds_2 = p.part_in_bounds.1;
+  below = below_more _ _ _ p.n_in_bounds.0 p.below;
+}
 
 pub shape_of-part : goal.shape_of-part
 shape_of-part c = c.sort_by_key.auto.index

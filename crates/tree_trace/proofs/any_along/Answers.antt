@@ -25,9 +25,9 @@ is_along-requires-3 c = tt
 pub returns : goal.returns
 unfolding any_along_of
 returns c = rw (
-      ← c.is_along.ensures,
-      c.if-is_along.false,
-      ← c.is_along-2.ensures,
-      c.if-is_along-2.false,
-      ← c.is_along-3.ensures,
-    )
+  ← c.is_along.ensures,
+  c.if-is_along.false,
+  ← c.is_along-2.ensures,
+  c.if-is_along-2.false,
+  ← c.is_along-3.ensures,
+)

@@ -31,10 +31,10 @@ enters-requires c = rw c.way_of-way.ensures
 pub trace-requires : goal.trace-requires
 unfolding way_of
 trace-requires c = record {
-      held = c.requires.held;
-      i_lt_count = c.requires.count_nonzero;
-      way_value = rw c.way_of-way.ensures;
-    }
+  held = c.requires.held;
+  i_lt_count = c.requires.count_nonzero;
+  way_value = rw c.way_of-way.ensures;
+}
 
 pub returns-then-enters : goal.returns-then-enters
 unfolding way_of

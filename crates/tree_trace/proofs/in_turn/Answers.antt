@@ -7,19 +7,19 @@ use Rattle.tree_trace.proofs.in_turn.Goals as goal
 
 pub returns-then-ta-tb : goal.returns-then-ta-tb
 returns-then-ta-tb c = record {
-      list = rw (c.in-At.is, c.in-At-b.is, c.if-ta-tb.true);
-      first = λ ne. inl (refl, ap entered c.in-At.is);
-      second = λ ne nf. inr (refl, c.in-At-b.is);
-      both = λ m x y. (x, y);
-    }
+  list = rw (c.in-At.is, c.in-At-b.is, c.if-ta-tb.true);
+  first = λ ne. inl (refl, ap entered c.in-At.is);
+  second = λ ne nf. inr (refl, c.in-At-b.is);
+  both = λ m x y. (x, y);
+}
 
 pub returns-else-ta-tb : goal.returns-else-ta-tb
 returns-else-ta-tb c = record {
-      list = rw (c.in-At.is, c.in-At-b.is, c.if-ta-tb.false);
-      first = λ ne. inr (refl, ap entered c.in-At-b.is);
-      second = λ ne nf. inl (refl, c.in-At.is);
-      both = λ m x y. (y, x);
-    }
+  list = rw (c.in-At.is, c.in-At-b.is, c.if-ta-tb.false);
+  first = λ ne. inr (refl, ap entered c.in-At-b.is);
+  second = λ ne nf. inl (refl, c.in-At.is);
+  both = λ m x y. (y, x);
+}
 
 pub returns-in-Miss-b : goal.returns-in-Miss-b
 unfolding only_of
@@ -45,11 +45,11 @@ returns-in-At-b-2 c =
 
 pub returns-in-Miss-b-2 : goal.returns-in-Miss-b-2
 returns-in-Miss-b-2 c = record {
-      list = rw (c.in-Miss.is, c.in-Miss-b-2.is);
-      first = λ ne. absurd (ne refl);
-      second = λ ne nf. absurd (ne refl);
-      both = λ m x y. (x, y);
-    }
+  list = rw (c.in-Miss.is, c.in-Miss-b-2.is);
+  first = λ ne. absurd (ne refl);
+  second = λ ne nf. absurd (ne refl);
+  both = λ m x y. (x, y);
+}
 
 pub only-requires : goal.only-requires
 only-requires c = tt

@@ -5,9 +5,9 @@ use Rattle.tree_trace.proofs.intersect.Goals as goal
 
 pub closest_hit-c-requires : goal.closest_hit-c-requires
 closest_hit-c-requires c = record {
-      held = c.requires.held;
-      count_nonzero = c.requires.count_nonzero;
-    }
+  held = c.requires.held;
+  count_nonzero = c.requires.count_nonzero;
+}
 
 pub returns-then-c-eq0 : goal.returns-then-c-eq0
 returns-then-c-eq0 c =

@@ -25,21 +25,21 @@ beside-requires-3 c = tt
 pub returns-then-beside-3 : goal.returns-then-beside-3
 unfolding past_of
 returns-then-beside-3 c = rw (
-      ← c.beside.ensures,
-      c.if-beside.false,
-      ← c.beside-2.ensures,
-      c.if-beside-2.false,
-      ← c.beside-3.ensures,
-      c.if-beside-3.true,
-    )
+  ← c.beside.ensures,
+  c.if-beside.false,
+  ← c.beside-2.ensures,
+  c.if-beside-2.false,
+  ← c.beside-3.ensures,
+  c.if-beside-3.true,
+)
 
 pub returns : goal.returns
 unfolding past_of
 returns c = rw (
-      ← c.beside.ensures,
-      c.if-beside.false,
-      ← c.beside-2.ensures,
-      c.if-beside-2.false,
-      ← c.beside-3.ensures,
-      c.if-beside-3.false,
-    )
+  ← c.beside.ensures,
+  c.if-beside.false,
+  ← c.beside-2.ensures,
+  c.if-beside-2.false,
+  ← c.beside-3.ensures,
+  c.if-beside-3.false,
+)

@@ -36,7 +36,7 @@ returns-then-front-eq0 c = let a = c.args in let st = a.settings in let s = scen
       are = λ z some. absurd (let fr = fronted k s c.load_scene-loaded.result c.front_of-front.result l.answer c.front_of-front.ensures z in let no : ⊥ = omega (arith, fr.kept, some, c.if-front-eq0.true) in no);
       refused = λ no_answer. refl;
       bare = λ empty. refl;
-      unbuilt = λ empty. work_unbuilt k s areas c.load_scene-loaded.result c.load_scene-loaded.last.1.1.1.1.1.1.1.1.1.0 c.load_scene-loaded.last.1.1.1.1.1.1.1.1.1.1.0 l empty;
+      unbuilt = λ empty. work_unbuilt k s areas c.load_scene-loaded.result c.load_scene-loaded.new.triangles c.load_scene-loaded.new.handles l empty;
       few = omega arith;
       floats_room = omega arith;
       words_room = omega arith;
@@ -52,10 +52,10 @@ clear_from-requires c = let a = c.args in let st = a.settings in let s = scene a
     let some = pos_of_ne-zero c.if-front-eq0.false in
     let none = unrefused c.front_of-front.result.refusal c.front_of-front.result.kept (none_kept k s c.load_scene-loaded.result c.front_of-front.result l.answer c.front_of-front.ensures) some in
     let fr = fronted k s c.load_scene-loaded.result c.front_of-front.result l.answer c.front_of-front.ensures (sym is ∙ none) in
-    let there = loaded st a.c s lens a.triangles.now a.handles.now c.load_scene-loaded.result c.load_scene-loaded.last.1.1.1.1.1.1.1.1.1.0 c.load_scene-loaded.last.1.1.1.1.1.1.1.1.1.1.0 c.front_of-front.result.kept (placings s) c.front_of-front.result.triples fr.loaded l in
-    let acc = loaded_accepted st a.c s lens a.triangles.now a.handles.now c.load_scene-loaded.result c.load_scene-loaded.last.1.1.1.1.1.1.1.1.1.0 c.load_scene-loaded.last.1.1.1.1.1.1.1.1.1.1.0 c.front_of-front.result.kept (placings s) c.front_of-front.result.triples l fr.loaded in
+    let there = loaded st a.c s lens a.triangles.now a.handles.now c.load_scene-loaded.result c.load_scene-loaded.new.triangles c.load_scene-loaded.new.handles c.front_of-front.result.kept (placings s) c.front_of-front.result.triples fr.loaded l in
+    let acc = loaded_accepted st a.c s lens a.triangles.now a.handles.now c.load_scene-loaded.result c.load_scene-loaded.new.triangles c.load_scene-loaded.new.handles c.front_of-front.result.kept (placings s) c.front_of-front.result.triples l fr.loaded in
     let room = acc.room in
-    let lim = limits s c.load_scene-loaded.last.1.1.1.1.1.1.1.1.1.0 c.load_scene-loaded.last.1.1.1.1.1.1.1.1.1.1.0 c.front_of-front.result.triples c.front_of-front.result.kept there in omega (arith, lim.fewer, c.load_scene-loaded.kept.1.1.1.1.1.1.1.1.1.1.0, room.handles_room)
+    let lim = limits s c.load_scene-loaded.new.triangles c.load_scene-loaded.new.handles c.front_of-front.result.triples c.front_of-front.result.kept there in omega (arith, lim.fewer, c.load_scene-loaded.auto.handles, room.handles_room)
 
 pub build_scene-built-requires : goal.build_scene-built-requires
 build_scene-built-requires c = let a = c.args in let st = a.settings in let s = scene a.meshes.now a.transforms.now a.positions.now a.indices.now a.materials.now a.rows_count in
@@ -67,16 +67,16 @@ build_scene-built-requires c = let a = c.args in let st = a.settings in let s = 
     let some = pos_of_ne-zero c.if-front-eq0.false in
     let none = unrefused c.front_of-front.result.refusal c.front_of-front.result.kept (none_kept k s c.load_scene-loaded.result c.front_of-front.result l.answer c.front_of-front.ensures) some in
     let fr = fronted k s c.load_scene-loaded.result c.front_of-front.result l.answer c.front_of-front.ensures (sym is ∙ none) in
-    let there = loaded st a.c s lens a.triangles.now a.handles.now c.load_scene-loaded.result c.load_scene-loaded.last.1.1.1.1.1.1.1.1.1.0 c.load_scene-loaded.last.1.1.1.1.1.1.1.1.1.1.0 c.front_of-front.result.kept (placings s) c.front_of-front.result.triples fr.loaded l in
-    let acc = loaded_accepted st a.c s lens a.triangles.now a.handles.now c.load_scene-loaded.result c.load_scene-loaded.last.1.1.1.1.1.1.1.1.1.0 c.load_scene-loaded.last.1.1.1.1.1.1.1.1.1.1.0 c.front_of-front.result.kept (placings s) c.front_of-front.result.triples l fr.loaded in
+    let there = loaded st a.c s lens a.triangles.now a.handles.now c.load_scene-loaded.result c.load_scene-loaded.new.triangles c.load_scene-loaded.new.handles c.front_of-front.result.kept (placings s) c.front_of-front.result.triples fr.loaded l in
+    let acc = loaded_accepted st a.c s lens a.triangles.now a.handles.now c.load_scene-loaded.result c.load_scene-loaded.new.triangles c.load_scene-loaded.new.handles c.front_of-front.result.kept (placings s) c.front_of-front.result.triples l fr.loaded in
     let room = acc.room in
-    let lim = limits s c.load_scene-loaded.last.1.1.1.1.1.1.1.1.1.0 c.load_scene-loaded.last.1.1.1.1.1.1.1.1.1.1.0 c.front_of-front.result.triples c.front_of-front.result.kept there in record {
+    let lim = limits s c.load_scene-loaded.new.triangles c.load_scene-loaded.new.handles c.front_of-front.result.triples c.front_of-front.result.kept there in record {
       scene = s;
-      found = c.load_scene-loaded.last.1.1.1.1.1.1.1.1.1.1.0;
+      found = c.load_scene-loaded.new.handles;
       loaded = there;
       cleared = c.clear_from.ensures;
       some = some;
-      lent = record { few = omega (arith, lim.most); some = lim.fewer; columns = omega (arith, c.load_scene-loaded.kept.1.1.1.1.1.1.1.1.1.0, room.triangles_room); named = omega (arith, c.clear_from.auto.handles, c.load_scene-loaded.kept.1.1.1.1.1.1.1.1.1.1.0, room.handles_room) };
+      lent = record { few = omega (arith, lim.most); some = lim.fewer; columns = omega (arith, c.load_scene-loaded.auto.triangles, room.triangles_room); named = omega (arith, c.clear_from.auto.handles, c.load_scene-loaded.auto.handles, room.handles_room) };
       for_tree = record { tree_room = room.tree_room; nodes_room = room.nodes_room; leaf_order_room = room.leaf_order_room };
       for_planes = record {
         keys_room = omega (arith, room.keys_room);
@@ -100,8 +100,8 @@ pub shape_of-triangles : goal.shape_of-triangles
 shape_of-triangles c = c.load_scene-loaded.auto.triangles
 
 pub shape_of-handles : goal.shape_of-handles
-shape_of-handles c = ◌∙◌ {b = length c.load_scene-loaded.last.1.1.1.1.1.1.1.1.1.1.0} c.clear_from.kept.0
-    c.load_scene-loaded.kept.1.1.1.1.1.1.1.1.1.1.0
+shape_of-handles c = ◌∙◌ {b = length c.load_scene-loaded.new.handles} c.clear_from.auto.handles
+    c.load_scene-loaded.auto.handles
 
 pub shape_of-tree : goal.shape_of-tree
 shape_of-tree c = c.build_scene-built.auto.tree
@@ -165,12 +165,12 @@ returns c = let a = c.args in let st = a.settings in let s = scene a.meshes.now 
     c.if-front-eq0.false in
     let none = unrefused c.front_of-front.result.refusal c.front_of-front.result.kept (none_kept k s c.load_scene-loaded.result c.front_of-front.result l.answer c.front_of-front.ensures) some in
     let fr = fronted k s c.load_scene-loaded.result c.front_of-front.result l.answer c.front_of-front.ensures (sym is ∙ none) in
-    let there = loaded st a.c s lens a.triangles.now a.handles.now c.load_scene-loaded.result c.load_scene-loaded.last.1.1.1.1.1.1.1.1.1.0 c.load_scene-loaded.last.1.1.1.1.1.1.1.1.1.1.0 c.front_of-front.result.kept (placings s) c.front_of-front.result.triples fr.loaded l in
-    let acc = loaded_accepted st a.c s lens a.triangles.now a.handles.now c.load_scene-loaded.result c.load_scene-loaded.last.1.1.1.1.1.1.1.1.1.0 c.load_scene-loaded.last.1.1.1.1.1.1.1.1.1.1.0 c.front_of-front.result.kept (placings s) c.front_of-front.result.triples l fr.loaded in
+    let there = loaded st a.c s lens a.triangles.now a.handles.now c.load_scene-loaded.result c.load_scene-loaded.new.triangles c.load_scene-loaded.new.handles c.front_of-front.result.kept (placings s) c.front_of-front.result.triples fr.loaded l in
+    let acc = loaded_accepted st a.c s lens a.triangles.now a.handles.now c.load_scene-loaded.result c.load_scene-loaded.new.triangles c.load_scene-loaded.new.handles c.front_of-front.result.kept (placings s) c.front_of-front.result.triples l fr.loaded in
     let room = acc.room in let p = c.build_scene-built.ensures.planes_stand in let inside = within st a.c acc.settings in
     record {
       refusal = sym (sym is ∙ none);
-      are = λ z some. p.are s c.load_scene-loaded.last.1.1.1.1.1.1.1.1.1.1.0 there
+      are = λ z some. p.are s c.load_scene-loaded.new.handles there
           c.clear_from.ensures;
       refused = λ no_answer. absurd (no_answer (sym is ∙ none));
       bare = λ empty. absurd (let no : ⊥ = omega (arith, fr.kept, some, empty) in no);

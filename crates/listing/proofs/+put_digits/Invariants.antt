@@ -1,0 +1,5 @@
+-- The measure of `listing::put_digits`: the digits that may be written.
+use Rattle.listing.proofs.+put_digits.Given as goal
+
+abbrev pub decreases-put_digits : goal.decreases-put_digits
+decreases-put_digits l = l.most

@@ -1,0 +1,5 @@
+-- The measure of `text::put_last`: the digits left.
+use Rattle.text.proofs.+put_last.Given as goal
+
+abbrev pub decreases-put_last : goal.decreases-put_last
+decreases-put_last l = l.k
