@@ -52,11 +52,11 @@ module _ (trace : Ray → Hit) (pass : ℕ → Band8) where
   module _ (dir : Vec3) (left : ℕ) (o : Vec3) (r : Float) (g : Band8) (n : ℕ) where
     pub walk_end : lt (mul binary32 two occlusion_eps) r ≡ false → transmission g n ≡ walk_of trace pass dir left o r g n
     unfolding walk_of
-    walk_end e = elim left [ zero ↦ rw e | suc k ↦ rw e ]
+    walk_end e = elim left as (λ m. transmission g n ≡ walk_of trace pass dir m o r g n) [ zero ↦ rw e | suc k ↦ rw e ]
 
     pub walk_clear : lt (mul binary32 two occlusion_eps) r ≡ true → trace (segment_ray_of o dir r) ≡ Nothing → transmission g (n + 1) ≡ walk_of trace pass dir left o r g n
     unfolding walk_of
-    walk_clear e h = elim left [ zero ↦ rw (e, h) | suc k ↦ rw (e, h) ]
+    walk_clear e h = elim left as (λ m. transmission g (n + 1) ≡ walk_of trace pass dir m o r g n) [ zero ↦ rw (e, h) | suc k ↦ rw (e, h) ]
 
     pub walk_over :
         (x : RayHit) → left ≡ 0 → lt (mul binary32 two occlusion_eps) r ≡ true → trace (segment_ray_of o dir r) ≡ At x →
