@@ -1,11 +1,11 @@
 -- The size of a sum and of a quotient, and of a float that passed a test of its size.
-use mathlib.Core.Path.{◌≡◌, refl, sym, ap, subst, ◌∙◌}
-use mathlib.Core.Bool.{Bool, true, false, cond, not, ◌&&◌, ◌||◌, beq, true≢false}
+use mathlib.Core.Path.{◌≡◌, refl, sym, ap, subst}
+use mathlib.Core.Bool.{Bool, true, false, cond, not, ◌&&◌, beq, true≢false}
 use Prim.Native.Nat.{ℕ, ◌+◌, ◌-◌, ◌*◌, ◌^◌, ◌≤◌, ◌<◌, zero-le}
-use native.Mathlib.Nat.{le_trans, le_of_eq, mul-one, mul-pos, mul_assoc, mul_comm, mul_left_comm, mul_right_comm, mul-le-mul_right, add-mul, one-mul, zero-mul}
+use native.Mathlib.Nat.{le_trans, le_of_eq, mul-one, mul-pos, mul_assoc, mul_comm, mul-le-mul_right, add-mul, one-mul, zero-mul}
 use native.Mathlib.Omega.{arith}
 use lib.Dec.{T, ltb, eqb, ltb→lt, nltb→le, eqb→eq}
-use lib.IntN.{ℤ, pos, negsuc}
+use lib.IntN.{ℤ, pos}
 use lib.Ieee.{Float, nan, inf, fin, binary32, up, down, round, sum, add, div, neg, unlike, lt, eq, of_bits}
 use lib.Ieee.Fits.{down_pos, and_l}
 use Rattle.float.specs.Compare.{abs_of, is_finite}

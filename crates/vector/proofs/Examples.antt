@@ -5,7 +5,6 @@ use Rattle.float.specs.Literals.{zero32, one32}
 use Rattle.float.specs.Sqrt.{sqrt_of}
 use Rattle.vector.specs.Vector.{vec, dot3_of, cross3_of, length3_of, normalize3_of}
 use Rattle.vector.specs.Basis.{tangent_of, probe_basis_of, probe_angle_of, angle}
-use Rattle.vector.specs.Ray.{point_at_of}
 
 -- (1.5, 2.5, -1) · (0.1, 1, 3), rounded four times
 rounded_product :

@@ -1,0 +1,10 @@
+-- `booth::remarks::mesh_place` meets its contract: each turn is one token more.
+use Prim.Native.Nat.{◌-◌}
+use lib.ListN.{length}
+use Rattle.booth.proofs.remarks.mesh_place.Given as goal
+
+abbrev pub invariant-loop-k : goal.invariant-loop-k
+invariant-loop-k l = Unit {0}
+
+abbrev pub decreases-loop-k : goal.decreases-loop-k
+decreases-loop-k l = length l.s - l.k

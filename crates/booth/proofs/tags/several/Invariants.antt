@@ -1,0 +1,9 @@
+-- `booth::tags::several` meets its contract: each turn is one triangle more.
+use Prim.Native.Nat.{◌-◌}
+use Rattle.booth.proofs.tags.several.Given as goal
+
+abbrev pub invariant-loop-k : goal.invariant-loop-k
+invariant-loop-k l = Unit {0}
+
+abbrev pub decreases-loop-k : goal.decreases-loop-k
+decreases-loop-k l = l.count - l.k

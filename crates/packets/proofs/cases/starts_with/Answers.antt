@@ -1,0 +1,18 @@
+-- `packets::cases::starts_with` meets its contract: each index is below the length, and each turn brings it nearer.
+use Prim.Native.Nat.{◌-◌}
+use Rattle.packets.proofs.cases.starts_with.Goals as goal
+
+pub loop-i-init : goal.loop-i-init
+loop-i-init c = tt
+
+pub returns-then-b-i : goal.returns-then-b-i
+returns-then-b-i c = tt
+
+pub returns-then-a-i : goal.returns-then-a-i
+returns-then-a-i c = tt
+
+pub loop-i-preserved : goal.loop-i-preserved
+loop-i-preserved c = tt
+
+pub returns : goal.returns
+returns c = tt

@@ -1,0 +1,15 @@
+-- `packets::words::hex_words` meets its contract: there are no more digits than bytes seen.
+use Prim.Native.Nat.{◌-◌}
+use Rattle.packets.proofs.words.hex_words.Goals as goal
+
+pub returns-then-b-eq61 : goal.returns-then-b-eq61
+returns-then-b-eq61 c = tt
+
+pub hex_digit-requires : goal.hex_digit-requires
+hex_digit-requires c = tt
+
+pub put_hex-requires : goal.put_hex-requires
+put_hex-requires c = tt
+
+pub returns : goal.returns
+returns c = tt
