@@ -1,7 +1,7 @@
 -- Document 02's rule on numerals: halves go up, the exact value counts and not a rounded product, nothing is taken over no step, and little is left of much.
-use Rattle.std.proofs.Common.{◌≡◌, ℕ, ◌+◌, ◌*◌, pos, refl}
-use lib.Ieee.{Float, binary32, mul, div, of_int, of_bits}
-use Rattle.float.specs.Literals.{zero32, one32}
+use Rattle.std.proofs.Common.{◌≡◌, refl}
+use lib.Ieee.{binary32, mul, div, of_int, of_bits}
+use Rattle.float.specs.Literals.{zero32}
 use Rattle.air.specs.Table.{factor_table}
 use Rattle.air.specs.Air.{millimetres_of, steps_in, steps_of, factor_of_steps, band_of}
 

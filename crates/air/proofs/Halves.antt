@@ -1,8 +1,8 @@
 -- The millimetres of a float, from the whole part of 2,000 times it in binary64.
-use Rattle.std.proofs.Common.{◌≡◌, ℕ, zero, suc, ◌+◌, ◌-◌, ◌*◌, ◌/◌, ◌^◌, ◌<◌, ◌≤◌, min, Bool, true, false, cond, T, ℤ, pos, negsuc, sym, refl, ap, ◌∙◌, subst, true≢false, le_trans, le_of_eq, lt_of_lt_of_le, not-suc-le-zero, mul-le-mul_right, zero-lt-suc, mul_assoc, mul_comm, div-lt_iff_lt-mul, lt_of_mul-lt-mul_right, mul-lt-mul_of_pos_right, mul-pos, lt_of_not-le, le-div_iff_mul-le, zero-mul, mul-one, mul_right_comm, div-mul-le_self, arith, lit<, lit≤, ltb→lt, lt→ltb}
-use native.Mathlib.Nat.{lt-mul-div-succ, div-eq_of_lt}
+use Rattle.std.proofs.Common.{◌≡◌, ℕ, zero, suc, ◌+◌, ◌-◌, ◌*◌, ◌/◌, ◌^◌, ◌<◌, ◌≤◌, min, true, false, T, ℤ, pos, sym, refl, ap, ◌∙◌, subst, true≢false, le_trans, le_of_eq, lt_of_lt_of_le, not-suc-le-zero, mul-le-mul_right, zero-lt-suc, div-lt_iff_lt-mul, lt_of_mul-lt-mul_right, mul-lt-mul_of_pos_right, mul-pos, lt_of_not-le, le-div_iff_mul-le, zero-mul, mul-one, mul_right_comm, arith, lit<, lit≤, ltb→lt, lt→ltb}
+use native.Mathlib.Nat.{div-eq_of_lt}
 use native.Mathlib.Decide.{dec_le}
-use lib.Ieee.{Float, nan, inf, fin, binary32, binary64, up, down, mul, lt, le, of_bits, fits, to_unsigned}
+use lib.Ieee.{Float, nan, inf, fin, binary32, binary64, up, down, mul, lt, of_bits, fits, to_unsigned}
 use lib.Ieee.Fits.{down_pos, up_pos}
 use lib.Ieee.Exact.{HasValue}
 use Rattle.float.specs.Literals.{zero32}

@@ -1,6 +1,6 @@
 -- The rule goes on: where k serves s, a tenth of k, rounded down, serves s + n; and only one number serves s. Over any n and any bound.
-use Rattle.std.proofs.Common.{◌≡◌, ℕ, zero, suc, ◌+◌, ◌-◌, ◌*◌, ◌/◌, ◌%◌, ◌^◌, ◌<◌, ◌≤◌, sym, refl, ap, ◌∙◌, subst, le_trans, lt_of_lt_of_le, lt_of_le_of_lt, lt_irrefl, mul-le-mul_right, zero-lt-suc, mul_assoc, suc-mul, mul_comm, pow-suc, mul-one, div-mul-le_self, div-one, arith, pow-add}
-use native.Mathlib.Nat.{pow-zero, mul-mul-mul_comm, pow-le-pow_left, lt-mul-div-succ, div-div-eq-div-mul, le_total}
+use Rattle.std.proofs.Common.{◌≡◌, ℕ, zero, suc, ◌+◌, ◌*◌, ◌/◌, ◌^◌, ◌<◌, ◌≤◌, sym, ap, ◌∙◌, subst, le_trans, lt_of_lt_of_le, lt_irrefl, mul-le-mul_right, zero-lt-suc, mul_assoc, suc-mul, mul_comm, pow-suc, div-mul-le_self, div-one, arith, pow-add}
+use native.Mathlib.Nat.{pow-zero, mul-mul-mul_comm, pow-le-pow_left, lt-mul-div-succ, div-div-eq-div-mul}
 use native.Mathlib.Decide.{dec_lt}
 
 -- k ^ n * 10 ^ s is at most b, and (k + 1) ^ n * 10 ^ s above it

@@ -1,7 +1,7 @@
 -- What the code cuts off leaves nothing: steps past 3,200, and millimetres past the longest path that it counts.
-use Rattle.std.proofs.Common.{◌≡◌, ℕ, zero, suc, ◌+◌, ◌*◌, ◌/◌, ◌%◌, ◌^◌, ◌<◌, ◌≤◌, min, Bool, T, eqb, leb, List, [], ◌∷◌, length, get_or, pos, sym, refl, ap, ◌∙◌, subst, le_trans, lt_of_lt_of_le, lt_of_le_of_lt, mod-lt, zero-lt-suc, mul-le-mul, zero-mul, div-le_self, arith, lit<, lit≤, eqb→eq, leb→le, pow_mono}
+use Rattle.std.proofs.Common.{◌≡◌, ℕ, zero, suc, ◌*◌, ◌/◌, ◌%◌, ◌^◌, ◌<◌, ◌≤◌, min, Bool, T, eqb, leb, List, [], ◌∷◌, get_or, pos, sym, ap, ◌∙◌, le_trans, lt_of_lt_of_le, lt_of_le_of_lt, mod-lt, zero-lt-suc, mul-le-mul, zero-mul, div-le_self, arith, lit<, lit≤, eqb→eq, leb→le}
 use native.Mathlib.Nat.{pow-le-pow_right, div-eq_of_lt}
-use native.Mathlib.Decide.{dec_le, dec_lt}
+use native.Mathlib.Decide.{dec_le}
 use Rattle.air.specs.Table.{factor_table}
 use lib.Ieee.{binary32, div, of_int, of_bits}
 use Rattle.air.specs.declared.Air.{Air}

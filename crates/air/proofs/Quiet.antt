@@ -1,5 +1,5 @@
 -- Where no coefficient is above 0 the air takes nothing.
-use Rattle.std.proofs.Common.{◌≡◌, ℕ, ◌*◌, Bool, true, ◌&&◌, T, eqb, pos, sym, refl, ap, ◌∙◌, subst, zero-mul, eqb→eq}
+use Rattle.std.proofs.Common.{◌≡◌, ℕ, ◌*◌, true, T, eqb, pos, sym, refl, ap, ◌∙◌, subst, zero-mul, eqb→eq}
 use lib.Ieee.{binary32, div, of_int, of_bits}
 use lib.Ieee.Fits.{and_l, and_r}
 use Rattle.float.specs.Literals.{one32}

@@ -1,5 +1,5 @@
 -- The power rule: at each entry of the table by one computed test, from there at every s; and that only one number serves.
-use Rattle.std.proofs.Common.{◌≡◌, ℕ, suc, ◌+◌, ◌*◌, ◌/◌, ◌%◌, ◌^◌, ◌<◌, ◌≤◌, Bool, ◌&&◌, T, ltb, leb, length, get_or, sym, subst, mod-lt, zero-lt-suc, arith, ltb→lt, leb→le}
+use Rattle.std.proofs.Common.{◌≡◌, ℕ, suc, ◌+◌, ◌*◌, ◌/◌, ◌%◌, ◌^◌, ◌<◌, Bool, ◌&&◌, T, ltb, leb, get_or, subst, mod-lt, zero-lt-suc, arith, ltb→lt, leb→le}
 use lib.Ieee.Fits.{and_l, and_r}
 use Rattle.air.specs.Table.{factor_table}
 use Rattle.air.specs.Air.{Serves, factor_of_steps}

@@ -1,12 +1,12 @@
 -- What is left in a band is k / 2^24 exactly: no operation rounds.
-use Rattle.std.proofs.Common.{◌≡◌, ℕ, zero, suc, ◌+◌, ◌*◌, ◌/◌, ◌^◌, ◌<◌, ◌≤◌, Bool, true, false, cond, T, ℤ, pos, sym, refl, ap, ◌∙◌, subst, true≢false, le_trans, lt_of_lt_of_le, lt_of_le_of_lt, mul-le-mul_right, zero-lt-suc, mul_assoc, mul_comm, mul-lt-mul_of_pos_right, mul-pos, one-mul, lt_of_not-le, mul-one, mul_right_comm, arith, lit<, lit≤, pow_pos, pow-add}
+use Rattle.std.proofs.Common.{◌≡◌, ℕ, ◌*◌, ◌^◌, ◌<◌, ◌≤◌, true, false, sym, refl, ap, ◌∙◌, subst, true≢false, lt_of_le_of_lt, mul-le-mul_right, mul_assoc, mul_comm, mul-pos, one-mul, arith, lit<, pow_pos, pow-add}
 use native.Mathlib.Decide.{dec_lt}
 use lib.Ieee.{Float, nan, inf, fin, binary32, up, down, round, div, of_int, of_bits}
-use lib.Ieee.Fits.{up_pos, down_pos}
+use lib.Ieee.Fits.{down_pos}
 use lib.Ieee.Exact.{HasValue, round_exact}
 use lib.Ieee.Back.{round_whole}
 use lib.Ieee.Scale.{round_same}
-use Rattle.air.specs.Air.{steps_in, steps_of, factor_of_steps, band_of}
+use Rattle.air.specs.Air.{steps_of, factor_of_steps, band_of}
 use Rattle.air.proofs.Nothing.{factor_most}
 
 quotient : (x : Float) (k : ℕ) → HasValue x false k 1 → div binary32 x (of_bits binary32 0x4b80_0000) ≡ round binary32 false k (2 ^ 24)

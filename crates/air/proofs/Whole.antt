@@ -1,13 +1,12 @@
 -- A product of an f32 and a whole number below 2 ^ 21 in binary64 is exact, so its whole part is that of the exact product.
-use Rattle.std.proofs.Common.{◌≡◌, ℕ, zero, suc, ◌+◌, ◌-◌, ◌*◌, ◌/◌, ◌%◌, ◌^◌, ◌<◌, ◌≤◌, min, Bool, true, false, cond, not, ◌&&◌, T, eqb, ltb, leb, ℤ, pos, negsuc, sym, refl, ap, ◌∙◌, subst, le_trans, lt_of_lt_of_le, lt_of_le_of_lt, le_of_lt, zero-lt-suc, mul_assoc, mul_comm, mul-le-mul, lt_of_mul-lt-mul_right, mul-le-mul_left, mul-lt-mul_of_pos_right, mul-pos, one-mul, lt_of_not-le, zero-mul, mul-one, sub-add_cancel, mul_right_comm, not-le_of_lt, arith, lit≤, ltb→lt, leb→le, pow_pos, pow_mono, pow-add, shl_lt}
+use Rattle.std.proofs.Common.{◌≡◌, ℕ, suc, ◌+◌, ◌-◌, ◌*◌, ◌/◌, ◌%◌, ◌^◌, ◌<◌, ◌≤◌, min, Bool, false, cond, not, ◌&&◌, T, eqb, ltb, leb, ℤ, pos, negsuc, sym, ap, ◌∙◌, subst, lt_of_lt_of_le, lt_of_le_of_lt, le_of_lt, mul_assoc, mul_comm, lt_of_mul-lt-mul_right, mul-le-mul_left, mul-lt-mul_of_pos_right, mul-pos, lt_of_not-le, mul-one, mul_right_comm, not-le_of_lt, arith, lit≤, ltb→lt, leb→le, pow_pos, pow-add}
 use mathlib.Core.Bool.{beq}
-use native.Mathlib.Nat.{mul-mul-mul_comm, div-div-eq-div-mul, add-div_right}
+use native.Mathlib.Nat.{div-div-eq-div-mul, add-div_right}
 use native.Mathlib.Decide.{dec_le}
 use lib.Pow.{pow-lt}
-use lib.Ieee.{Float, fin, inf, nan, binary32, binary64, low, prec, emax, up, down, round, mul, of_int, fits, to_unsigned}
-use lib.Ieee.Fits.{and_l, and_r, up_pos, down_pos}
+use lib.Ieee.{Float, fin, inf, nan, binary32, binary64, up, down, round, mul, fits, to_unsigned}
+use lib.Ieee.Fits.{and_l, and_r, down_pos}
 use lib.Ieee.Exact.{HasValue, round_exact}
-use lib.Ieee.Back.{round_whole}
 use lib.Ieee.Scale.{round_same}
 use lib.Ieee.Nearest.{div_same}
 

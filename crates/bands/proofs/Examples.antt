@@ -1,6 +1,6 @@
 -- Worked examples of the distance model, which antt computes: both curves, a distance that is no number, and the ranges.
 use mathlib.Core.Path.{◌≡◌, refl}
-use mathlib.Core.Bool.{true, false}
+use mathlib.Core.Bool.{false}
 use lib.Ieee.{Float, nan, inf, is_nan, binary32, of_bits, add, sub, mul, div, lt}
 use Rattle.float.specs.Literals.{zero32, one32}
 use Rattle.float.specs.Compare.{min_of, max_of, is_finite}

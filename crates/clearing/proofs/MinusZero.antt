@@ -6,12 +6,12 @@ use Prim.Native.Nat.{ℕ, zero, suc, ◌+◌, ◌-◌, ◌*◌, ◌/◌, ◌%◌
 use native.Mathlib.Nat.{add-mul, suc-mul, mul-pos, zero-lt-suc, zero-mul, mul-one, one-mul, mul_comm, mul_assoc, mul_right_comm, le_trans, le_of_eq}
 use native.Mathlib.Nat.{mul-le-mul_right, mul-lt-mul_of_pos_right, lt_of_mul-lt-mul_right, div-mul-le_self, le-div_iff_mul-le, pow-succ'}
 use native.Mathlib.Omega.{arith}
-use lib.Dec.{T, ltb, eqb, leb, eqb→eq, leb→le, nleb→lt, ltb→lt, nltb→le}
+use lib.Dec.{T, ltb, eqb, leb, eqb→eq, leb→le, nleb→lt, ltb→lt}
 use lib.Pow.{pow_pos, pow-add, pow-lt}
 use lib.IntN.{ℤ, pos, negsuc}
 use lib.Ieee.{Float, nan, inf, fin, Format, binary32, prec, low, emax, up, down, size, nearest, odd, units, round, sum, neg, add, sub, fits, is_nan, of_bits}
 use lib.Ieee.Digits.{size-lt, size_reaches, back}
-use lib.Ieee.Fits.{two, up_pos, down_pos, core, round_is, and_l, and_r, neg-fits, sub-fits}
+use lib.Ieee.Fits.{two, up_pos, down_pos, round_is, and_l, and_r, neg-fits, sub-fits}
 use lib.Ieee.Exact.{HasValue, odd_sign}
 use lib.Ieee.Nearest.{nearest-ge}
 use Rattle.laws.proofs.Numbers.{no_part}

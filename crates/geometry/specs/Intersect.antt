@@ -2,7 +2,7 @@
 -- the distance stand the weights u and v of the two edges, which the Rust works out too.
 use Rattle.std.specs.Prelude.{Float, Bool, cond, not, ◌||◌, ◌&&◌}
 use Rattle.std.specs.Float.{binary32}
-use Rattle.std.specs.Float.Ieee.{add, sub, mul, div, neg, lt, le, of_bits}
+use Rattle.std.specs.Float.Ieee.{add, mul, div, neg, lt, le, of_bits}
 use Rattle.float.specs.Literals.{one32}
 use Rattle.float.specs.Sqrt.{sqrt_of}
 use Rattle.float.specs.Compare.{abs_of}

@@ -1,11 +1,10 @@
 -- A ray and a box: `Aabb::intersect_t`, in two steps. The box is padded (what the Rust does axis by axis in each test), then the ray's
 -- span from its least distance to `t_max` is cut axis by axis.
-use Rattle.std.specs.Prelude.{Float, Bool, cond, ◌||◌}
+use Rattle.std.specs.Prelude.{Float, cond, ◌||◌}
 use Rattle.std.specs.Float.{binary32}
 use Rattle.std.specs.Float.Ieee.{add, sub, mul, div, lt, of_bits}
 use Rattle.float.specs.Literals.{one32}
 use Rattle.float.specs.Compare.{min_of, max_of, abs_of}
-use Rattle.vector.specs.declared.Vec3.{Vec3}
 use Rattle.vector.specs.declared.Ray.{Ray}
 use Rattle.vector.specs.Vector.{vec}
 use Rattle.geometry.specs.declared.Aabb.{Aabb}

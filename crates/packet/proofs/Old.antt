@@ -1,16 +1,16 @@
 -- No packet of the old format is read as one of the new: a packet has an even count of bytes (10, 22 a tap and 4 a gain), an old one has an odd count.
 --     old_refused     whatever its taps, an old packet is refused with 8
-use Prim.Native.Nat.{ℕ, zero, suc, ◌+◌, ◌*◌, ◌/◌, ◌%◌, ◌≤◌}
+use Prim.Native.Nat.{ℕ, zero, suc, ◌*◌, ◌/◌, ◌%◌, ◌≤◌}
 use mathlib.Core.Path.{◌≡◌, refl}
-use mathlib.Core.Bool.{Bool, true, false, cond, ◌&&◌}
-use mathlib.Core.List.{List, [], ◌∷◌, ◌++◌}
+use mathlib.Core.Bool.{Bool, true, false, cond}
+use mathlib.Core.List.{List, [], ◌∷◌}
 use native.Mathlib.Omega.{arith}
 use lib.ListN.{length, get_or, drop, length-drop, length-append}
 use lib.Dec.{leb, eqb}
 use borrow.Author.Tests.{leb-true, eqb-true}
-use Rattle.packet.specs.Limits.{bands, head_bytes, area_words}
+use Rattle.packet.specs.Limits.{head_bytes, area_words}
 use Rattle.packet.specs.Tap.{Tap}
-use Rattle.packet.specs.Bytes.{word, ones, size_of_tap, gain_bytes, tap_bytes, taps_bytes, has_only_taps, count_in}
+use Rattle.packet.specs.Bytes.{word, size_of_tap, gain_bytes, tap_bytes, taps_bytes, has_only_taps, count_in}
 use Rattle.packet.specs.Reader.{whole, refused_read}
 use Rattle.packet.specs.Old.{old_encode}
 use Rattle.packet.proofs.Runs.{and_both}

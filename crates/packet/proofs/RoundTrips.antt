@@ -4,7 +4,7 @@
 --     same_refusal             taps that bytes can hold: the reader answers their packet by the refusal by which the writer answers the taps
 --     reader_accepts_written   so the reader accepts what the writer gives
 --     writer_accepts_read      and the writer accepts the taps that the reader gives
-use Prim.Native.Nat.{ℕ, ◌+◌, ◌*◌, ◌^◌, ◌≤◌, ◌<◌}
+use Prim.Native.Nat.{ℕ, ◌*◌, ◌^◌, ◌≤◌, ◌<◌}
 use mathlib.Core.Path.{◌≡◌, sym, ap, ◌∙◌}
 use mathlib.Core.Bool.{true, ◌&&◌}
 use mathlib.Core.List.{List, [], ◌++◌, map}

@@ -1,8 +1,8 @@
 -- The numbers of `speed_of` are the nearest to their decimals, and its value at the ends of the limit, at 0 and at 20 degrees.
 use mathlib.Core.Path.{◌≡◌, refl}
-use mathlib.Core.Bool.{false, true}
-use lib.IntN.{pos, negsuc}
-use lib.Ieee.{Float, fin, binary32, add, mul, div, of_bits, round}
+use mathlib.Core.Bool.{false}
+use lib.IntN.{pos}
+use lib.Ieee.{fin, binary32, add, mul, div, of_bits, round}
 use Rattle.float.specs.Literals.{zero32}
 use Rattle.float.specs.Sqrt.{sqrt_of, root_of, isqrt}
 use Rattle.scene.specs.Limits.{least_temperature, most_temperature}

@@ -1,5 +1,5 @@
 -- The refusals 1 to 5, each in document 01's words and decided as if the others were not there, and the first that applies.
-use Rattle.std.specs.Prelude.{ℕ, zero, suc, ◌+◌, ◌*◌, ◌/◌, ltb, eqb, length, Bool, true, false, cond, not, ◌&&◌, ◌||◌, List, [], ◌∷◌}
+use Rattle.std.specs.Prelude.{ℕ, zero, suc, ◌*◌, ltb, eqb, length, Bool, false, cond, not, ◌&&◌, ◌||◌, List, [], ◌∷◌}
 use Rattle.scene.specs.declared.Settings.{Settings}
 use Rattle.scene.specs.declared.Checked.{Checked}
 use Rattle.scene.specs.declared.Checked.TheVariants.{Refused, Accepted}

@@ -1,5 +1,5 @@
 -- Laws of the loops over the bytes of a word: one byte more, and the end.
-use Rattle.std.proofs.Common.{◌≡◌, ℕ, zero, suc, ◌+◌, ◌<◌, ◌≤◌, Bool, true, false, cond, not, ◌&&◌, eqb, List, [], ◌∷◌, length, get_or, take, drop, sym, refl, ap, ◌∙◌, add-one, arith, drop_of_length-le, take_all, drop-cons, take-suc, eq-eqb, ne_eqb}
+use Rattle.std.proofs.Common.{◌≡◌, ℕ, suc, ◌+◌, ◌<◌, ◌≤◌, Bool, true, false, cond, not, ◌&&◌, eqb, List, [], ◌∷◌, length, get_or, take, drop, sym, ap, ◌∙◌, add-one, arith, drop_of_length-le, take_all, drop-cons, take-suc, eq-eqb, ne_eqb}
 use mathlib.Core.List.{foldl, foldl-append}
 use Rattle.text.specs.Lines.{line_length}
 use Rattle.text.specs.Numbers.{word_end, push, point_at, hex_digit_of, all_hex}

@@ -1,10 +1,7 @@
 -- Laws of a decimal's parts: what stands before and behind its point, and behind its minus.
-use Rattle.std.proofs.Common.{◌≡◌, ℕ, suc, ◌+◌, ◌-◌, ◌<◌, ◌≤◌, Bool, true, cond, eqb, ltb, leb, List, [], ◌∷◌, length, get_or, take, drop, sym, refl, ap, ◌∙◌, add-one, arith, length-drop, take_all, le-ltb, lt-ltb, eq-eqb, ne_eqb, leb-true}
-use Rattle.listing.specs.Request.{is_decimal_text, is_digit_byte, all}
-use Rattle.listing.proofs.Reading.{and_left}
+use Rattle.std.proofs.Common.{◌≡◌, ℕ, suc, ◌+◌, ◌-◌, ◌<◌, ◌≤◌, Bool, cond, ltb, List, [], ◌∷◌, length, get_or, take, drop, sym, refl, ap, ◌∙◌, add-one, arith, length-drop, take_all, le-ltb, lt-ltb, eq-eqb, ne_eqb}
 use Rattle.text.specs.Numbers.{point_at, parted, unparted, unsigned, negated, decimal_of}
-use Rattle.text.specs.declared.Number.{Number}
-use Rattle.text.specs.declared.Number.TheVariants.{Real, NoReal}
+use Rattle.text.specs.declared.Number.TheVariants.{NoReal}
 
 -- a part from a place to the end is the rest
 pub rest : (w : List ℕ) (k : ℕ) → take (length w - k) (drop k w) ≡ drop k w

@@ -1,5 +1,5 @@
 -- Laws of what is printed: the last digits of a number, and how long the pieces are.
-use Rattle.std.proofs.Common.{◌≡◌, ℕ, zero, suc, ◌+◌, ◌-◌, ◌/◌, ◌%◌, ◌^◌, ◌≤◌, Bool, true, false, cond, eqb, List, [], ◌∷◌, ◌++◌, length, refl, ap, arith, length-append}
+use Rattle.std.proofs.Common.{◌≡◌, ℕ, zero, suc, ◌+◌, ◌-◌, ◌/◌, ◌%◌, ◌^◌, ◌≤◌, Bool, true, false, cond, eqb, [], ◌∷◌, ◌++◌, length, refl, ap, arith, length-append}
 use lib.Ieee.{Float, binary32, of_bits, lt}
 use Rattle.listing.specs.Text.{digits_of}
 use Rattle.listing.proofs.Writing.{digits_length}

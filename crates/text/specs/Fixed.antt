@@ -1,5 +1,5 @@
 -- A float with a fixed count of decimals.
-use Rattle.std.specs.Prelude.{ℕ, zero, suc, ◌+◌, ◌/◌, ◌%◌, ◌^◌, cond, not, ◌&&◌, List, [], ◌∷◌, ◌++◌, pos, ◌==◌, from_bits, Float}
+use Rattle.std.specs.Prelude.{ℕ, zero, suc, ◌+◌, ◌/◌, ◌%◌, ◌^◌, cond, List, [], ◌∷◌, ◌++◌, pos, ◌==◌, from_bits, Float}
 use Rattle.std.specs.Float.{binary32, binary64}
 use Rattle.std.specs.Float.Ieee.{of_int, add, mul, lt, neg, to_unsigned}
 use Rattle.float.specs.Compare.{abs_of}

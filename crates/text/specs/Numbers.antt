@@ -1,5 +1,5 @@
 -- The numbers of a text: whole numbers of 32 bits, and floats as decimals or by their bits.
-use Rattle.std.specs.Prelude.{ℕ, suc, ◌+◌, ◌-◌, ◌*◌, ◌%◌, ◌^◌, min, Bool, true, cond, not, ◌&&◌, List, [], ◌∷◌, length, take, drop, pos, ◌==◌, from_bits, nat_le, nat_lt, slice_index, Float}
+use Rattle.std.specs.Prelude.{ℕ, suc, ◌+◌, ◌-◌, ◌*◌, ◌%◌, ◌^◌, min, Bool, true, cond, not, ◌&&◌, List, [], ◌∷◌, length, take, drop, pos, ◌==◌, from_bits, nat_le, nat_lt, slice_index}
 use mathlib.Core.List.{foldl}
 use Rattle.std.specs.Float.{binary32}
 use Rattle.std.specs.Float.Ieee.{of_int, div, neg}

@@ -1,5 +1,5 @@
 -- `air::millimetres` meets its contract: near, far, endless, and no length at all.
-use Rattle.std.proofs.Common.{◌≡◌, ℕ, ◌+◌, ◌<◌, true, false, T, sym, ap, ◌∙◌, subst, arith, rules}
+use Rattle.std.proofs.Common.{◌≡◌, ℕ, ◌+◌, ◌<◌, T, sym, ap, ◌∙◌, subst, arith, rules}
 use lib.Ieee.{Float, lt, to_unsigned}
 use Rattle.air.proofs.Halves.{Near, near, far, endless, no_length, twice_of, too_far}
 use Rattle.air.proofs.millimetres.Goals.{After-truncating_f64_to_u64, Then-twice}

@@ -17,20 +17,6 @@ bounce_on-requires t c = let pre = c.requires in record {
   p_lt_count = pre.by_index _ (omega (arith, c.if-k-eq0.false, pre.k_le_order.0));
 }
 
-pub failed-requires : goal.failed-requires
-failed-requires t c = tt
-
-pub failed-requires-in-OffSurface : goal.failed-requires-in-OffSurface
-failed-requires-in-OffSurface t c = tt
-
-pub put-requires : goal.put-requires
-put-requires t c = let pre = c.requires in
-    (omega (arith, c.if-k-eq0.false, pre.k_le_order.0, pre.k_le_order.1), pre.going)
-
-pub back-requires : goal.back-requires
-back-requires t c = let pre = c.requires in
-    (omega (arith, c.if-k-eq0.false), (pre.planes_lent, ((omega (arith, pre.k_le_order.0), pre.k_le_order.1), (pre.by_index, c.put.ensures.going.0))))
-
 pub returns-in-NotCrossed : goal.returns-in-NotCrossed
 returns-in-NotCrossed t c = record {
   by_index_2 = λ tri h. back_not_crossed tri _ _ _ _ _ _ _ _ _ c.if-k-eq0.false (c.bounce_on.ensures tri h) _ _ c.failed.ensures c.in-NotCrossed.is;

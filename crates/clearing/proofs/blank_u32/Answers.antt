@@ -1,5 +1,4 @@
 -- `clearing::blank_u32` meets its contract: what lies before i became zero, and what was zero stays so.
-use Prim.Native.Nat.{◌-◌}
 use mathlib.Core.Path.{◌≡◌, refl, subst}
 use native.Mathlib.Omega.{arith}
 use lib.ListN.{length-set}

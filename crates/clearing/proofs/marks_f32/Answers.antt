@@ -1,5 +1,4 @@
 -- `clearing::marks_f32` meets its contract: as long as no bit was met, all that was read of either run is zero.
-use Prim.Native.Nat.{◌-◌}
 use native.Mathlib.Omega.{arith}
 use lib.Ieee.{nan}
 use Rattle.float.specs.Literals.{zero32}

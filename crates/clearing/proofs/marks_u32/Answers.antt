@@ -1,5 +1,4 @@
 -- `clearing::marks_u32` meets its contract: as long as no bit was met, all that was read of either run is zero.
-use Prim.Native.Nat.{◌-◌}
 use native.Mathlib.Omega.{arith}
 use Rattle.clearing.proofs.Wiping.{run_none, run_all, marks_more}
 use Rattle.clearing.proofs.marks_u32.Goals as goal

@@ -1,5 +1,4 @@
 -- `clearing::wipe_f32` meets its contract: k spans of either half are zero, then what lies behind both.
-use Prim.Native.Nat.{◌-◌}
 use mathlib.Core.Path.{refl, ◌∙◌}
 use native.Mathlib.Omega.{arith}
 use lib.Ieee.{nan}

@@ -1,5 +1,4 @@
 -- `clearing::wipe_u32` meets its contract: k spans of either half are zero, then what lies behind both.
-use Prim.Native.Nat.{◌-◌}
 use mathlib.Core.Path.{refl, ◌∙◌}
 use native.Mathlib.Omega.{arith}
 use Rattle.clearing.proofs.Wiping.{halves_none, halves_more, halves_all}

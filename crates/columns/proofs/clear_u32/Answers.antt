@@ -1,5 +1,4 @@
 -- `columns::clear_u32` meets its contract: a loop from the front, by the laws of proofs/Clearing.antt.
-use Prim.Native.Nat.{◌-◌}
 use native.Mathlib.Omega.{arith}
 use mathlib.Core.Path.{refl}
 use lib.ListN.{length-set}

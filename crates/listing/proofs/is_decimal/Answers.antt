@@ -1,6 +1,5 @@
 -- `listing::is_decimal` meets its contract. The loop's invariant: the bytes from i on are all digits exactly where the whole word is.
 use mathlib.Core.Path.{refl, sym, ◌∙◌}
-use Prim.Native.Nat.{◌-◌}
 use Rattle.listing.specs.Request.{is_digit_byte}
 use Rattle.listing.proofs.Reading.{all_on, decimal_none, decimal_not, decimal_all}
 use Rattle.listing.proofs.is_decimal.Goals as goal

@@ -1,5 +1,5 @@
 -- `listing::put_bytes` meets its contract. The loop's invariant: the first i bytes are stored from `at` on.
-use Prim.Native.Nat.{◌+◌, ◌-◌}
+use Prim.Native.Nat.{◌+◌}
 use mathlib.Core.Path.{refl, ◌∙◌}
 use native.Mathlib.Omega.{arith}
 use lib.ListN.{get_or, length-set}

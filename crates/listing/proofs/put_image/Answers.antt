@@ -1,5 +1,5 @@
 -- `listing::put_image` meets its contract: the part of the records that it hands on is the image's planes.
-use Prim.Native.Nat.{◌+◌, ◌-◌, ◌*◌}
+use Prim.Native.Nat.{◌+◌, ◌*◌}
 use native.Mathlib.Omega.{arith}
 use Rattle.listing.proofs.Writing.{planes_part, planes_few}
 use Rattle.listing.proofs.put_image.Goals as goal

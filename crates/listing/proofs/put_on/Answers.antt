@@ -1,5 +1,5 @@
 -- `listing::put_on` meets its contract. The loop's invariant: what is stored, with the bits that are left behind it, is the whole.
-use Prim.Native.Nat.{ℕ, ◌-◌, ◌%◌}
+use Prim.Native.Nat.{ℕ, ◌%◌}
 use mathlib.Core.Path.{refl, ◌∙◌}
 use native.Mathlib.Omega.{arith}
 use lib.ListN.{length, length-set}

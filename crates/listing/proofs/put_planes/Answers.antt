@@ -1,5 +1,4 @@
 -- `listing::put_planes` meets its contract. The loop's invariant: the planes passed are written, each in at most 21 bytes.
-use Prim.Native.Nat.{◌-◌}
 use mathlib.Core.Path.{refl}
 use native.Mathlib.Omega.{arith}
 use lib.ListN.{get_or}

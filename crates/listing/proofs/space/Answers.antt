@@ -1,5 +1,4 @@
 -- `listing::space` meets its contract. The loop's invariant: the first space from i on is that of the whole text.
-use Prim.Native.Nat.{◌-◌}
 use Rattle.listing.proofs.Reading.{space_here, space_on, space_end}
 use Rattle.listing.proofs.space.Goals as goal
 

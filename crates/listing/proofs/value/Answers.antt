@@ -1,6 +1,5 @@
 -- `listing::value` meets its contract. The loop's invariant: n is the value of the digits passed, up to the cap.
 use mathlib.Core.Path.{refl}
-use Prim.Native.Nat.{◌-◌}
 use native.Mathlib.Omega.{arith}
 use Rattle.listing.specs.Request.{value_of}
 use Rattle.listing.proofs.Reading.{decimal_at, value_more, value_all}

@@ -1,5 +1,5 @@
 -- `numbering::block` meets its contract. The loop's invariant: b is the size of a block of k planes.
-use Prim.Native.Nat.{ℕ, ◌+◌, ◌-◌, ◌*◌, min}
+use Prim.Native.Nat.{ℕ, ◌+◌, ◌*◌, min}
 use mathlib.Core.Path.{◌≡◌, sym, ap, ◌∙◌}
 use native.Mathlib.Omega.{arith}
 use Rattle.numbering.specs.Contract.{cap, block_of}

@@ -1,5 +1,4 @@
 -- `numbering::first_plane` meets its contract. The loop's invariant: of the q planes to be passed, `left` are not below p.
-use Prim.Native.Nat.{◌-◌}
 use mathlib.Core.Path.{◌≡◌, ap}
 use mathlib.Core.List.{[]}
 use native.Mathlib.Omega.{arith}

@@ -1,5 +1,5 @@
 -- `numbering::walls_at` meets its contract. The loop's invariant: what is left is the same question, `len` planes deeper (`Walk`).
-use Prim.Native.Nat.{ℕ, ◌-◌}
+use Prim.Native.Nat.{ℕ}
 use mathlib.Core.Path.{refl, ap, ◌∙◌}
 use native.Mathlib.Omega.{arith}
 use native.Mathlib.Nat.{pos_of_ne-zero}

@@ -1,5 +1,5 @@
 -- `packet::all_floats_valid` meets its contract: the test of the taps from each turn on is the test of all of them.
-use Prim.Native.Nat.{◌-◌, ◌*◌}
+use Prim.Native.Nat.{◌*◌}
 use mathlib.Core.Path.{sym, ap, ◌∙◌}
 use native.Mathlib.Omega.{arith}
 use Rattle.packet.specs.Limits.{tap_words}

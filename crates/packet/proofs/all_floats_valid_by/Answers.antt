@@ -1,7 +1,6 @@
 -- `packet::all_floats_valid_by` meets its contract: the test of the packet's taps from each turn on is the test of all of them; the area's taps are theirs but for the bit maps.
 use Prim.Native.Nat.{◌-◌, ◌+◌, ◌*◌, ℕ}
 use mathlib.Core.Path.{◌≡◌, sym, ap, ◌∙◌}
-use mathlib.Core.Bool.{true}
 use mathlib.Core.List.{map}
 use native.Mathlib.Omega.{arith}
 use lib.ListN.{drop}

@@ -1,5 +1,4 @@
 -- `packet::all_in_range` meets its contract: the test of the taps from each turn on is the test of all of them.
-use Prim.Native.Nat.{◌-◌}
 use mathlib.Core.Path.{sym, ap, ◌∙◌}
 use native.Mathlib.Omega.{arith}
 use Rattle.packet.specs.Refusals.{all, in_range}

@@ -1,7 +1,5 @@
 -- `packet::are_sums_valid` meets its contract: the sums from each turn on are valid after the last one seen where all are; the first follows infinity.
-use Prim.Native.Nat.{◌-◌}
 use mathlib.Core.Path.{sym, ap, ◌∙◌}
-use mathlib.Core.Bool.{true}
 use mathlib.Core.List.{map}
 use native.Mathlib.Omega.{arith}
 use lib.Ieee.{nan_bits}

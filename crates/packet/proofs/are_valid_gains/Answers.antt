@@ -1,5 +1,4 @@
 -- `packet::are_valid_gains` meets its contract: the test of the gains from each turn on, by what is left of the bit map, is the test of all of them.
-use Prim.Native.Nat.{◌-◌}
 use mathlib.Core.Path.{refl, sym, ◌∙◌}
 use native.Mathlib.Omega.{arith}
 use Rattle.packet.proofs.Areas.{gains_no, gains_yes, gains_all}

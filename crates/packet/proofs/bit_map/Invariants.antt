@@ -1,5 +1,5 @@
 -- `packet::bit_map` meets its contract: from the last band down, the map so far is that of the gains from there on.
-use Prim.Native.Nat.{◌≤◌, ◌-◌}
+use Prim.Native.Nat.{◌≤◌}
 use mathlib.Core.Path.{◌≡◌}
 use Rattle.packet.specs.Tap.{bits_of_gains}
 use Rattle.packet.proofs.Areas.{window}

@@ -1,5 +1,5 @@
 -- `packet::read_gains` meets its contract: what is left to store gives the same area from each turn on.
-use Prim.Native.Nat.{◌-◌, ◌+◌, ℕ}
+use Prim.Native.Nat.{◌+◌, ℕ}
 use mathlib.Core.Path.{refl, sym, ap, ◌∙◌}
 use mathlib.Core.List.{List}
 use native.Mathlib.Omega.{arith}

@@ -1,5 +1,4 @@
 -- `packet::read_tap` meets its contract: the six words and the gains are stored one after the other.
-use Prim.Native.Nat.{◌-◌}
 use mathlib.Core.Path.{◌∙◌}
 use native.Mathlib.Omega.{arith}
 use lib.ListN.{length-set}

@@ -1,7 +1,6 @@
 -- `packet::read_taps` meets its contract: what is left to store gives the same area from each turn on.
 use Prim.Native.Nat.{◌-◌, ◌+◌, ℕ}
 use mathlib.Core.Path.{◌≡◌, refl, ap, ◌∙◌}
-use mathlib.Core.Bool.{true}
 use native.Mathlib.Omega.{arith}
 use lib.ListN.{drop}
 use lib.Seq.{sets}

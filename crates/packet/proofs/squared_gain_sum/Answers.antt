@@ -1,7 +1,6 @@
 -- `packet::squared_gain_sum` meets its contract: the sum so far and the gains left give the sum of all.
-use Prim.Native.Nat.{◌-◌, ◌+◌}
+use Prim.Native.Nat.{◌+◌}
 use mathlib.Core.Path.{refl, sym, ap, ◌∙◌}
-use mathlib.Core.Bool.{true}
 use mathlib.Core.List.{foldl}
 use native.Mathlib.Omega.{arith}
 use lib.Ieee.{Float, binary32, add}

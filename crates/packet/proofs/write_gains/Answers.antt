@@ -1,5 +1,4 @@
 -- `packet::write_gains` meets its contract: what is left to store gives the same bytes from each turn on.
-use Prim.Native.Nat.{◌-◌}
 use mathlib.Core.Path.{◌≡◌, refl, sym, ap, ◌∙◌}
 use native.Mathlib.Omega.{arith}
 use lib.ListN.{length}

@@ -29,7 +29,7 @@ loop-k-preserved c =
       omega (arith, c.loop-k.invariant.0),
       λ tri t h.
           rw (
-            go_step (soft_in a.crossing_limit a.probe_radius tri t a.materials.now) c.begin-w.result a.points c.loop-k.k a.order c.loop-k-test.true c.loop-k.invariant.0 (omega (arith, (c.requires.order_le_max_order, c.requires.max_order_bound))),
+            go_step (soft_in a.crossing_limit a.probe_radius tri t a.materials.now) c.begin-w.result a.points c.loop-k.k a.order c.loop-k-test.true c.loop-k.invariant.0 (omega (arith, c.requires.order_le_max_order, c.requires.max_order_bound)),
             ← c.loop-k.invariant.1 tri t h,
             ← c.go-w.ensures.by_index tri t h,
           ),

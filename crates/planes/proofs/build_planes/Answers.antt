@@ -26,18 +26,18 @@ open_patches-np-requires c =
     let n = c.args.n in let t = c.requires.triangles_lent in let p = c.requires.planes_room in record {
       triangles_lent = t;
       open_room = record {
-        keys_room = p.keys_room;
-        low_keys_room = p.low_keys_room;
-        index_room = p.index_room;
-        words_room = three_of n p.words_room;
-        scratch_room = three_of n p.scratch_room;
-        numbers_room = p.numbers_room;
-        first_room = seated t c.fresh-first.ensures;
-        next_room = seated t c.fresh-next.ensures;
-        areas_room = twelfth_of p.floats_room;
-        plane_floats_room = rows_of n p.plane_floats_room;
-        of_room = seated t c.fresh-of.ensures;
-      };
+          keys_room = p.keys_room;
+          low_keys_room = p.low_keys_room;
+          index_room = p.index_room;
+          words_room = three_of n p.words_room;
+          scratch_room = three_of n p.scratch_room;
+          numbers_room = p.numbers_room;
+          first_room = seated t c.fresh-first.ensures;
+          next_room = seated t c.fresh-next.ensures;
+          areas_room = twelfth_of p.floats_room;
+          plane_floats_room = rows_of n p.plane_floats_room;
+          of_room = seated t c.fresh-of.ensures;
+        };
       held = c.requires.held.0;
       count_nonzero = c.requires.held.1;
     }
@@ -59,28 +59,28 @@ group_planes-ng-requires c =
     let t = c.requires.triangles_lent in let p = c.requires.planes_room in let r = c.open_patches-np.ensures.upper_bound in record {
       triangles_lent = t;
       np_le_m = (
-        r.0,
-        fewer_rows r.0 t.some (still c.open_patches-np.auto.plane_floats p.plane_floats_room),
-        le_trans t.some (still c.open_patches-np.auto.of (seated t
-            c.fresh-of.ensures)),
-      );
+          r.0,
+          fewer_rows r.0 t.some (still c.open_patches-np.auto.plane_floats p.plane_floats_room),
+          le_trans t.some (still c.open_patches-np.auto.of (seated t
+              c.fresh-of.ensures)),
+        );
       n_in_bounds = (still c.open_patches-np.auto.numbers p.numbers_room, c.open_patches-np.ensures.numbered);
       group_room = record {
-        keys_room = third_of (still c.open_patches-np.auto.keys p.keys_room);
-        words_room = still c.open_patches-np.auto.words p.words_room;
-        scratch_room = still c.open_patches-np.auto.scratch p.scratch_room;
-        index_room = third_of (still c.open_patches-np.auto.index p.index_room);
-        next_room = still_below c.open_patches-np.auto.next (seated_below t
-            c.fresh-next.ensures);
-        adjacency_room = p.adjacency_room;
-        plane_triangles_room = p.plane_triangles_room;
-        first_room = still c.open_patches-np.auto.first (seated t
-            c.fresh-first.ensures);
-        plane_words_room = fifth_of p.plane_words_room;
-        queue_room = p.queue_room;
-        offsets_room = p.offsets_room;
-        floats_room = still c.open_patches-np.auto.areas p.floats_room;
-      };
+            keys_room = third_of (still c.open_patches-np.auto.keys p.keys_room);
+            words_room = still c.open_patches-np.auto.words p.words_room;
+            scratch_room = still c.open_patches-np.auto.scratch p.scratch_room;
+            index_room = third_of (still c.open_patches-np.auto.index p.index_room);
+            next_room = still_below c.open_patches-np.auto.next (seated_below t
+                c.fresh-next.ensures);
+            adjacency_room = p.adjacency_room;
+            plane_triangles_room = p.plane_triangles_room;
+            first_room = still c.open_patches-np.auto.first (seated t
+                c.fresh-first.ensures);
+            plane_words_room = fifth_of p.plane_words_room;
+            queue_room = p.queue_room;
+            offsets_room = p.offsets_room;
+            floats_room = still c.open_patches-np.auto.areas p.floats_room;
+          };
     }
 
 pub overflow_cast-settings : goal.overflow_cast-settings
@@ -103,24 +103,24 @@ ranked_planes-requires c =
       triangles_lent = t;
       group_planes = c.group_planes-ng.ensures.group_planes;
       edges_room = record {
-        keys_room = still c.group_planes-ng.auto.keys (still c.open_patches-np.auto.keys p.keys_room);
-        low_keys_room = still c.open_patches-np.auto.low_keys p.low_keys_room;
-        index_room = still c.group_planes-ng.auto.index (still c.open_patches-np.auto.index p.index_room);
-        words_room = three_of n (still c.group_planes-ng.auto.words (still c.open_patches-np.auto.words p.words_room));
-        scratch_room = three_of n (still c.group_planes-ng.auto.scratch (still c.open_patches-np.auto.scratch p.scratch_room));
-        numbers_room = still c.open_patches-np.auto.numbers p.numbers_room;
-        queue_room = still c.group_planes-ng.auto.queue p.queue_room;
-        offsets_room = still c.group_planes-ng.auto.offsets (under p.offsets_room);
-      };
+            keys_room = still c.group_planes-ng.auto.keys (still c.open_patches-np.auto.keys p.keys_room);
+            low_keys_room = still c.open_patches-np.auto.low_keys p.low_keys_room;
+            index_room = still c.group_planes-ng.auto.index (still c.open_patches-np.auto.index p.index_room);
+            words_room = three_of n (still c.group_planes-ng.auto.words (still c.open_patches-np.auto.words p.words_room));
+            scratch_room = three_of n (still c.group_planes-ng.auto.scratch (still c.open_patches-np.auto.scratch p.scratch_room));
+            numbers_room = still c.open_patches-np.auto.numbers p.numbers_room;
+            queue_room = still c.group_planes-ng.auto.queue p.queue_room;
+            offsets_room = still c.group_planes-ng.auto.offsets (under p.offsets_room);
+          };
       n_in_bounds = (
-        still c.group_planes-ng.auto.next (still c.open_patches-np.auto.next (seated t
-            c.fresh-next.ensures)),
-        record {
-          floats_room = still c.open_patches-np.auto.plane_floats p.plane_floats_room;
-          words_room = still c.group_planes-ng.auto.plane_words p.plane_words_room;
-          edges_room = p.plane_edges_room;
-        },
-      );
+            still c.group_planes-ng.auto.next (still c.open_patches-np.auto.next (seated t
+                c.fresh-next.ensures)),
+            record {
+              floats_room = still c.open_patches-np.auto.plane_floats p.plane_floats_room;
+              words_room = still c.group_planes-ng.auto.plane_words p.plane_words_room;
+              edges_room = p.plane_edges_room;
+            },
+          );
     }
 
 pub shape_of-keys : goal.shape_of-keys
@@ -189,24 +189,24 @@ shape_of-plane_edges c = c.ranked_planes.auto.plane_edges
 pub returns : goal.returns
 unfolding planes_of_triangles
 returns c =
-    let same_length = ◌∙◌ {b = length c.group_planes-ng.new.keys} c.ranked_planes.auto.keys (◌∙◌ {b = length
-    c.open_patches-np.new.keys} c.group_planes-ng.auto.keys c.open_patches-np.auto.keys) in
-    let same-length-9 = ◌∙◌ {b = length c.group_planes-ng.new.offsets} c.ranked_planes.auto.offsets
-    c.group_planes-ng.auto.offsets in
-    let same-length-2 = ◌∙◌ {b = length c.open_patches-np.new.low_keys} c.ranked_planes.auto.low_keys c.open_patches-np.auto.low_keys in
-    let same-length-7 = c.group_planes-ng.auto.adjacency in
-    let same-length-6 = ◌∙◌ {b = length c.open_patches-np.new.numbers} c.ranked_planes.auto.numbers
-    c.open_patches-np.auto.numbers in
-    let same-length-4 = ◌∙◌ {b = length c.group_planes-ng.new.scratch} c.ranked_planes.auto.scratch (◌∙◌ {b = length
-    c.open_patches-np.new.scratch} c.group_planes-ng.auto.scratch c.open_patches-np.auto.scratch) in
     let same-length-5 = ◌∙◌ {b = length c.group_planes-ng.new.index} c.ranked_planes.auto.index (◌∙◌ {b = length
     c.open_patches-np.new.index} c.group_planes-ng.auto.index c.open_patches-np.auto.index) in
     let same-length-8 = ◌∙◌ {b = length c.group_planes-ng.new.queue} c.ranked_planes.auto.queue
     c.group_planes-ng.auto.queue in
+    let same-length-2 = ◌∙◌ {b = length c.open_patches-np.new.low_keys} c.ranked_planes.auto.low_keys c.open_patches-np.auto.low_keys in
+    let same-length-9 = ◌∙◌ {b = length c.group_planes-ng.new.offsets} c.ranked_planes.auto.offsets
+    c.group_planes-ng.auto.offsets in
+    let same-length-7 = c.group_planes-ng.auto.adjacency in
     let same-length-3 = ◌∙◌ {b = length c.group_planes-ng.new.words} c.ranked_planes.auto.words (◌∙◌ {b = length
     c.open_patches-np.new.words} c.group_planes-ng.auto.words c.open_patches-np.auto.words) in
     let same-length-10 = ◌∙◌ {b = length c.open_patches-np.new.areas}
     c.group_planes-ng.auto.floats c.open_patches-np.auto.areas in
+    let same-length-4 = ◌∙◌ {b = length c.group_planes-ng.new.scratch} c.ranked_planes.auto.scratch (◌∙◌ {b = length
+    c.open_patches-np.new.scratch} c.group_planes-ng.auto.scratch c.open_patches-np.auto.scratch) in
+    let same-length-6 = ◌∙◌ {b = length c.open_patches-np.new.numbers} c.ranked_planes.auto.numbers
+    c.open_patches-np.auto.numbers in
+    let same_length = ◌∙◌ {b = length c.group_planes-ng.new.keys} c.ranked_planes.auto.keys (◌∙◌ {b = length
+    c.open_patches-np.new.keys} c.group_planes-ng.auto.keys c.open_patches-np.auto.keys) in
     let a = c.args in let s = plane_settings a.settings in let ts = triangles_in a.triangles.now a.handles.now a.n a.m in
     let r = c.ranked_planes.ensures in record {
       by_index = λ tri k h. r.result_after ∙ ap (λ (ps : List Plane). map (bordered_of ts) (ranked_of ts s.most ps))

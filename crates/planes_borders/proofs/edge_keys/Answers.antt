@@ -44,7 +44,7 @@ pub loop-t-preserved : goal.loop-t-preserved
 loop-t-preserved c =
     let a = c.args in let h = c.loop-t-test.true in let p = c.requires.keys_len in (
       omega arith,
-      keyed_more a.numbers.now a.n a.of.now a.keys.now a.low_keys.now c.loop-t.keys c.loop-t.low_keys c.put_key.new.keys c.put_key.new.low_keys c.put_key-in-loop-t.new.keys c.put_key-in-loop-t.new.low_keys c.put_key-in-loop-t-2.new.keys c.put_key-in-loop-t-2.new.low_keys c.loop-t.t c.loop-t.inv.1 (omega arith)
+      keyed_more a.numbers.now a.n a.of.now a.keys.now a.low_keys.now c.loop-t.keys c.loop-t.low_keys c.put_key.new.keys c.put_key.new.low_keys c.put_key-in-loop-t.new.keys c.put_key-in-loop-t.new.low_keys c.put_key-in-loop-t-2.new.keys c.put_key-in-loop-t-2.new.low_keys c.loop-t.t c.loop-t.invariant.1 (omega arith)
           (omega arith) (c.put_key.ensures.keys_after, (c.put_key.ensures.low_keys_after, c.put_key.ensures.q_bound)) (c.put_key-in-loop-t.ensures.keys_after, (c.put_key-in-loop-t.ensures.low_keys_after, c.put_key-in-loop-t.ensures.q_bound)) (c.put_key-in-loop-t-2.ensures.keys_after, (c.put_key-in-loop-t-2.ensures.low_keys_after, c.put_key-in-loop-t-2.ensures.q_bound)),
     )
 
@@ -56,6 +56,6 @@ shape_of-low_keys c = c.loop-t.invariant.1.len_lo
 
 pub returns : goal.returns
 returns c = let a = c.args in let p = c.requires.keys_len in let q = c.loop-t-test.false in record {
-  below = keyed_low a.numbers.now a.n a.of.now a.keys.now a.low_keys.now c.loop-t.keys c.loop-t.low_keys c.loop-t.t c.loop-t.invariant.1 (omega arith);
-  by_index = λ t j h g. c.loop-t.invariant.1.keys t j (omega (arith, h, q)) g;
-}
+      below = keyed_low a.numbers.now a.n a.of.now a.keys.now a.low_keys.now c.loop-t.keys c.loop-t.low_keys c.loop-t.t c.loop-t.invariant.1 (omega arith);
+      by_index = λ t j h g. c.loop-t.invariant.1.keys t j (omega (arith, h, q)) g;
+    }

@@ -8,30 +8,30 @@ pub loop-t-init : goal.loop-t-init
 loop-t-init c = planed_none _ _ _ _
 
 pub offset_bounds-of-t : goal.offset_bounds-of-t
-offset_bounds-of-t c = omega (arith, c.well_formed, (c.requires.m_in_bounds, c.requires.m_in_bounds_2), c.loop-t-test.true)
+offset_bounds-of-t c = omega (arith, c.well_formed, c.requires.m_in_bounds, c.requires.m_in_bounds_2, c.loop-t-test.true)
 
 pub bounds-of-t : goal.bounds-of-t
-bounds-of-t c = omega (arith, (c.requires.m_in_bounds, c.requires.m_in_bounds_2), c.loop-t-test.true)
+bounds-of-t c = omega (arith, c.requires.m_in_bounds, c.requires.m_in_bounds_2, c.loop-t-test.true)
 
 pub offset_bounds-plane_of-t : goal.offset_bounds-plane_of-t
 offset_bounds-plane_of-t c =
-    omega (arith, c.well_formed, (c.requires.m_in_bounds, c.requires.m_in_bounds_2), c.loop-t-test.true)
+    omega (arith, c.well_formed, c.requires.m_in_bounds, c.requires.m_in_bounds_2, c.loop-t-test.true)
 
 pub bounds-plane_of-t : goal.bounds-plane_of-t
-bounds-plane_of-t c = omega (arith, (c.requires.m_in_bounds, c.requires.m_in_bounds_2), c.loop-t-test.true, c.loop-t.invariant.len)
+bounds-plane_of-t c = omega (arith, c.requires.m_in_bounds, c.requires.m_in_bounds_2, c.loop-t-test.true, c.loop-t.invariant.len)
 
 pub overflow_add-t : goal.overflow_add-t
 overflow_add-t c =
-    omega (arith, c.well_formed, (c.requires.m_in_bounds, c.requires.m_in_bounds_2), c.loop-t-test.true)
+    omega (arith, c.well_formed, c.requires.m_in_bounds, c.requires.m_in_bounds_2, c.loop-t-test.true)
 
 pub loop-t-smaller : goal.loop-t-smaller
 loop-t-smaller c = omega (arith, c.loop-t-test.true)
 
 pub loop-t-preserved : goal.loop-t-preserved
 loop-t-preserved c =
-    planed_more _ _ _ _ _ _ _ c.loop-t.invariant c.loop-t-test.true (omega (arith, (c.requires.m_in_bounds, c.requires.m_in_bounds_2), c.loop-t-test.true)) (omega (
+    planed_more _ _ _ _ _ _ _ c.loop-t.invariant c.loop-t-test.true (omega (arith, c.requires.m_in_bounds, c.requires.m_in_bounds_2, c.loop-t-test.true)) (omega (
       arith,
-      (c.requires.m_in_bounds, c.requires.m_in_bounds_2),
+      c.requires.m_in_bounds, c.requires.m_in_bounds_2,
       c.loop-t-test.true,
       c.loop-t.invariant.len,
     )) c.plane_number.ensures

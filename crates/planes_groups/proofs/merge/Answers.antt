@@ -81,8 +81,8 @@ returns c =
       upper_bound = c.grow_groups.ensures.upper_bound;
       grouped = c.grow_groups.ensures.grouped;
       by_index = λ adj same.
-          c.grow_groups.ensures.by_index adj (rows_adjacent a.np c.adjacency.new.sorted c.adjacency.new.starts (is_joined a.numbers.now a.n a.vertices a.of.now a.m a.np) adj c.adjacency.ensures.by_index same)
-          ∙ ap (groups_from a.np adj f (take a.np a.order.now)) (ap (free_of a.np) e ∙ free_all a.np (length a.assigned.now) c.requires.np_in_bounds_3.0);
+            c.grow_groups.ensures.by_index adj (rows_adjacent a.np c.adjacency.new.sorted c.adjacency.new.starts (is_joined a.numbers.now a.n a.vertices a.of.now a.m a.np) adj c.adjacency.ensures.by_index same)
+            ∙ ap (groups_from a.np adj f (take a.np a.order.now)) (ap (free_of a.np) e ∙ free_all a.np (length a.assigned.now) c.requires.np_in_bounds_3.0);
     }
 
 pub clear_u32-requires : goal.clear_u32-requires

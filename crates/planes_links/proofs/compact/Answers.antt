@@ -32,6 +32,6 @@ shape_of-sorted c = c.loop-i.invariant.2
 
 pub returns : goal.returns
 returns c = let all = words_done c.args.words.now c.loop-i.sorted c.loop-i.new c.loop-i.k c.loop-i.i c.loop-i.invariant.3 c.loop-i-test.false (λ p. c.loop-i.invariant.4 (omega (arith, p, c.loop-i-test.false))) in record {
-  upper_bound = all.0;
-  sorted_after = all.1;
-}
+      upper_bound = all.0;
+      sorted_after = all.1;
+    }

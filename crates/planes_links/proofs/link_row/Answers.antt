@@ -9,9 +9,9 @@ use Rattle.planes_links.proofs.link_row.Goals as goal
 
 pub link_all-requires : goal.link_all-requires
 link_all-requires c = record {
-  row_len_bound = omega arith;
-  row_in_bounds = omega arith;
-}
+      row_len_bound = omega arith;
+      row_in_bounds = omega arith;
+    }
 
 pub returns-then-row-le-MOST_LINKED : goal.returns-then-row-le-MOST_LINKED
 returns-then-row-le-MOST_LINKED c =

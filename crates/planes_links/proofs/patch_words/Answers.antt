@@ -15,10 +15,10 @@ loop-i-preserved-then-p-np c =
 
 pub push-k-requires : goal.push-k-requires
 push-k-requires c = record {
-  k_in_bounds = omega (arith, c.loop-i.invariant.2);
-  p_lt_most_rows = omega (arith, c.if-p-np.false);
-  q_lt_most_triangles = omega arith;
-}
+      k_in_bounds = omega (arith, c.loop-i.invariant.2);
+      p_lt_most_rows = omega (arith, c.if-p-np.false);
+      q_lt_most_triangles = omega arith;
+    }
 
 pub loop-i-preserved : goal.loop-i-preserved
 loop-i-preserved c =

@@ -32,7 +32,7 @@ loop-t-preserved c =
     let a = c.args in let ts = triangles_in a.triangles.now a.handles.now a.n a.m in
     rw (add-one c.loop-t.t) (filling_more ts a.first.now a.m a.rows.now a.of.now a.cells.now a.next.now c.loop-t.rows c.loop-t.of c.loop-t.cells c.loop-t.heads c.loop-t.next c.loop-t.t c.loop-t.np
     c.turn-np.new.rows c.turn-np.new.of c.turn-np.new.cells c.turn-np.new.heads c.turn-np.new.next c.turn-np.result
-    c.loop-t.inv c.loop-t-test.true c.turn-np.auto.rows c.turn-np.auto.of c.turn-np.auto.cells c.turn-np.auto.next
+    c.loop-t.invariant c.loop-t-test.true c.turn-np.auto.rows c.turn-np.auto.of c.turn-np.auto.cells c.turn-np.auto.next
     c.turn-np.ensures.standing_2 (c.turn-np.ensures.result_after ts (triangle_in a.triangles.now a.handles.now a.n a.m c.loop-t.t c.loop-t-test.true)) c.turn-np.ensures.by_index c.turn-np.ensures.none_of_after)
 
 pub shape_of-cells : goal.shape_of-cells
@@ -52,9 +52,9 @@ shape_of-of c = c.loop-t.invariant.len_of
 
 pub returns : goal.returns
 returns c =
-    let same_length = c.loop-t.invariant.len_cells in
-    let same-length-3 = c.loop-t.invariant.len_next in
     let same-length-2 = c.loop-t.invariant.standing.grid.buckets ∙ sym c.requires.heads_len.0 in
+    let same-length-3 = c.loop-t.invariant.len_next in
+    let same_length = c.loop-t.invariant.len_cells in
     let a = c.args in let all = filling_all a.triangles.now a.handles.now a.n a.first.now a.m a.rows.now a.of.now a.cells.now a.next.now c.loop-t.rows c.loop-t.of c.loop-t.cells c.loop-t.heads c.loop-t.next c.loop-t.t c.loop-t.np c.loop-t.invariant c.loop-t-test.false c.requires.n_in_bounds.2 c.requires.by_index in record {
       result_after = all.0;
       upper_bound = all.1.0;

@@ -259,18 +259,18 @@ shape_of-plane_edges c = c.put_ranked.auto.plane_edges
 
 pub returns : goal.returns
 returns c =
-    let same-length-4 = c.count_edges.auto.words
-    ∙ c.rank_planes.auto.words in
-    let same-length-2 = c.count_edges.auto.low_keys in
-    let same_length = c.count_edges.auto.keys ∙ length_front c.args.keys.now c.rank_planes.new.keys
-    c.args.ng c.rank_planes.auto.keys in
-    let same-length-9 = length_front c.args.next.now c.rank_planes.new.index c.args.ng c.rank_planes.auto.index in
     let same-length-3 = c.count_edges.auto.index in
-    let same-length-8 = c.count_edges.auto.offsets in
-    let same-length-7 = c.count_edges.auto.queue in
+    let same-length-2 = c.count_edges.auto.low_keys in
     let same-length-6 = c.count_edges.auto.numbers in
+    let same-length-7 = c.count_edges.auto.queue in
     let same-length-5 = c.count_edges.auto.scratch
     ∙ c.rank_planes.auto.scratch in
+    let same-length-9 = length_front c.args.next.now c.rank_planes.new.index c.args.ng c.rank_planes.auto.index in
+    let same-length-4 = c.count_edges.auto.words
+    ∙ c.rank_planes.auto.words in
+    let same-length-8 = c.count_edges.auto.offsets in
+    let same_length = c.count_edges.auto.keys ∙ length_front c.args.keys.now c.rank_planes.new.keys
+    c.args.ng c.rank_planes.auto.keys in
     let is = order_is c.args.triangles.now c.args.handles.now c.args.n c.args.m c.args.group_floats.now c.args.group_words.now c.args.plane_triangles.now c.args.plane_of.now c.args.ng c.requires.group_planes.held c.requires.group_planes.tris c.rank_planes.new.index
     (drop c.args.ng
     c.args.next.now) (length (take c.args.ng c.args.next.now)) c.fewer-few.result c.rank_planes.ensures.ranked (length-take-le c.args.ng c.args.next.now (omega (

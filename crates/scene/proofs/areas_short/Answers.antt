@@ -1,6 +1,5 @@
 -- `scene::areas_short` meets its contract: a loop over the table, where from area i on one is short just where one of all is.
 use mathlib.Core.Path.{◌≡◌, refl, sym, ◌∙◌}
-use Prim.Native.Nat.{◌-◌}
 use native.Mathlib.Omega.{arith}
 use borrow.Author.Tests.{lt-ltb, le-ltb}
 use lib.ListN.{length}

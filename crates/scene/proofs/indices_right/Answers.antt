@@ -1,5 +1,4 @@
 -- `scene::indices_right` meets its contract: each mesh takes its indices from what is left; at the end none may be left.
-use Prim.Native.Nat.{◌-◌}
 use native.Mathlib.Omega.{arith}
 use borrow.Author.Rules.{rules}
 use Rattle.scene.specs.Scene.{headers, index_sum}

@@ -1,5 +1,5 @@
 -- `scene::positions_right` meets its contract: each mesh takes its floats from what is left; at the end none may be left.
-use Prim.Native.Nat.{◌-◌, ◌*◌}
+use Prim.Native.Nat.{◌*◌}
 use native.Mathlib.Omega.{arith}
 use borrow.Author.Rules.{rules}
 use Rattle.scene.specs.Scene.{headers, vertex_sum}

@@ -1,6 +1,5 @@
 -- `scene::unknown_handle` meets its contract: a loop over the headers: the rest from here has an unknown handle just where the whole has.
 use mathlib.Core.Path.{refl, sym, ◌∙◌}
-use Prim.Native.Nat.{◌-◌}
 use native.Mathlib.Omega.{arith}
 use borrow.Author.Tests.{lt-ltb, le-ltb}
 use Rattle.scene.proofs.Cuts.{handle_step, handle_end}

@@ -1,5 +1,4 @@
 -- `scene::whole_triples` meets its contract: a loop over the headers: what is counted and what is left make the sum, until it would pass the limit.
-use Prim.Native.Nat.{◌-◌}
 use native.Mathlib.Omega.{arith}
 use Rattle.scene.proofs.Cuts.{triple_step, triple_end}
 use Rattle.scene.proofs.whole_triples.Goals as goal

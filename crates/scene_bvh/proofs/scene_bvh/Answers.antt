@@ -51,12 +51,12 @@ shape_of-tree c = c.build_flat_bvh.auto.tree
 
 pub returns : goal.returns
 returns c =
+    let same-length-6 = c.build_flat_bvh.auto.areas in
     let same-length-7 = c.build_flat_bvh.auto.boxes in
-    let same_length = c.build_flat_bvh.auto.extents in
+    let same-length-5 = c.build_flat_bvh.auto.scratch in
     let same-length-4 = c.build_flat_bvh.auto.words in
     let same-length-2 = c.build_flat_bvh.auto.keys in
-    let same-length-5 = c.build_flat_bvh.auto.scratch in
-    let same-length-6 = c.build_flat_bvh.auto.areas in
+    let same_length = c.build_flat_bvh.auto.extents in
     let a = c.args in
     let R = c.requires in record {
       stands = returned a.triangles.now a.handles.now a.n a.m a.extents.now a.keys.now a.leaf_order.now a.words.now a.scratch.now a.areas.now a.boxes.now a.nodes.now a.tree.now R c.build_flat_bvh.new.boxes c.build_flat_bvh.new.nodes c.build_flat_bvh.new.leaf_order c.build_flat_bvh.new.tree

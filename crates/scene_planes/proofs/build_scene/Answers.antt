@@ -70,21 +70,21 @@ build_planes-planes-requires c =
       triangles_lent = t;
       held = (w.tree.held, w.tree.some);
       planes_room = record {
-        keys_room = omega (arith, c.scene_bvh-nodes_count.auto.keys, p.keys_room);
-        low_keys_room = p.low_keys_room;
-        words_room = omega (arith, c.scene_bvh-nodes_count.auto.words, p.words_room);
-        scratch_room = omega (arith, c.scene_bvh-nodes_count.auto.scratch, p.scratch_room);
-        index_room = p.index_room;
-        numbers_room = p.numbers_room;
-        adjacency_room = p.adjacency_room;
-        queue_room = p.queue_room;
-        offsets_room = p.offsets_room;
-        plane_triangles_room = p.plane_triangles_room;
-        plane_words_room = p.plane_words_room;
-        plane_floats_room = omega (arith, c.scene_bvh-nodes_count.auto.extents, p.plane_floats_room);
-        floats_room = omega (arith, c.scene_bvh-nodes_count.auto.boxes, p.floats_room);
-        plane_edges_room = omega (arith, c.scene_bvh-nodes_count.auto.areas, p.plane_edges_room);
-      };
+          keys_room = omega (arith, c.scene_bvh-nodes_count.auto.keys, p.keys_room);
+          low_keys_room = p.low_keys_room;
+          words_room = omega (arith, c.scene_bvh-nodes_count.auto.words, p.words_room);
+          scratch_room = omega (arith, c.scene_bvh-nodes_count.auto.scratch, p.scratch_room);
+          index_room = p.index_room;
+          numbers_room = p.numbers_room;
+          adjacency_room = p.adjacency_room;
+          queue_room = p.queue_room;
+          offsets_room = p.offsets_room;
+          plane_triangles_room = p.plane_triangles_room;
+          plane_words_room = p.plane_words_room;
+          plane_floats_room = omega (arith, c.scene_bvh-nodes_count.auto.extents, p.plane_floats_room);
+          floats_room = omega (arith, c.scene_bvh-nodes_count.auto.boxes, p.floats_room);
+          plane_edges_room = omega (arith, c.scene_bvh-nodes_count.auto.areas, p.plane_edges_room);
+        };
     }
 
 pub shape_of-tree : goal.shape_of-tree
@@ -141,15 +141,15 @@ shape_of-plane_edges c = ◌∙◌ {b = length c.scene_bvh-nodes_count.new.areas
 pub returns : goal.returns
 returns c =
     let same-length-11 = c.build_planes-planes.auto.queue in
-    let same-length-12 = c.build_planes-planes.auto.offsets in
+    let same-length-6 = ◌∙◌ {b = length c.scene_bvh-nodes_count.new.words} {c = length c.args.words.now} c.build_planes-planes.auto.words c.scene_bvh-nodes_count.auto.words in
     let same-length-7 = ◌∙◌ {b = length c.scene_bvh-nodes_count.new.scratch} {c = length c.args.scratch.now} c.build_planes-planes.auto.scratch c.scene_bvh-nodes_count.auto.scratch in
     let same-length-13 = ◌∙◌ {b = length c.scene_bvh-nodes_count.new.boxes} {c = length c.args.floats.now} c.build_planes-planes.auto.floats c.scene_bvh-nodes_count.auto.boxes in
-    let same-length-9 = c.build_planes-planes.auto.numbers in
     let same-length-10 = c.build_planes-planes.auto.adjacency in
-    let same-length-6 = ◌∙◌ {b = length c.scene_bvh-nodes_count.new.words} {c = length c.args.words.now} c.build_planes-planes.auto.words c.scene_bvh-nodes_count.auto.words in
+    let same-length-12 = c.build_planes-planes.auto.offsets in
+    let same-length-9 = c.build_planes-planes.auto.numbers in
     let same-length-8 = c.build_planes-planes.auto.index in
-    let same-length-5 = c.build_planes-planes.auto.low_keys in
     let same-length-4 = ◌∙◌ {b = length c.scene_bvh-nodes_count.new.keys} {c = length c.args.keys.now} c.build_planes-planes.auto.keys c.scene_bvh-nodes_count.auto.keys in
+    let same-length-5 = c.build_planes-planes.auto.low_keys in
     let a = c.args in record {
       tree_stands = c.scene_bvh-nodes_count.ensures.stands;
       planes_stand = record {

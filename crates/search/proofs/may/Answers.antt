@@ -11,7 +11,7 @@ use Rattle.search.proofs.Laws.{may_begin, planes_length}
 use Rattle.search.proofs.may.Goals as goal
 
 pub lies_on-requires : goal.lies_on-requires
-lies_on-requires c = (omega (arith, (c.requires.depth_in_bounds, c.requires.count_in_bounds)), omega (arith, (c.requires.depth_in_bounds, c.requires.count_in_bounds)))
+lies_on-requires c = (omega (arith, c.requires.depth_in_bounds, c.requires.count_in_bounds), omega (arith, c.requires.depth_in_bounds, c.requires.count_in_bounds))
 
 pub bounds-seq-depth : goal.bounds-seq-depth
 bounds-seq-depth c = omega (arith, c.if-depth-lt-RULED.false, c.requires.depth_in_bounds.0)

@@ -25,7 +25,8 @@ put_tap-requires c =
 
 pub loop-k-preserved : goal.loop-k-preserved
 loop-k-preserved c =
-    let a = c.args in (
+    let a = c.args in
+    (
       omega arith,
       c.put_tap.auto.taps ∙ c.loop-k.invariant.1,
       taps_step a.candidate_floats.now a.candidate_words.now a.count a.positions.now c.loop-k.k c.loop-k.taps _ _

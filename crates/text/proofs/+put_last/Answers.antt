@@ -8,14 +8,6 @@ use Rattle.text.proofs.+put_last.Goals as goal
 pub returns-then-k-eq0 : goal.returns-then-k-eq0
 returns-then-k-eq0 t c = rw (← last_none _ _ c.if-k-eq0.true) (wrote_none _ _)
 
--- src/lib.rt:315:33
-pub overflow_sub-k : goal.overflow_sub-k
-overflow_sub-k t c = omega (arith, pos_of_ne-zero c.if-k-eq0.false)
-
--- src/lib.rt:315:9
-pub put_last-next-requires : goal.put_last-next-requires
-put_last-next-requires t c = let z = pos_of_ne-zero c.if-k-eq0.false in (omega arith, omega arith)
-
 -- src/lib.rt:316:5
 pub put-requires : goal.put-requires
 put-requires t c =

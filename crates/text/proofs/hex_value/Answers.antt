@@ -1,5 +1,5 @@
 -- `text::hex_value` meets its contract. The loop's invariant: n is the fold over the digits passed.
-use Rattle.std.proofs.Common.{◌-◌, refl, ◌∙◌}
+use Rattle.std.proofs.Common.{refl, ◌∙◌}
 use Rattle.text.specs.Numbers.{push_hex_digit, hex_value_of}
 use Rattle.text.proofs.Loops.{fold_more, fold_all}
 use Rattle.text.proofs.hex_value.Goals as goal

@@ -1,5 +1,5 @@
 -- `text::is_hex` meets its contract. The loop's invariant: the bytes from i on are all digits exactly where the whole word is.
-use Rattle.std.proofs.Common.{◌-◌, sym, refl, ◌∙◌}
+use Rattle.std.proofs.Common.{sym, refl, ◌∙◌}
 use Rattle.text.proofs.Loops.{hex_not, hex_on, hex_all}
 use Rattle.text.proofs.is_hex.Goals as goal
 

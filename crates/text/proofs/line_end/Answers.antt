@@ -1,5 +1,5 @@
 -- `text::line_end` meets its contract. The loop's invariant: the line that i is in ends where that of `at` does.
-use Rattle.std.proofs.Common.{◌-◌, refl, arith}
+use Rattle.std.proofs.Common.{refl, arith}
 use Rattle.text.proofs.Loops.{line_here, line_on, line_last}
 use Rattle.text.proofs.line_end.Goals as goal
 

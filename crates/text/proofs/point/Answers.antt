@@ -1,5 +1,4 @@
 -- `text::point` meets its contract. The loop's invariant: the first point from i on is that of the whole word.
-use Rattle.std.proofs.Common.{◌-◌}
 use Rattle.text.proofs.Loops.{point_here, point_on, point_end}
 use Rattle.text.proofs.point.Goals as goal
 

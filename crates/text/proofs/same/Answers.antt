@@ -1,5 +1,4 @@
 -- `text::same` meets its contract: each index is below both lengths.
-use Rattle.std.proofs.Common.{◌-◌}
 use Rattle.text.proofs.same.Goals as goal
 
 pub returns-then-a-b : goal.returns-then-a-b

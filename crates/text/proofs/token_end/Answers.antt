@@ -1,5 +1,5 @@
 -- `text::token_end` meets its contract: the place is within the text.
-use Rattle.std.proofs.Common.{◌-◌, arith}
+use Rattle.std.proofs.Common.{arith}
 use Rattle.text.proofs.token_end.Goals as goal
 
 pub loop-i-init : goal.loop-i-init

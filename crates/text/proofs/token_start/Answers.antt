@@ -1,5 +1,4 @@
 -- `text::token_start` meets its contract: the place is within the text.
-use Rattle.std.proofs.Common.{◌-◌}
 use Rattle.text.proofs.token_start.Goals as goal
 
 pub loop-i-init : goal.loop-i-init

@@ -1,5 +1,5 @@
 -- `text::value` meets its contract. The loop's invariant: v is the fold over the digits passed.
-use Rattle.std.proofs.Common.{◌-◌, get_or, refl, ◌∙◌, arith}
+use Rattle.std.proofs.Common.{get_or, refl, ◌∙◌, arith}
 use Rattle.listing.proofs.Reading.{decimal_at}
 use Rattle.text.specs.Numbers.{push}
 use Rattle.text.proofs.Loops.{fold_more, fold_all, push_end}

@@ -7,12 +7,6 @@ use Rattle.tree_split.specs.Split.{aabb_at_of, centroid_at_of}
 use Rattle.tree_build.proofs.Grows as law
 use Rattle.tree_build.proofs.+build_sah.Goals as goal
 
-pub split_node-at-requires : goal.split_node-at-requires
-split_node-at-requires t c = let R = c.requires in record {
-  listed = R.listed;
-  sorts = R.sorts;
-}
-
 pub put_leaf-requires : goal.put_leaf-requires
 put_leaf-requires t c = let a = c.args in
     let R = c.requires in record {
@@ -20,24 +14,6 @@ put_leaf-requires t c = let a = c.args in
           c.split_node-at.auto.leaf_order;
       room = R.room;
     }
-
-pub shape_of-leaf_order-then-at-eq0 : goal.shape_of-leaf_order-then-at-eq0
-shape_of-leaf_order-then-at-eq0 t c = c.split_node-at.auto.leaf_order
-
-pub shape_of-words-then-at-eq0 : goal.shape_of-words-then-at-eq0
-shape_of-words-then-at-eq0 t c = c.split_node-at.auto.words
-
-pub shape_of-scratch-then-at-eq0 : goal.shape_of-scratch-then-at-eq0
-shape_of-scratch-then-at-eq0 t c = c.split_node-at.auto.scratch
-
-pub shape_of-areas-then-at-eq0 : goal.shape_of-areas-then-at-eq0
-shape_of-areas-then-at-eq0 t c = c.split_node-at.auto.areas
-
-pub shape_of-boxes-then-at-eq0 : goal.shape_of-boxes-then-at-eq0
-shape_of-boxes-then-at-eq0 t c = c.put_leaf.auto.boxes
-
-pub shape_of-nodes-then-at-eq0 : goal.shape_of-nodes-then-at-eq0
-shape_of-nodes-then-at-eq0 t c = c.put_leaf.auto.nodes
 
 pub returns-then-at-eq0 : goal.returns-then-at-eq0
 returns-then-at-eq0 t c = let a = c.args in record {
@@ -50,15 +26,6 @@ returns-then-at-eq0 t c = let a = c.args in record {
     c.split_node-at.auto.areas,
   );
 }
-
-pub overflow_add-mid : goal.overflow_add-mid
-overflow_add-mid t c = let R = c.requires.listed in let w = c.split_node-at.ensures.within in let q = R.within in let f = R.few in let e = R.size in omega arith
-
-pub overflow_sub-levels : goal.overflow_sub-levels
-overflow_sub-levels t c = let z = c.split_node-at.ensures.deep c.if-at-eq0.false in omega arith
-
-pub overflow_add-next : goal.overflow_add-next
-overflow_add-next t c = let R = c.requires.listed in let z = R.some in let y = R.within in let x = c.requires.room.small in omega arith
 
 pub build_sah-right-requires : goal.build_sah-right-requires
 build_sah-right-requires t c = let a = c.args in
@@ -81,10 +48,6 @@ build_sah-right-requires t c = let a = c.args in
         ),
       ),
     )
-
-pub overflow_sub-levels-2 : goal.overflow_sub-levels-2
-overflow_sub-levels-2 t c = let z = c.split_node-at.ensures.deep
-    c.if-at-eq0.false in omega arith
 
 pub build_sah-end-requires : goal.build_sah-end-requires
 build_sah-end-requires t c = let a = c.args in
@@ -140,34 +103,6 @@ put_inner-requires t c = let a = c.args in
     let room = R.room.nodes_room in
     let small = R.room.small in
     (omega arith, omega arith, omega arith, omega arith)
-
-pub shape_of-leaf_order : goal.shape_of-leaf_order
-shape_of-leaf_order t c = c.build_sah-end.auto.leaf_order
-    ∙ c.build_sah-right.auto.leaf_order
-    ∙ c.split_node-at.auto.leaf_order
-
-pub shape_of-words : goal.shape_of-words
-shape_of-words t c = c.build_sah-end.auto.words
-    ∙ c.build_sah-right.auto.words
-    ∙ c.split_node-at.auto.words
-
-pub shape_of-scratch : goal.shape_of-scratch
-shape_of-scratch t c = c.build_sah-end.auto.scratch
-    ∙ c.build_sah-right.auto.scratch
-    ∙ c.split_node-at.auto.scratch
-
-pub shape_of-areas : goal.shape_of-areas
-shape_of-areas t c = c.build_sah-end.auto.areas
-    ∙ c.build_sah-right.auto.areas
-    ∙ c.split_node-at.auto.areas
-
-pub shape_of-boxes : goal.shape_of-boxes
-shape_of-boxes t c = c.put_inner.auto.boxes ∙ c.build_sah-end.auto.boxes
-    ∙ c.build_sah-right.auto.boxes
-
-pub shape_of-nodes : goal.shape_of-nodes
-shape_of-nodes t c = c.put_inner.auto.nodes ∙ c.build_sah-end.auto.nodes
-    ∙ c.build_sah-right.auto.nodes
 
 pub returns : goal.returns
 returns t c = let a = c.args in

@@ -1,6 +1,5 @@
 -- `tree_split::bounds` meets its contract: what is gathered so far is the box of the triangles so far.
 use mathlib.Core.Path.{sym, ◌∙◌}
-use Prim.Native.Nat.{◌-◌}
 use native.Mathlib.Omega.{arith}
 use Rattle.order.specs.Sort.{Below}
 use Rattle.tree_split.specs.Split.{aabb_at_of}

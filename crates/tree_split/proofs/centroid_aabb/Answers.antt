@@ -1,6 +1,5 @@
 -- `tree_split::centroid_aabb` meets its contract: what is gathered so far is the box of the centroids so far.
 use mathlib.Core.Path.{sym, ◌∙◌}
-use Prim.Native.Nat.{◌-◌}
 use native.Mathlib.Omega.{arith}
 use Rattle.order.specs.Sort.{Below}
 use Rattle.geometry.specs.Aabb.{from_point_of}

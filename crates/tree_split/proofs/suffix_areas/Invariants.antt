@@ -1,6 +1,6 @@
 -- `tree_split::suffix_areas` meets its contract: from the back, the areas from i on are those of the boxes from each position on.
 use mathlib.Core.Path.{◌≡◌}
-use Prim.Native.Nat.{ℕ, ◌-◌, ◌<◌, ◌≤◌}
+use Prim.Native.Nat.{ℕ, ◌<◌, ◌≤◌}
 use lib.ListN.{length, drop, get_or}
 use lib.Ieee.{nan}
 use Rattle.geometry.specs.Aabb.{surface_area_of}

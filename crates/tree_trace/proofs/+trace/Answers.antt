@@ -20,9 +20,6 @@ returns-then-fuel-eq0 t c = let a = c.args in
     let here = c.requires.i_lt_count in
     λ tri h ahead hit. law.trace_none slab_of tri a.way.ray a.padded.now a.nodes.now a.leaf_order.now a.fuel a.i a.best c.if-fuel-eq0.true
 
-pub overflow_sub-left : goal.overflow_sub-left
-overflow_sub-left t c = let z = c.if-fuel-eq0.false in omega arith
-
 pub links_at-k-requires : goal.links_at-k-requires
 links_at-k-requires t c = let a = c.args in
     let H = c.requires.held in
