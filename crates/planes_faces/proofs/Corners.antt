@@ -2,13 +2,13 @@
 -- step 1 by these keys as the definition of it (`first_in`).
 use mathlib.Core.Path.{◌≡◌, refl, sym, ap, ◌∙◌}
 use mathlib.Core.List.{List}
-use Prim.Native.Nat.{ℕ, suc, ◌+◌, ◌-◌, ◌*◌, ◌<◌, ◌≤◌}
-use native.Mathlib.Nat.{le_refl, not-suc-le-zero, zero-add, add-zero}
+use Prim.Native.Nat.{ℕ, suc, ◌+◌, ◌-◌, ◌*◌, ◌<◌}
+use native.Mathlib.Nat.{not-suc-le-zero, zero-add, add-zero}
 use native.Mathlib.Omega.{arith}
 use lib.Dec.{eqb}
-use lib.ListN.{length, get_or, set, length-set, get_or-append}
-use lib.Seq.{get_or-set_same, get_or-set_other, get_or_at}
-use lib.Ieee.{Float, nan, binary32, mul, of_bits}
+use lib.ListN.{length, get_or, set, length-set}
+use lib.Seq.{get_or-set_same, get_or-set_other}
+use lib.Ieee.{Float, nan}
 use Rattle.order.specs.Sort.{Below}
 use Rattle.float.proofs.Numbers.{by_order}
 use Rattle.order.proofs.Stable.{by-eq}
@@ -18,7 +18,7 @@ use Rattle.planes_faces.specs.Key.{Key, vertex_steps_per_metre, key_by, step_of,
 use Rattle.planes_faces.specs.Numbers.{number_of}
 use Rattle.columns.specs.Columns.{vec_at_of}
 use Rattle.planes_faces.specs.Faces.{Face, no_face, keys_of, face_at, is_first, face_in, faces_in}
-use Rattle.planes_faces.proofs.Numbers.{RangedFace, face_ranged, new_first}
+use Rattle.planes_faces.proofs.Numbers.{face_ranged, new_first}
 
 -- the key of point j
 abbrev pub point_key : List Float → ℕ → ℕ → Float → ℕ → Key

@@ -1,11 +1,10 @@
 -- What `first_indexes` rests on: a sort by the lower and then by the upper of two columns is the sort by both (`sort_both`), and each turn
 -- of the walk over its runs is a turn of `run_starts`. By the laws of `order`.
 use mathlib.Core.Path.{◌≡◌, refl, sym, ap, ◌∙◌}
-use mathlib.Core.Logic.{◌⊎◌}
 use mathlib.Core.Bool.{Bool, true, false, cond}
-use mathlib.Core.List.{List, ◌++◌}
-use Prim.Native.Nat.{ℕ, suc, ◌+◌, ◌*◌, ◌<◌, ◌≤◌, zero-le, suc-le-suc}
-use native.Mathlib.Nat.{le_refl, le_trans, le_of_suc-le-suc}
+use mathlib.Core.List.{List}
+use Prim.Native.Nat.{ℕ, suc, ◌+◌, ◌<◌, ◌≤◌}
+use native.Mathlib.Nat.{le_of_suc-le-suc}
 use native.Mathlib.Numerals.{add-one}
 use native.Mathlib.Omega.{arith}
 use lib.Dec.{eqb}
@@ -15,12 +14,11 @@ use borrow.Author.Tests.{eq-eqb, ne_eqb}
 use Rattle.order.specs.Sort.{sort_by, key_of, Below}
 use Rattle.float.proofs.Numbers.{by_order}
 use Rattle.order.proofs.Laws.{below_sort}
-use Rattle.order.proofs.Stable.{by-eq}
 use Rattle.order.proofs.Lexi.{lexi_sort}
 use Rattle.order.specs.Runs.{up_to, head_or, start_of_run, run_starts, first_at}
 use Rattle.order.proofs.Positions.{up_to_length, up_to_positions}
 use Rattle.planes_faces.specs.Numbers.{key_at}
-use Rattle.order.proofs.Runs.{runs_first, in_up_to}
+use Rattle.order.proofs.Runs.{runs_first}
 
 module _ (hi lo : List ℕ) (start x : ℕ) where
   pub start_same : get_or hi x 0 ≡ get_or hi start 0 → get_or lo x 0 ≡ get_or lo start 0 → start ≡ start_of_run (key_at hi lo) start x

@@ -1,17 +1,16 @@
 -- The numbers of corners are equal exactly where their keys are.
-use mathlib.Core.Path.{◌≡◌, refl, sym, ap, ◌∙◌}
+use mathlib.Core.Path.{◌≡◌, sym, ◌∙◌}
 use mathlib.Core.List.{List}
-use Prim.Native.Nat.{ℕ, zero, suc, ◌+◌, ◌*◌, ◌<◌, ◌≤◌}
+use Prim.Native.Nat.{ℕ, zero, suc, ◌+◌, ◌*◌, ◌<◌}
 use native.Mathlib.Nat.{lt_of_le_of_lt}
 use native.Mathlib.Omega.{arith}
-use lib.Dec.{eqb}
 use lib.Ieee.{Float}
 use lib.ListN.{get_or}
 use Rattle.columns.specs.Columns.{vec_at_of}
 use Rattle.order.specs.Runs.{first_at}
 use Rattle.order.proofs.Runs.{first_same, first_le}
-use Rattle.planes_faces.specs.Key.{same_key, key_by}
-use Rattle.planes_faces.specs.Numbers.{number_of, corner_in, place_in, number_in, Numbered}
+use Rattle.planes_faces.specs.Key.{key_by}
+use Rattle.planes_faces.specs.Numbers.{number_of, corner_in, place_in, Numbered}
 use Rattle.planes_faces.proofs.Numbers.{number_same, key_ranged}
 
 module _ (area : List Float) (n : ℕ) (scale : Float) (k : ℕ → ℕ) (id : List ℕ)

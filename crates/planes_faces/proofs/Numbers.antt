@@ -1,21 +1,19 @@
 -- Keys as numbers: two keys are the same where their numbers are, and step 1 by numbers is step 1.
 --     number_same    same_key is the equality of the numbers
 --     new_first      what `first_faces` promises by numbers is the definition's `is_first`
-use mathlib.Core.Path.{◌≡◌, refl, sym, ap, ◌∙◌}
-use mathlib.Core.Bool.{Bool, true, false, cond, not, ◌||◌, ◌&&◌}
-use mathlib.Core.List.{List, [], ◌∷◌, map}
-use Prim.Native.Nat.{ℕ, zero, suc, ◌+◌, ◌-◌, ◌*◌, ◌<◌, ◌≤◌, min}
-use native.Mathlib.Nat.{le_refl, min-le_right}
+use mathlib.Core.Path.{◌≡◌, sym, ap}
+use mathlib.Core.Bool.{true, false, not, ◌&&◌}
+use mathlib.Core.List.{List}
+use Prim.Native.Nat.{ℕ, zero, suc, ◌+◌, ◌*◌, ◌<◌, ◌≤◌, min}
+use native.Mathlib.Nat.{min-le_right}
 use native.Mathlib.Omega.{arith}
 use lib.Dec.{eqb}
 use lib.IntN.{ℤ, pos, negsuc, neg_ℤ}
-use lib.ListN.{length, get_or}
 use lib.Ieee.{Float, nan, inf, fin, binary32, mul}
-use borrow.Author.Tests.{eq-eqb, ne_eqb, eqb-true}
+use borrow.Author.Tests.{eq-eqb, ne_eqb}
 use Rattle.vector.specs.declared.Vec3.{Vec3}
 use Rattle.planes_faces.specs.Whole.{half_up, whole_of, place_of}
 use Rattle.order.proofs.Stable.{by-eq}
-use Rattle.order.specs.Runs.{any_by, up_to}
 use Rattle.planes_faces.specs.Triples.{any_order}
 use Rattle.planes_faces.specs.Numbers.{is_new_at}
 use Rattle.planes_faces.specs.Key.{Key, same_key, step_of, key_by, vertex_key}

@@ -1,10 +1,10 @@
 -- What `first_faces` rests on: the first face of a packed sorted triple of corner numbers is the first with its three keys in any order
 -- (`new_is`), and what the loop of `face_keys` holds (`Keys`).
 use mathlib.Core.Path.{◌≡◌, refl, sym, ap, ◌∙◌}
-use mathlib.Core.Bool.{Bool, true, false, cond, not, ◌||◌, ◌&&◌}
-use mathlib.Core.List.{List, [], ◌∷◌}
-use Prim.Native.Nat.{ℕ, suc, ◌+◌, ◌*◌, ◌<◌, ◌≤◌}
-use native.Mathlib.Nat.{le_refl, not-suc-le-zero}
+use mathlib.Core.Bool.{not}
+use mathlib.Core.List.{List}
+use Prim.Native.Nat.{ℕ, ◌+◌, ◌*◌, ◌<◌, ◌≤◌}
+use native.Mathlib.Nat.{not-suc-le-zero}
 use native.Mathlib.Omega.{arith}
 use lib.Dec.{eqb}
 use lib.ListN.{length, get_or, set, length-set}
@@ -12,7 +12,7 @@ use lib.Seq.{get_or-set_same, get_or-set_other}
 use Rattle.order.specs.Sort.{Below}
 use Rattle.float.proofs.Numbers.{by_order}
 use Rattle.order.proofs.Stable.{by-eq}
-use Rattle.order.specs.Runs.{first_at, any_by, up_to}
+use Rattle.order.specs.Runs.{first_at}
 use Rattle.planes_faces.specs.Triples.{any_order, lowest, middle, highest, packed3}
 use Rattle.planes_faces.specs.Numbers.{is_new_at, key_at}
 use Rattle.order.proofs.Runs.{first_is, first_same, first_le, any_under}

@@ -1,5 +1,5 @@
 -- The faces of scenes in columns are those of their triangles: what the later steps of the planes, which work on triangles, cite.
-use mathlib.Core.Path.{◌≡◌, refl, ap, ◌∙◌}
+use mathlib.Core.Path.{◌≡◌, refl, ap}
 use mathlib.Core.List.{List, [], ◌∷◌, map}
 use Prim.Native.Nat.{ℕ}
 use lib.Ieee.{Float}

@@ -1,13 +1,11 @@
 -- Three numbers in any order: the six tests of the definition, and the sorted three as one key.
 --     any_order_packed    the six tests pass where the packed sorted numbers are equal
 -- By the six orders as a relation that composes and turns back; two sorted triples in another order are equal.
-use mathlib.Core.Path.{◌≡◌, refl, ap, ◌∙◌}
-use mathlib.Core.Logic.{⊎_elim, ◌⊎◌, inl, inr}
-use mathlib.Core.Bool.{Bool, true, cond, ◌||◌, ◌&&◌}
+use mathlib.Core.Path.{◌≡◌, refl}
+use mathlib.Core.Bool.{Bool, true, ◌||◌, ◌&&◌}
 use Prim.Native.Nat.{ℕ, ◌+◌, ◌*◌, ◌<◌, ◌≤◌}
-use native.Mathlib.Nat.{le_refl}
 use native.Mathlib.Omega.{arith}
-use lib.Dec.{eqb, leb}
+use lib.Dec.{eqb}
 use borrow.Author.Tests.{eq-eqb, eqb-true, le-leb, lt-leb}
 use Rattle.laws.proofs.Bools.{or_cases, and_cases, or_right, bool_iff}
 use Rattle.float.proofs.Numbers.{by_order}

@@ -5,11 +5,11 @@
 use mathlib.Core.Path.{◌≡◌, refl, sym, ap, ◌∙◌, subst}
 use mathlib.Core.Bool.{Bool, true, false, not, true≢false, false≢true}
 use Prim.Native.Nat.{ℕ, zero, suc, ◌+◌, ◌-◌, ◌*◌, ◌/◌, ◌%◌, ◌^◌, ◌<◌, ◌≤◌, min}
-use native.Mathlib.Nat.{le_refl, le_trans, le_of_lt, lt_of_lt_of_le, zero-mul, mul_assoc, mul_comm, mul_right_comm, add-mul, mul-pos, mul-le-mul_right, mul-le-mul_left, mul-div-mul_right, div-eq_of_lt, min-eq_left, min-eq_right, pow-suc, mul-one}
+use native.Mathlib.Nat.{le_refl, le_trans, lt_of_lt_of_le, mul_assoc, mul_comm, mul_right_comm, add-mul, mul-le-mul_right, mul-le-mul_left, mul-div-mul_right, div-eq_of_lt, min-eq_left, min-eq_right, pow-suc}
 use native.Mathlib.Omega.{arith}
-use lib.Dec.{T, leb, ltb, le→leb, lt→ltb, T_not, lit<}
+use lib.Dec.{T, leb, ltb, le→leb, lt→ltb, T_not}
 use lib.Pow.{pow-add, pow_pos, pow_mono, shl_lt, shl_exact}
-use lib.IntN.{ℤ, pos, negsuc, neg_ℤ}
+use lib.IntN.{ℤ, pos, neg_ℤ}
 use lib.Ieee.{Float, nan, inf, fin, up, down, binary32, of_fields, of_bits, is_nan, ne}
 use lib.Ieee.Fits.{down_pos}
 use lib.Ieee.Bits.{is_true, nan_bits_is, nan_bits_above}

@@ -1,6 +1,5 @@
 -- `planes_faces::face_keys` meets its contract: the loop holds that the keys of the first i faces are there.
 use mathlib.Core.Path.{◌≡◌}
-use Prim.Native.Nat.{◌-◌}
 use native.Mathlib.Omega.{arith}
 use Rattle.planes_faces.proofs.Packing.{Keys, keys_none, keys_more, keys_low, keys_all}
 use Rattle.planes_faces.proofs.face_keys.Goals as goal

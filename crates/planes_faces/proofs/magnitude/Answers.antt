@@ -1,6 +1,6 @@
 -- `planes_faces::magnitude` meets its contract, by the exponent: too small for a half, in range, or held to the end.
 use mathlib.Core.Path.{◌≡◌, sym, ap, ◌∙◌}
-use Prim.Native.Nat.{ℕ, ◌+◌, ◌-◌, ◌*◌, ◌/◌, ◌%◌, ◌^◌, ◌≤◌, ◌<◌}
+use Prim.Native.Nat.{ℕ, ◌+◌, ◌*◌, ◌/◌, ◌%◌, ◌^◌, ◌≤◌, ◌<◌}
 use native.Mathlib.Omega.{arith}
 use Rattle.planes_faces.proofs.Wholes.{mag_small, mag_mid, mag_big, mid_fits, moved_is, moved_le}
 use Rattle.planes_faces.proofs.magnitude.Goals as goal

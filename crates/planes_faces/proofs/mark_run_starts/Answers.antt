@@ -1,6 +1,6 @@
 -- `planes_faces::mark_run_starts` meets its contract: the loop holds that `run_starts` from here on gives what it gives of the whole.
 use mathlib.Core.Path.{refl, sym, ap, ◌∙◌}
-use Prim.Native.Nat.{ℕ, ◌-◌, ◌<◌}
+use Prim.Native.Nat.{ℕ, ◌<◌}
 use native.Mathlib.Omega.{arith}
 use lib.ListN.{length, get_or, length-set}
 use Rattle.order.specs.Sort.{Below}

@@ -1,6 +1,5 @@
 -- `planes_faces::point_keys` meets its contract: the loop holds that the keys of the first i points are there, and that nothing before them is changed.
 use mathlib.Core.Path.{◌≡◌}
-use Prim.Native.Nat.{◌-◌}
 use native.Mathlib.Omega.{arith}
 use Rattle.planes_faces.proofs.Corners.{Made, made_none, made_more, made_all, part_x, part_y, part_z}
 use Rattle.planes_faces.proofs.point_keys.Goals as goal

@@ -35,13 +35,12 @@ bounds-offsets-i c =
     omega (arith, c.loop-i.invariant.2 ∙ length-set c.args.offsets.now 0 0, c.requires.np_in_bounds_3, c.loop-i-test.true)
 
 pub loop-i-preserved : goal.loop-i-preserved
-loop-i-preserved c =
-    (
-      omega arith,
-      length-set c.loop-i.queue c.loop-i.i (get_or c.args.order.now c.loop-i.i 0) ∙ c.loop-i.invariant.1,
-      length-set c.loop-i.offsets (c.loop-i.i + 1) (c.loop-i.i + 1) ∙ c.loop-i.invariant.2,
-      alone_more c.args.order.now c.loop-i.queue c.loop-i.offsets c.loop-i.i (omega (arith, c.requires.np_in_bounds.0, c.loop-i-test.true)) (omega (arith, c.loop-i.invariant.1, c.requires.np_in_bounds_2, c.loop-i-test.true)) (omega (arith, c.loop-i.invariant.2 ∙ length-set c.args.offsets.now 0 0, c.requires.np_in_bounds_3, c.loop-i-test.true)) c.loop-i.invariant.3,
-    )
+loop-i-preserved c = (
+  omega arith,
+  length-set c.loop-i.queue c.loop-i.i (get_or c.args.order.now c.loop-i.i 0) ∙ c.loop-i.invariant.1,
+  length-set c.loop-i.offsets (c.loop-i.i + 1) (c.loop-i.i + 1) ∙ c.loop-i.invariant.2,
+  alone_more c.args.order.now c.loop-i.queue c.loop-i.offsets c.loop-i.i (omega (arith, c.requires.np_in_bounds.0, c.loop-i-test.true)) (omega (arith, c.loop-i.invariant.1, c.requires.np_in_bounds_2, c.loop-i-test.true)) (omega (arith, c.loop-i.invariant.2 ∙ length-set c.args.offsets.now 0 0, c.requires.np_in_bounds_3, c.loop-i-test.true)) c.loop-i.invariant.3,
+)
 
 pub shape_of-queue : goal.shape_of-queue
 shape_of-queue c = c.loop-i.invariant.1

@@ -9,13 +9,12 @@ use Rattle.planes_groups.proofs.Breadth.{breadth_none, head_below, breadth_more,
 use Rattle.planes_groups.proofs.grow.Goals as goal
 
 pub loop-head-init : goal.loop-head-init
-loop-head-init c =
-    (
-      refl,
-      refl,
-      breadth_none c.args.np (takes_in c.args.triangles.now c.args.handles.now c.args.n c.args.rows.now c.args.tsorted.now c.args.tstarts.now c.args.least c.args.most c.args.seed) c.args.asorted.now c.args.astarts.now c.args.assigned.now c.args.queue.now c.args.from c.args.to
-          c.requires.from_le_to c.requires.queue,
-    )
+loop-head-init c = (
+  refl,
+  refl,
+  breadth_none c.args.np (takes_in c.args.triangles.now c.args.handles.now c.args.n c.args.rows.now c.args.tsorted.now c.args.tstarts.now c.args.least c.args.most c.args.seed) c.args.asorted.now c.args.astarts.now c.args.assigned.now c.args.queue.now c.args.from c.args.to
+      c.requires.from_le_to c.requires.queue,
+)
 
 pub offset_bounds-queue-head : goal.offset_bounds-queue-head
 offset_bounds-queue-head c = let q = c.loop-head.invariant.2.queue_is in let r = q.room in let t = q.total in omega (arith, r, t)
@@ -100,13 +99,12 @@ pub loop-head-smaller : goal.loop-head-smaller
 loop-head-smaller c = let q = c.loop-head.invariant.2.queue_is in let t = q.total in omega (arith, t, c.loop-head-test.true)
 
 pub loop-head-preserved : goal.loop-head-preserved
-loop-head-preserved c =
-    (
-      c.let_in-tail.auto.assigned ∙ c.loop-head.invariant.0,
-      c.let_in-tail.auto.queue ∙ c.loop-head.invariant.1,
-      breadth_more c.args.np (takes_in c.args.triangles.now c.args.handles.now c.args.n c.args.rows.now c.args.tsorted.now c.args.tstarts.now c.args.least c.args.most c.args.seed) c.args.asorted.now c.args.astarts.now c.args.assigned.now c.args.queue.now c.args.from c.args.to
-          c.loop-head.assigned c.loop-head.queue c.loop-head.head c.loop-head.tail c.loop-head.invariant.2 c.loop-head-test.true c.let_in-tail.new.assigned c.let_in-tail.new.queue c.let_in-tail.result c.let_in-tail.ensures.lower_bound c.let_in-tail.ensures.queue_2 c.let_in-tail.ensures.by_index,
-    )
+loop-head-preserved c = (
+  c.let_in-tail.auto.assigned ∙ c.loop-head.invariant.0,
+  c.let_in-tail.auto.queue ∙ c.loop-head.invariant.1,
+  breadth_more c.args.np (takes_in c.args.triangles.now c.args.handles.now c.args.n c.args.rows.now c.args.tsorted.now c.args.tstarts.now c.args.least c.args.most c.args.seed) c.args.asorted.now c.args.astarts.now c.args.assigned.now c.args.queue.now c.args.from c.args.to
+      c.loop-head.assigned c.loop-head.queue c.loop-head.head c.loop-head.tail c.loop-head.invariant.2 c.loop-head-test.true c.let_in-tail.new.assigned c.let_in-tail.new.queue c.let_in-tail.result c.let_in-tail.ensures.lower_bound c.let_in-tail.ensures.queue_2 c.let_in-tail.ensures.by_index,
+)
 
 pub shape_of-assigned : goal.shape_of-assigned
 shape_of-assigned c = c.loop-head.invariant.0
@@ -116,8 +114,8 @@ shape_of-queue c = c.loop-head.invariant.1
 
 pub returns : goal.returns
 returns c = record {
-      lower_bound = c.loop-head.invariant.2.rise;
-      queue_2 = c.loop-head.invariant.2.queue_is;
-      by_index = breadth_done c.args.np (takes_in c.args.triangles.now c.args.handles.now c.args.n c.args.rows.now c.args.tsorted.now c.args.tstarts.now c.args.least c.args.most c.args.seed) c.args.asorted.now c.args.astarts.now c.args.assigned.now c.args.queue.now
-            c.args.from c.args.to c.loop-head.assigned c.loop-head.queue c.loop-head.head c.loop-head.tail c.loop-head.invariant.2 c.loop-head-test.false;
-    }
+  lower_bound = c.loop-head.invariant.2.rise;
+  queue_2 = c.loop-head.invariant.2.queue_is;
+  by_index = breadth_done c.args.np (takes_in c.args.triangles.now c.args.handles.now c.args.n c.args.rows.now c.args.tsorted.now c.args.tstarts.now c.args.least c.args.most c.args.seed) c.args.asorted.now c.args.astarts.now c.args.assigned.now c.args.queue.now
+      c.args.from c.args.to c.loop-head.assigned c.loop-head.queue c.loop-head.head c.loop-head.tail c.loop-head.invariant.2 c.loop-head-test.false;
+}

@@ -141,8 +141,8 @@ returns c =
     let long = length-take-le c.args.np c.args.order.now c.requires.np_in_bounds_2.0 in record {
       upper_bound = omega arith;
       grouped = group_grouped c.args.np (takes_in c.args.triangles.now c.args.handles.now c.args.n c.args.rows.now c.args.tsorted.now c.args.tstarts.now c.args.least c.args.most) c.args.asorted.now c.args.astarts.now (take c.args.np c.args.order.now) c.args.assigned.now
-            c.loop-i.assigned c.loop-i.queue c.loop-i.offsets c.loop-i.ng c.loop-i.tail c.loop-i.i c.loop-i.invariant.5;
+          c.loop-i.assigned c.loop-i.queue c.loop-i.offsets c.loop-i.ng c.loop-i.tail c.loop-i.i c.loop-i.invariant.5;
       by_index = group_done c.args.np (takes_in c.args.triangles.now c.args.handles.now c.args.n c.args.rows.now c.args.tsorted.now c.args.tstarts.now
-            c.args.least c.args.most) c.args.asorted.now c.args.astarts.now (take c.args.np c.args.order.now) c.args.assigned.now c.loop-i.assigned c.loop-i.queue c.loop-i.offsets c.loop-i.ng c.loop-i.tail c.loop-i.i c.loop-i.invariant.5
-            (omega (arith, long, c.loop-i-test.false));
+          c.args.least c.args.most) c.args.asorted.now c.args.astarts.now (take c.args.np c.args.order.now) c.args.assigned.now c.loop-i.assigned c.loop-i.queue c.loop-i.offsets c.loop-i.ng c.loop-i.tail c.loop-i.i c.loop-i.invariant.5
+          (omega (arith, long, c.loop-i-test.false));
     }

@@ -25,22 +25,21 @@ bounds-assigned-at c =
     let b = low_below c.args.np c.args.row.now c.loop-i.i c.requires.below c.loop-i-test.true in let w = c.loop-i.invariant.3.queue_is.column in omega (arith, b, w)
 
 pub loop-i-preserved-then-assigned-at-ne0 : goal.loop-i-preserved-then-assigned-at-ne0
-loop-i-preserved-then-assigned-at-ne0 c =
-    (
-      omega arith,
-      c.loop-i.invariant.1,
-      c.loop-i.invariant.2,
-      let_taken c.args.np (takes_in c.args.triangles.now c.args.handles.now c.args.n c.args.rows.now c.args.tsorted.now c.args.tstarts.now c.args.least c.args.most c.args.seed) c.args.mark c.requires.seed_lt_np.1 c.args.row.now c.args.assigned.now c.args.queue.now
-          c.args.from c.loop-i.assigned c.loop-i.queue c.loop-i.tail c.loop-i.i c.loop-i.invariant.3 c.loop-i-test.true c.if-assigned-at-ne0.true,
-    )
+loop-i-preserved-then-assigned-at-ne0 c = (
+  omega arith,
+  c.loop-i.invariant.1,
+  c.loop-i.invariant.2,
+  let_taken c.args.np (takes_in c.args.triangles.now c.args.handles.now c.args.n c.args.rows.now c.args.tsorted.now c.args.tstarts.now c.args.least c.args.most c.args.seed) c.args.mark c.requires.seed_lt_np.1 c.args.row.now c.args.assigned.now c.args.queue.now
+      c.args.from c.loop-i.assigned c.loop-i.queue c.loop-i.tail c.loop-i.i c.loop-i.invariant.3 c.loop-i-test.true c.if-assigned-at-ne0.true,
+)
 
 pub takes-requires : goal.takes-requires
 takes-requires c = record {
-      n_in_bounds = c.requires.n_in_bounds;
-      np_in_bounds = c.requires.np_in_bounds;
-      table = c.requires.table;
-      a_lt_np = (c.requires.seed_lt_np.0, low_below c.args.np c.args.row.now c.loop-i.i c.requires.below c.loop-i-test.true);
-    }
+  n_in_bounds = c.requires.n_in_bounds;
+  np_in_bounds = c.requires.np_in_bounds;
+  table = c.requires.table;
+  a_lt_np = (c.requires.seed_lt_np.0, low_below c.args.np c.args.row.now c.loop-i.i c.requires.below c.loop-i-test.true);
+}
 
 pub offset_bounds-assigned-at-then-takes : goal.offset_bounds-assigned-at-then-takes
 offset_bounds-assigned-at-then-takes c =
@@ -77,14 +76,13 @@ loop-i-preserved-then-takes c =
     )
 
 pub loop-i-preserved : goal.loop-i-preserved
-loop-i-preserved c =
-    (
-      omega arith,
-      c.loop-i.invariant.1,
-      c.loop-i.invariant.2,
-      let_unfit c.args.np (takes_in c.args.triangles.now c.args.handles.now c.args.n c.args.rows.now c.args.tsorted.now c.args.tstarts.now c.args.least c.args.most c.args.seed) c.args.mark c.requires.seed_lt_np.1 c.args.row.now c.args.assigned.now c.args.queue.now
-          c.args.from c.loop-i.assigned c.loop-i.queue c.loop-i.tail c.loop-i.i c.loop-i.invariant.3 c.loop-i-test.true (sym c.takes.ensures ∙ c.if-takes.false),
-    )
+loop-i-preserved c = (
+  omega arith,
+  c.loop-i.invariant.1,
+  c.loop-i.invariant.2,
+  let_unfit c.args.np (takes_in c.args.triangles.now c.args.handles.now c.args.n c.args.rows.now c.args.tsorted.now c.args.tstarts.now c.args.least c.args.most c.args.seed) c.args.mark c.requires.seed_lt_np.1 c.args.row.now c.args.assigned.now c.args.queue.now
+      c.args.from c.loop-i.assigned c.loop-i.queue c.loop-i.tail c.loop-i.i c.loop-i.invariant.3 c.loop-i-test.true (sym c.takes.ensures ∙ c.if-takes.false),
+)
 
 pub shape_of-assigned : goal.shape_of-assigned
 shape_of-assigned c = c.loop-i.invariant.1
@@ -98,5 +96,5 @@ returns c =
       lower_bound = m.rise;
       queue_2 = m.queue_is;
       by_index = let_done c.args.np (takes_in c.args.triangles.now c.args.handles.now c.args.n c.args.rows.now c.args.tsorted.now c.args.tstarts.now c.args.least c.args.most c.args.seed) c.args.mark c.requires.seed_lt_np.1 c.args.row.now c.args.assigned.now c.args.queue.now
-            c.args.from c.loop-i.assigned c.loop-i.queue c.loop-i.tail c.loop-i.i m c.loop-i-test.false c.requires.queue.column;
+          c.args.from c.loop-i.assigned c.loop-i.queue c.loop-i.tail c.loop-i.i m c.loop-i-test.false c.requires.queue.column;
     }

@@ -30,8 +30,21 @@ adjacency-requires c =
     let d = c.requires.n_in_bounds_2 in
     let w = c.requires.m_in_bounds in
     let r = c.requires.m_in_bounds_2 in
-    let v = c.requires.m_in_bounds_3 in
-    (s.2, (s.0, (s.1, (d.0, (d.1, (d.2, (s.3, (length-take-le (3 * c.args.m) c.args.queue.now v.0, (v.1, (w.0, (w.1, r)))))))))))
+    let v = c.requires.m_in_bounds_3 in record {
+      np_le_most_triangles = s.2;
+      m_le_most_triangles = s.0;
+      m_le_n = s.1;
+      n_in_bounds = d.0;
+      numbers = d.1;
+      vertices_le_most_rows = d.2;
+      m_in_bounds = s.3;
+      vsorted_len = length-take-le (3 * c.args.m) c.args.queue.now v.0;
+      vertices_in_bounds = v.1;
+      m_in_bounds_2 = w.0;
+      m_in_bounds_3 = w.1;
+      m_in_bounds_4 = r.0;
+      np_in_bounds = r.1;
+    }
 
 pub grow_groups-requires : goal.grow_groups-requires
 grow_groups-requires c =
@@ -81,8 +94,8 @@ returns c =
       upper_bound = c.grow_groups.ensures.upper_bound;
       grouped = c.grow_groups.ensures.grouped;
       by_index = λ adj same.
-            c.grow_groups.ensures.by_index adj (rows_adjacent a.np c.adjacency.new.sorted c.adjacency.new.starts (is_joined a.numbers.now a.n a.vertices a.of.now a.m a.np) adj c.adjacency.ensures.by_index same)
-            ∙ ap (groups_from a.np adj f (take a.np a.order.now)) (ap (free_of a.np) e ∙ free_all a.np (length a.assigned.now) c.requires.np_in_bounds_3.0);
+          c.grow_groups.ensures.by_index adj (rows_adjacent a.np c.adjacency.new.sorted c.adjacency.new.starts (is_joined a.numbers.now a.n a.vertices a.of.now a.m a.np) adj c.adjacency.ensures.by_index same)
+          ∙ ap (groups_from a.np adj f (take a.np a.order.now)) (ap (free_of a.np) e ∙ free_all a.np (length a.assigned.now) c.requires.np_in_bounds_3.0);
     }
 
 pub clear_u32-requires : goal.clear_u32-requires

@@ -35,7 +35,7 @@ seeds-requires c =
       np_in_bounds = c.requires.np_in_bounds;
       table = table_tris c.args.np c.args.m 4096 c.args.of.now c.patch_rows.new.sorted c.patch_rows.new.starts c.patch_rows.ensures.row_bounds (omega (arith, c.patch_rows.auto.starts, c.requires.m_in_bounds_2.1, c.requires.m_le_most_triangles.3)) c.patch_rows.ensures.by_index s.0;
       np_in_bounds_2 = omega
-                (arith, c.requires.m_in_bounds.0, s.3);
+          (arith, c.requires.m_in_bounds.0, s.3);
       np_in_bounds_3 = omega (arith, c.requires.m_in_bounds.1, s.3, c.patch_rows.auto.words);
       np_in_bounds_4 = omega (arith, c.requires.m_in_bounds.2, s.3, c.patch_rows.auto.scratch);
       np_in_bounds_5 = omega (arith, c.requires.m_in_bounds_4.0, s.3);
@@ -98,31 +98,31 @@ shape_of-offsets-then-is_merging c = c.merge.auto.offsets
 
 pub returns-then-is_merging : goal.returns-then-is_merging
 returns-then-is_merging c =
-    let same_length = c.seeds.auto.keys in
-    let same-length-2 = c.merge.auto.words
-    ∙ c.seeds.auto.words
-    ∙ c.patch_rows.auto.words in
-    let same-length-5 = c.patch_rows.auto.starts in
+    let same-length-4 = c.patch_rows.auto.sorted in
+    let same-length-6 = c.merge.auto.asorted in
+    let same-length-9 = c.merge.auto.assigned in
     let same-length-3 = c.merge.auto.scratch
     ∙ c.seeds.auto.scratch
     ∙ c.patch_rows.auto.scratch in
     let same-length-7 = c.merge.auto.astarts in
-    let same-length-4 = c.patch_rows.auto.sorted in
-    let same-length-6 = c.merge.auto.asorted in
-    let same-length-9 = c.merge.auto.assigned in
+    let same-length-5 = c.patch_rows.auto.starts in
     let same-length-8 = c.seeds.auto.order in
+    let same-length-2 = c.merge.auto.words
+    ∙ c.seeds.auto.words
+    ∙ c.patch_rows.auto.words in
+    let same_length = c.seeds.auto.keys in
     let a = c.args in
     let s0 = c.requires.m_le_most_triangles in
     let d = c.requires.n_in_bounds_2 in record {
       upper_bound = c.merge.ensures.upper_bound;
       grouped = c.merge.ensures.grouped;
       result_after = λ s eo ec em.
-              merged_is s a.triangles.now a.handles.now a.n a.m a.rows.now a.of.now a.np c.patch_rows.new.sorted c.patch_rows.new.starts a.on a.least a.most eo ec em c.patch_rows.ensures.by_index (take a.np c.seeds.new.order) c.seeds.ensures
-              (groups_in c.merge.new.queue c.merge.new.offsets c.merge.result) (sym
-              c.is_merging.ensures
-              ∙ c.if-is_merging.true)
-              (c.merge.ensures.by_index (is_adjacent (runs_of (triangles_in a.triangles.now a.handles.now a.n a.m) (patches_in a.rows.now a.of.now a.m a.np)))
-              (λ p q hp hq. joined_adjacent a.triangles.now a.handles.now a.n a.m a.rows.now a.of.now a.np a.numbers.now a.vertices c.requires.numbered d.1 s0.2 (omega (arith, s0.0, s0.3)) p q));
+          merged_is s a.triangles.now a.handles.now a.n a.m a.rows.now a.of.now a.np c.patch_rows.new.sorted c.patch_rows.new.starts a.on a.least a.most eo ec em c.patch_rows.ensures.by_index (take a.np c.seeds.new.order) c.seeds.ensures
+          (groups_in c.merge.new.queue c.merge.new.offsets c.merge.result) (sym
+          c.is_merging.ensures
+          ∙ c.if-is_merging.true)
+          (c.merge.ensures.by_index (is_adjacent (runs_of (triangles_in a.triangles.now a.handles.now a.n a.m) (patches_in a.rows.now a.of.now a.m a.np)))
+          (λ p q hp hq. joined_adjacent a.triangles.now a.handles.now a.n a.m a.rows.now a.of.now a.np a.numbers.now a.vertices c.requires.numbered d.1 s0.2 (omega (arith, s0.0, s0.3)) p q));
       rest = (same_length, same-length-2, same-length-3, same-length-4, same-length-5, same-length-6, same-length-7, same-length-8, same-length-9);
     }
 
@@ -132,7 +132,7 @@ each_alone-requires c =
       np_le_most_triangles = omega (arith, s.0, s.3);
       np_in_bounds = (omega (arith, c.seeds.auto.order, c.requires.m_in_bounds_4.0, s.3), sorted_positions (seed_key_in c.args.rows.now c.patch_rows.new.sorted c.patch_rows.new.starts) c.args.np (take c.args.np c.seeds.new.order) c.seeds.ensures);
       np_in_bounds_2 = omega
-              (arith, c.requires.m_in_bounds_5.0, s.3);
+          (arith, c.requires.m_in_bounds_5.0, s.3);
       np_in_bounds_3 = omega (arith, c.requires.m_in_bounds_5.1, s.3);
     }
 
@@ -164,21 +164,21 @@ shape_of-offsets c = c.each_alone.auto.offsets
 
 pub returns : goal.returns
 returns c =
+    let same-length-16 = c.patch_rows.auto.starts in
     let same-length-17 = c.seeds.auto.order in
-    let same-length-15 = c.patch_rows.auto.sorted in
     let same-length-14 = c.seeds.auto.scratch
     ∙ c.patch_rows.auto.scratch in
     let same-length-12 = c.seeds.auto.keys in
-    let same-length-16 = c.patch_rows.auto.starts in
     let same-length-13 = c.seeds.auto.words
     ∙ c.patch_rows.auto.words in
+    let same-length-15 = c.patch_rows.auto.sorted in
     let a = c.args in record {
       upper_bound = omega arith;
       grouped = c.each_alone.ensures.grouped;
       result_after = λ s eo ec em.
-              alone_is s a.triangles.now a.handles.now a.n a.m a.rows.now a.of.now a.np c.patch_rows.new.sorted c.patch_rows.new.starts a.on a.least a.most eo ec em c.patch_rows.ensures.by_index (take a.np c.seeds.new.order) c.seeds.ensures
-              (groups_in c.each_alone.new.queue c.each_alone.new.offsets a.np) (sym c.is_merging.ensures ∙ c.if-is_merging.false)
-              c.each_alone.ensures.np_after;
+          alone_is s a.triangles.now a.handles.now a.n a.m a.rows.now a.of.now a.np c.patch_rows.new.sorted c.patch_rows.new.starts a.on a.least a.most eo ec em c.patch_rows.ensures.by_index (take a.np c.seeds.new.order) c.seeds.ensures
+          (groups_in c.each_alone.new.queue c.each_alone.new.offsets a.np) (sym c.is_merging.ensures ∙ c.if-is_merging.false)
+          c.each_alone.ensures.np_after;
       rest = (same-length-12, same-length-13, same-length-14, same-length-15, same-length-16, refl, refl, same-length-17, refl);
     }
 

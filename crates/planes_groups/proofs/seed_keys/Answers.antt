@@ -16,9 +16,9 @@ loop-p-init c = (omega arith, refl, refl, refl, (λ q h. absurd (omega arith)))
 
 pub first_triangle-first-requires : goal.first_triangle-first-requires
 first_triangle-first-requires c = record {
-      table = c.requires.table;
-      p_lt_np = c.loop-p-test.true;
-    }
+  table = c.requires.table;
+  p_lt_np = c.loop-p-test.true;
+}
 
 pub offset_bounds-keys-p : goal.offset_bounds-keys-p
 offset_bounds-keys-p c = omega (arith, c.loop-p.invariant.1, c.requires.np_in_bounds_2)

@@ -10,12 +10,12 @@ use Rattle.planes_groups.proofs.seeds.Goals as goal
 
 pub seed_keys-requires : goal.seed_keys-requires
 seed_keys-requires c = record {
-      np_le_most_triangles = c.requires.np_le_most_triangles;
-      np_in_bounds = c.requires.np_in_bounds;
-      table = c.requires.table;
-      np_in_bounds_2 = c.requires.np_in_bounds_2;
-      np_in_bounds_3 = c.requires.np_in_bounds_5;
-    }
+  np_le_most_triangles = c.requires.np_le_most_triangles;
+  np_in_bounds = c.requires.np_in_bounds;
+  table = c.requires.table;
+  np_in_bounds_2 = c.requires.np_in_bounds_2;
+  np_in_bounds_3 = c.requires.np_in_bounds_5;
+}
 
 pub slice_bounds-sort_by_key-end : goal.slice_bounds-sort_by_key-end
 slice_bounds-sort_by_key-end c = omega (arith, c.seed_keys.auto.order, c.requires.np_in_bounds_5)

@@ -30,14 +30,14 @@ overflow_add-from c =
 
 pub grow-requires : goal.grow-requires
 grow-requires c = record {
-      n_in_bounds = c.requires.n_in_bounds;
-      np_in_bounds = c.requires.np_in_bounds;
-      table = c.requires.table;
-      seed_lt_np = c.requires.seed_lt_np;
-      table_2 = c.requires.table_2;
-      from_le_to = omega arith;
-      queue = queue_push c.args.np c.args.mark c.requires.seed_lt_np.1 c.args.assigned.now c.args.queue.now c.args.from c.args.seed c.requires.queue c.requires.seed_lt_np.0 c.requires.seed_value;
-    }
+  n_in_bounds = c.requires.n_in_bounds;
+  np_in_bounds = c.requires.np_in_bounds;
+  table = c.requires.table;
+  seed_lt_np = c.requires.seed_lt_np;
+  table_2 = c.requires.table_2;
+  from_le_to = omega arith;
+  queue = queue_push c.args.np c.args.mark c.requires.seed_lt_np.1 c.args.assigned.now c.args.queue.now c.args.from c.args.seed c.requires.queue c.requires.seed_lt_np.0 c.requires.seed_value;
+}
 
 pub shape_of-assigned : goal.shape_of-assigned
 shape_of-assigned c =
@@ -49,10 +49,10 @@ shape_of-queue c =
 
 pub returns : goal.returns
 returns c = record {
-      lower_bound = omega (arith, c.grow.ensures.lower_bound);
-      queue_2 = c.grow.ensures.queue_2;
-      by_index = λ adj rows.
-            seed_grown c.args.np adj (takes_in c.args.triangles.now c.args.handles.now c.args.n c.args.rows.now c.args.tsorted.now c.args.tstarts.now c.args.least c.args.most c.args.seed) c.args.mark c.requires.seed_lt_np.1 c.args.assigned.now c.args.queue.now c.args.from c.args.seed
-            c.requires.queue c.requires.seed_lt_np.0 c.requires.seed_value
-            c.grow.new.assigned c.grow.new.queue c.grow.result (c.grow.ensures.by_index adj rows);
-    }
+  lower_bound = omega (arith, c.grow.ensures.lower_bound);
+  queue_2 = c.grow.ensures.queue_2;
+  by_index = λ adj rows.
+      seed_grown c.args.np adj (takes_in c.args.triangles.now c.args.handles.now c.args.n c.args.rows.now c.args.tsorted.now c.args.tstarts.now c.args.least c.args.most c.args.seed) c.args.mark c.requires.seed_lt_np.1 c.args.assigned.now c.args.queue.now c.args.from c.args.seed
+      c.requires.queue c.requires.seed_lt_np.0 c.requires.seed_value
+      c.grow.new.assigned c.grow.new.queue c.grow.result (c.grow.ensures.by_index adj rows);
+}

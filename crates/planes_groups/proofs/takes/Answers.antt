@@ -74,9 +74,9 @@ slice_bounds-is_within-end c =
 
 pub is_within-requires : goal.is_within-requires
 is_within-requires c = record {
-      n_in_bounds = c.requires.n_in_bounds;
-      below = table_part c.args.np c.args.n c.args.tsorted.now c.args.tstarts.now c.args.b c.requires.table c.requires.a_lt_np.1;
-    }
+  n_in_bounds = c.requires.n_in_bounds;
+  below = table_part c.args.np c.args.n c.args.tsorted.now c.args.tstarts.now c.args.b c.requires.table c.requires.a_lt_np.1;
+}
 
 pub returns-then-is_tilted : goal.returns-then-is_tilted
 unfolding takes_in row_in

@@ -14,6 +14,6 @@ centroid-c-requires c = tt
 pub returns : goal.returns
 unfolding moment_of add3_of
 returns c = rw (
-      ← c.triangle_area-a.ensures,
-      ← c.centroid-c.ensures,
-    )
+  ← c.triangle_area-a.ensures,
+  ← c.centroid-c.ensures,
+)

@@ -29,10 +29,10 @@ max-requires-3 c = tt
 pub returns : goal.returns
 unfolding grow_of low_of high_of
 returns c = rw (
-      ← c.min.ensures,
-      ← c.min-2.ensures,
-      ← c.min-3.ensures,
-      ← c.max.ensures,
-      ← c.max-2.ensures,
-      ← c.max-3.ensures,
-    )
+  ← c.min.ensures,
+  ← c.min-2.ensures,
+  ← c.min-3.ensures,
+  ← c.max.ensures,
+  ← c.max-2.ensures,
+  ← c.max-3.ensures,
+)

@@ -1,11 +1,6 @@
 -- `planes_importance::plane_key` meets its contract: by the contracts of what it calls.
-use borrow.Author.Rules.{rules}
 use Rattle.planes_importance.specs.Importance.{key_in}
 use Rattle.planes_importance.proofs.plane_key.Goals as goal
-
-pub moments_of-requires : goal.moments_of-requires
-unfolding key_in
-moments_of-requires c = search rules
 
 pub mean-c-requires : goal.mean-c-requires
 unfolding key_in
