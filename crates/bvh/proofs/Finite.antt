@@ -1,11 +1,11 @@
 -- The centroids of triangles whose corners are bounded are finite, so that the tree is built.
 use mathlib.Core.Path.{◌≡◌, refl}
-use mathlib.Core.Bool.{Bool, true, false, ◌&&◌}
+use mathlib.Core.Bool.{true, false}
 use mathlib.Core.List.{List}
 use Prim.Native.Nat.{ℕ, zero, suc, ◌+◌, ◌^◌, ◌≤◌, ◌<◌}
 use native.Mathlib.Omega.{arith}
 use lib.IntN.{pos}
-use lib.Ieee.{Float, fin, binary32, add, div, of_bits}
+use lib.Ieee.{Float, fin, binary32, add, of_bits}
 use Rattle.float.specs.Compare.{is_finite}
 use Rattle.bounds.specs.Bounds.{Within}
 use Rattle.bounds.proofs.Operations.{within_finite, add_within, div_within}

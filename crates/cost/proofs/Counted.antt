@@ -1,18 +1,18 @@
 -- How many of the first L sequences have each length: by division.
-use Prim.Native.Nat.{ℕ, zero, suc, ◌+◌, ◌-◌, ◌*◌, ◌/◌, ◌%◌, ◌^◌, ◌≤◌, ◌<◌, min}
+use Prim.Native.Nat.{ℕ, zero, suc, ◌+◌, ◌-◌, ◌*◌, ◌/◌, ◌%◌, ◌≤◌, ◌<◌, min}
 use mathlib.Core.Path.{◌≡◌, refl, sym, ap, ap₂, ◌∙◌, subst}
-use mathlib.Core.Bool.{Bool, true, false, cond, not}
+use mathlib.Core.Bool.{Bool, true, false, cond}
 use mathlib.Core.Logic.{⊎_elim}
 use mathlib.Core.List.{List, [], ◌∷◌, ◌++◌}
 use native.Mathlib.Nat.{suc-mul, zero-mul, mul-zero, zero-lt-suc, mul_comm, mul-add, mul_assoc, mul-one}
 use native.Mathlib.Nat.{div-eq_of_lt-le, mod-eq-sub-div-mul, mul-div_cancel, mul-mod_left, zero-div, zero-mod, eq-or-lt_of_le}
-use native.Mathlib.Decide.{dec_lt, dec_le}
+use native.Mathlib.Decide.{dec_le}
 use native.Mathlib.Omega.{arith}
 use lib.ListN.{length, get_or, take, length-append}
-use lib.Dec.{ltb, eqb}
+use lib.Dec.{eqb}
 use borrow.Author.Tests.{eq-eqb, ne_eqb}
 use Rattle.sequences.specs.Allowed.{upto, may, below, allowed, visited, most}
-use Rattle.sequences.specs.Count.{more, count, series, firsts, images}
+use Rattle.sequences.specs.Count.{more, count, series, firsts}
 use Rattle.sequences.proofs.Counting.{one, upto_length, below_length, allowed_length, series_suc}
 use Rattle.cost.specs.Cost.{levels, levels_of, counts_by_order}
 use Rattle.cost.specs.Forecast.{of_length}

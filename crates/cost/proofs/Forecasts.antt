@@ -1,8 +1,8 @@
 -- The answer says what a reader believes: the figures of `cost_of` are those of the images that are visited, in every scene with those numbers.
 use Prim.Native.Nat.{ℕ, zero, suc, ◌+◌, ◌-◌, ◌*◌, ◌/◌, ◌%◌, ◌≤◌, ◌<◌, min}
 use mathlib.Core.Path.{◌≡◌, refl, sym, ap, ap₂, ◌∙◌, subst}
-use mathlib.Core.Bool.{true, false, cond, ◌&&◌}
-use mathlib.Core.List.{List, [], ◌∷◌, ◌++◌}
+use mathlib.Core.Bool.{true, false, ◌&&◌}
+use mathlib.Core.List.{List}
 use native.Mathlib.Omega.{arith}
 use borrow.Author.Tests.{leb-true}
 use lib.Dec.{leb}
@@ -10,12 +10,11 @@ use lib.ListN.{length, get_or, replicate, length-append, length-replicate}
 use Rattle.laws.proofs.Bools.{both}
 use Rattle.sequences.specs.Allowed.{visited, most, most_order, most_planes}
 use Rattle.sequences.specs.Count.{series, firsts, images}
-use Rattle.sequences.specs.Members.{In}
 use Rattle.sequences.proofs.Counting.{count_law}
 use Rattle.scene.specs.Limits.{most_crossings, most_triples}
 use Rattle.scene.specs.Areas.{work_words}
 use Rattle.cost.specs.Cost.{levels, levels_of, counts_by_order, to_eight, rays_over, within, takes, turned_away, cost_of}
-use Rattle.cost.specs.Forecast.{of_length, most_rays, total, Counts, Forecast}
+use Rattle.cost.specs.Forecast.{of_length, Counts, Forecast}
 use Rattle.cost.specs.declared.Cost.{Cost}
 use Rattle.cost.proofs.Counted.{counts_are}
 use Rattle.cost.proofs.Sums.{Summed, summed, padded_at, visited_few}

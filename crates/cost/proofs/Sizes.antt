@@ -1,7 +1,7 @@
 -- Nothing that the code works out wraps: the sizes of subtrees, and what is visited of them.
-use Prim.Native.Nat.{ℕ, zero, suc, ◌+◌, ◌-◌, ◌*◌, ◌/◌, ◌%◌, ◌^◌, ◌≤◌, ◌<◌, min}
-use mathlib.Core.Path.{◌≡◌, refl, sym, ap, ◌∙◌, subst}
-use native.Mathlib.Nat.{mul-le-mul, mul_comm, mul_assoc, add-mul, mul-one, mul-zero, div-add-mod', le-mul_of_pos_right, le_trans, div-mul-le_self}
+use Prim.Native.Nat.{ℕ, zero, suc, ◌+◌, ◌-◌, ◌*◌, ◌^◌, ◌≤◌, ◌<◌}
+use mathlib.Core.Path.{◌≡◌, refl, sym, ap, subst}
+use native.Mathlib.Nat.{mul-le-mul}
 use native.Mathlib.Omega.{arith}
 use Rattle.sequences.specs.Count.{series}
 use Rattle.sequences.proofs.Counting.{series_suc}

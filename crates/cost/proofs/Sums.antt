@@ -1,18 +1,18 @@
 -- What is summed over the sequences by their lengths is summed over how many have each length: so the eight counts give the images and the rays.
-use Prim.Native.Nat.{ℕ, zero, suc, ◌+◌, ◌-◌, ◌*◌, ◌≤◌, ◌<◌}
-use mathlib.Core.Path.{◌≡◌, refl, sym, ap, ap₂, ◌∙◌, subst}
-use mathlib.Core.Bool.{Bool, true, false, cond}
+use Prim.Native.Nat.{ℕ, zero, suc, ◌+◌, ◌*◌, ◌≤◌, ◌<◌}
+use mathlib.Core.Path.{◌≡◌, refl, sym, ap, ap₂, ◌∙◌}
+use mathlib.Core.Bool.{Bool, cond}
 use mathlib.Core.Logic.{inl, inr, ⊎_elim}
 use mathlib.Core.List.{List, [], ◌∷◌, ◌++◌}
 use native.Mathlib.Nat.{mul-add, mul-zero, mul-one, one-mul, eq-or-lt_of_le}
 use native.Mathlib.Omega.{arith}
-use lib.ListN.{length, get_or, replicate, length-append, length-replicate}
+use lib.ListN.{length, get_or, replicate}
 use lib.Dec.{eqb}
 use borrow.Author.Tests.{eq-eqb, ne_eqb}
 use Rattle.sequences.specs.Allowed.{visited}
-use Rattle.sequences.specs.Members.{In, IsAllowed}
+use Rattle.sequences.specs.Members.{In}
 use Rattle.sequences.proofs.Numbers.{is_visited}
-use Rattle.cost.specs.Cost.{rays_at, rays_over, to_eight}
+use Rattle.cost.specs.Cost.{rays_at, rays_over}
 use Rattle.cost.specs.Forecast.{of_length, most_rays, total}
 
 module _ (f : ℕ → ℕ) where

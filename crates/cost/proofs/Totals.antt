@@ -1,12 +1,12 @@
 -- The sums of `rays_of` and `words_of`: what is summed up to a place and what the definition gives from there on is the whole, and no sum wraps.
-use Prim.Native.Nat.{ℕ, zero, suc, ◌+◌, ◌-◌, ◌*◌, ◌≤◌, ◌<◌}
-use mathlib.Core.Path.{◌≡◌, refl, sym, ap, ap₂, ◌∙◌, subst}
+use Prim.Native.Nat.{ℕ, zero, suc, ◌+◌, ◌*◌, ◌≤◌, ◌<◌}
+use mathlib.Core.Path.{◌≡◌, refl, sym, ap, ◌∙◌}
 use mathlib.Core.List.{List, [], ◌∷◌, map}
-use native.Mathlib.Nat.{mul-le-mul, mul-le-mul_right}
+use native.Mathlib.Nat.{mul-le-mul}
 use native.Mathlib.Omega.{arith}
 use lib.ListN.{length, get_or, drop}
 use lib.Seq.{drop-cons}
-use Rattle.scene.specs.Areas.{Area, area_table, least_of, words_in, work_words}
+use Rattle.scene.specs.Areas.{Area, area_table, words_in, work_words}
 use Rattle.scene.proofs.Rooms.{triples_of, candidates_of, more_of, scaled_most, small}
 use Rattle.cost.specs.Cost.{rays_at, rays_over}
 

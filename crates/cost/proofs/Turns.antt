@@ -1,12 +1,12 @@
 -- The loop of `counts_of`: a turn a level. `full` is how many are visited whole on the level above, `under` how many of those that go on from the one
 -- that is visited in part.
-use Prim.Native.Nat.{ℕ, zero, suc, ◌+◌, ◌-◌, ◌*◌, ◌/◌, ◌%◌, ◌≤◌, ◌<◌, min}
+use Prim.Native.Nat.{ℕ, suc, ◌+◌, ◌-◌, ◌*◌, ◌/◌, ◌%◌, ◌≤◌, ◌<◌, min}
 use mathlib.Core.Path.{◌≡◌, refl, sym, ap, ap₂, ◌∙◌, subst}
 use mathlib.Core.List.{List, [], ◌∷◌, ◌++◌, append-nil, append_assoc}
-use native.Mathlib.Nat.{mul_comm, mul_assoc, mul-add, add-mul, mul-zero, mul-one, suc-mul, div-add-mod', le-mul_of_pos_right, le_trans, div-le_self, mod-le}
+use native.Mathlib.Nat.{mul_comm, mul_assoc, add-mul, mul-zero, suc-mul, div-add-mod'}
 use native.Mathlib.Omega.{arith}
 use lib.ListN.{length, take, drop, set, replicate, length-set, take-append-drop}
-use lib.Seq.{take-suc-set, drop-set-lt, drop-cons, drop-nil}
+use lib.Seq.{take-suc-set, drop-set-lt, drop-cons}
 use Rattle.sequences.specs.Allowed.{most}
 use Rattle.sequences.specs.Count.{series}
 use Rattle.sequences.proofs.Counting.{series_suc}

@@ -1,5 +1,5 @@
 -- Document 02, Notes 8 and 12: the figures of a forecast, worked out from crossing limit, planes, first planes allowed, order and triples.
-use Rattle.std.specs.Prelude.{ℕ, zero, suc, ◌+◌, ◌-◌, ◌*◌, ◌/◌, ◌%◌, min, Bool, cond, not, ◌&&◌, List, [], ◌∷◌, ◌++◌, replicate, leb}
+use Rattle.std.specs.Prelude.{ℕ, zero, suc, ◌+◌, ◌-◌, ◌*◌, ◌/◌, ◌%◌, min, Bool, cond, ◌&&◌, List, [], ◌∷◌, ◌++◌, replicate, leb}
 use Rattle.sequences.specs.Allowed.{most_order, most_planes}
 use Rattle.sequences.specs.Count.{series, images}
 use Rattle.scene.specs.Limits.{most_crossings, most_triples}

@@ -8,16 +8,16 @@ use mathlib.Core.Logic.{◌⊎◌, inl, inr, ⊎_elim, ◌↔◌}
 use mathlib.Core.List.{List, [], ◌∷◌}
 use native.Mathlib.Omega.{arith}
 use lib.Ieee.{Float}
-use lib.ListN.{length, get_or, take}
+use lib.ListN.{length, get_or}
 use lib.Seq.{take_all, ext_get_or}
 use Rattle.ranking.specs.declared.Candidate.{Candidate}
 use Rattle.ranking.specs.Lists.{Has, ahead}
 use Rattle.ranking.specs.Candidate.{better, duplicates, ranked}
-use Rattle.ranking.specs.Listed.{Once, Listed, StandsAmong}
+use Rattle.ranking.specs.Listed.{Listed}
 use Rattle.ranking.proofs.Members.{has_take}
 use Rattle.ranking.proofs.Laws.{number_one, ranked_listed}
 use Rattle.fates.specs.Fates.{numbered, whole_list, duplicate_fate, cut_fate, fate_in, fates_from, fates_of, byte_of, Judged, AllFound, Doubled, Fated}
-use Rattle.fates.proofs.Zeros.{numbered_has, has_numbered, none_numbered, zeros_all}
+use Rattle.fates.proofs.Zeros.{numbered_has, has_numbered, zeros_all}
 
 -- ---- the bytes by their places
 

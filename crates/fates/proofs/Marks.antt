@@ -3,7 +3,7 @@
 use Prim.Native.Nat.{ℕ, zero, suc, ◌+◌, ◌-◌, ◌≤◌, ◌<◌}
 use mathlib.Core.Path.{◌≡◌, refl, sym, ap, subst, ◌∙◌}
 use mathlib.Core.Bool.{Bool, true, false, cond, ◌||◌}
-use mathlib.Core.Logic.{◌⊎◌, inl, inr, ⊎_elim}
+use mathlib.Core.Logic.{inl, inr}
 use mathlib.Core.List.{List, [], ◌∷◌}
 use native.Mathlib.Omega.{arith}
 use lib.Dec.{eqb}
@@ -15,7 +15,7 @@ use Rattle.ranking.specs.declared.Candidate.{Candidate}
 use Rattle.ranking.specs.Lists.{Has}
 use Rattle.ranking.specs.Candidate.{ranked}
 use Rattle.ranking.proofs.Members.{has_take}
-use Rattle.fates.specs.Fates.{numbered, whole_list, duplicate_fate, cut_fate, fate_in, fates_from, fates_of, unranked, marked, Judged}
+use Rattle.fates.specs.Fates.{numbered, whole_list, cut_fate, fate_in, fates_of, unranked, marked, Judged}
 use Rattle.fates.proofs.Zeros.{numbered_has}
 use Rattle.fates.proofs.Bytes.{fates_length, fates_at, in_whole}
 

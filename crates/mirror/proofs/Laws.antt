@@ -20,7 +20,6 @@ use Rattle.mirror.specs.Border.{nearer_of, weight_of}
 use Rattle.mirror.specs.Locate.{snap_of, snap_edges_of, snap_all_of, find_of, contains_in_box_of, spot_of, surface_of, weighed_of, locate_on_plane_of}
 use Rattle.mirror.specs.Rows.{edge_in, edges_in, plane_in, planes_in, ReadsAs}
 use Rattle.mirror.specs.declared.Snap.{Snap}
-use Rattle.mirror.specs.declared.Spot.{Spot}
 use Rattle.mirror.specs.declared.Spot.TheVariants.{Outside, Inside}
 use Rattle.mirror.specs.declared.Located.TheVariants.{Off}
 

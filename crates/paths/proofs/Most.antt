@@ -9,7 +9,7 @@ use borrow.Author.Tests.{le-ltb, eq-eqb}
 use lib.Dec.{T, ltb, eqb, lt→ltb, nltb→le}
 use lib.Pow.{pow_pos, pow-add, pow-lt, shl_lt}
 use lib.IntN.{ℤ, pos}
-use lib.Ieee.{Float, nan, inf, fin, binary32, low, up, down, unlike, round, sum, neg, add, sub, mul, div, lt, le, eq, is_nan, of_bits}
+use lib.Ieee.{Float, nan, inf, fin, binary32, up, down, unlike, round, sum, neg, add, sub, mul, div, lt, le, eq, is_nan, of_bits}
 use lib.Ieee.Fits.{up_pos, down_pos}
 use lib.Ieee.Exact.{HasValue, round_exact}
 use lib.Ieee.Order.{round_mono}

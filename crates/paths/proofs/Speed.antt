@@ -1,19 +1,18 @@
 -- A temperature within its limit gives a speed from 318 to 361: from 253 to 324 kelvins, the quotient, the root and the product grow with them.
-use mathlib.Core.Path.{◌≡◌}
-use mathlib.Core.Bool.{Bool, true, false, ◌&&◌, ◌||◌, cond}
+use mathlib.Core.Bool.{Bool, true, false, ◌&&◌, ◌||◌}
 use Prim.Native.Nat.{ℕ, zero, suc, ◌+◌, ◌-◌, ◌*◌, ◌≤◌, ◌<◌}
-use native.Mathlib.Nat.{mul-pos, zero-lt-suc, le_refl}
+use native.Mathlib.Nat.{zero-lt-suc}
 use native.Mathlib.Omega.{arith}
 use borrow.Author.Tests.{lt-ltb}
 use lib.Dec.{T, ltb, eqb, ltb→lt, eqb→eq}
-use lib.IntN.{ℤ, pos, negsuc}
+use lib.IntN.{pos}
 use lib.Ieee.{Float, nan, inf, fin, binary32, up, down, round, sum, add, mul, div, lt, le, eq, of_bits}
-use lib.Ieee.Fits.{down_pos, and_l, and_r}
+use lib.Ieee.Fits.{down_pos, and_l}
 use lib.Ieee.Order.{round_mono}
-use lib.Ieee.Positive.{positive, le→cross, cross→le, between, mul_mono, le_trans_positive}
+use lib.Ieee.Positive.{positive, le→cross, between, mul_mono, le_trans_positive}
 use Rattle.float.specs.Sqrt.{isqrt, root_of, sqrt_of}
 use Rattle.float.proofs.Monotone.{sqrt_mono}
-use Rattle.scene.specs.Limits.{least_temperature, most_temperature, between_of}
+use Rattle.scene.specs.Limits.{least_temperature, most_temperature}
 use Rattle.scene.specs.Speed.{reference_speed, zero_celsius, reference_kelvin, speed_of}
 use Rattle.paths.proofs.Ranges.{div_mono, least_speed, most_speed}
 

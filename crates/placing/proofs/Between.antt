@@ -6,8 +6,8 @@ use native.Mathlib.Nat.{mul-pos, zero-lt-suc, zero-mul}
 use native.Mathlib.Omega.{arith}
 use borrow.Author.Tests.{eq-eqb, lt-ltb, le-ltb, ne_eqb}
 use lib.Dec.{T, ltb, eqb, ltb→lt, nltb→le}
-use lib.IntN.{ℤ, pos}
-use lib.Ieee.{Float, nan, inf, fin, up, down, neg, lt, eq, le, binary32, of_bits}
+use lib.IntN.{ℤ}
+use lib.Ieee.{Float, nan, inf, fin, up, down, neg, lt, eq, le, of_bits}
 use lib.Ieee.Fits.{up_pos, down_pos}
 use Rattle.float.specs.Literals.{zero32}
 use Rattle.float.specs.Compare.{abs_of, is_finite}

@@ -1,11 +1,10 @@
 -- The floor of document 01's case A, computed: its triangles, what is skipped, placings, and corners at 10,000 and just above.
 use mathlib.Core.Path.{◌≡◌, refl}
-use mathlib.Core.Bool.{Bool, true, false}
+use mathlib.Core.Bool.{true, false}
 use mathlib.Core.List.{List, [], ◌∷◌, ◌++◌}
 use Prim.Native.Nat.{ℕ}
-use lib.Ieee.{Float, nan, binary32, add, sub, mul, div, neg, lt, le, eq, of_bits, round}
+use lib.Ieee.{Float, binary32, add, sub, mul, div, neg, lt, le, eq, of_bits, round}
 use lib.ListN.{length, get_or}
-use Rattle.vector.specs.declared.Vec3.{Vec3}
 use Rattle.vector.specs.Vector.{vec, sub3_of, cross3_of, dot3_of, length3_of}
 use Rattle.vector.specs.Transform.{transform_point_of, row_of}
 use Rattle.float.specs.Compare.{abs_of, is_finite}
@@ -13,7 +12,7 @@ use Rattle.float.specs.Sqrt.{sqrt_of, root_of, isqrt}
 use Rattle.geometry.specs.declared.Triangle.{Triangle}
 use Rattle.geometry.specs.Triangle.{cross_of, is_degenerate_of, normal_of, triangle_of_corners}
 use Rattle.scene.specs.Scene.{Scene, scene, headers, cut}
-use Rattle.placing.specs.Corners.{triples, corner_of, corners_in, corners_of, corners_all, corners, triangles, triangles_of, far_of, is_far_corner, has_far_corner, any_far, up_to_far, refusal6, placings}
+use Rattle.placing.specs.Corners.{triples, corner_of, corners_in, corners_of, corners_all, triangles, triangles_of, far_of, is_far_corner, has_far_corner, any_far, up_to_far, refusal6, placings}
 use Rattle.placing.specs.TwoPasses.{mesh_triples, scene_triples, test_pass, placings_for}
 
 abbrev f : ℕ → Float

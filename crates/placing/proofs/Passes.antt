@@ -1,21 +1,19 @@
 -- Laws on the pass.
-use mathlib.Core.Path.{◌≡◌, refl, sym, ap, ◌∙◌}
+use mathlib.Core.Path.{◌≡◌, refl, ap, ◌∙◌}
 use mathlib.Core.Bool.{Bool, true, false, cond}
 use mathlib.Core.List.{List, [], ◌∷◌, ◌++◌}
-use Prim.Native.Nat.{ℕ, zero, suc, ◌+◌, ◌-◌, ◌*◌, ◌/◌, ◌<◌, ◌≤◌}
-use native.Mathlib.Numerals.{add-one}
+use Prim.Native.Nat.{ℕ, suc, ◌+◌, ◌-◌, ◌*◌, ◌/◌, ◌<◌, ◌≤◌}
 use native.Mathlib.Nat.{div-add-mod', mod-lt}
 use native.Mathlib.Omega.{arith}
 use lib.Ieee.{Float}
 use lib.ListN.{length, take, drop, get_or, length-drop}
-use lib.Seq.{drop-cons, drop-drop, length-take-le}
+use lib.Seq.{drop-drop, length-take-le}
 use Rattle.scene.specs.Scene.{Header, headers, vertex_sum, index_sum, triple_sum, cut}
 use Rattle.scene.proofs.Cuts.{header_at, no_header, drop_one, vertex_step, index_step, triple_step}
-use Rattle.geometry.specs.Triangle.{is_degenerate_of}
 use Rattle.geometry.specs.declared.Triangle.{Triangle}
 use Rattle.geometry.specs.declared.Shape.{Shape}
 use Rattle.geometry.specs.declared.Shape.TheVariants.{Degenerate, Proper}
-use Rattle.placing.specs.Corners.{Triple, triple, triples, whole_triples, Corners, far_in, corners_in, corners_of, corners_all, any_far, triangles_of, up_to_far}
+use Rattle.placing.specs.Corners.{triple, triples, whole_triples, Corners, corners_in, corners_of, corners_all}
 use Rattle.placing.specs.Passing.{World, world, state, placing, step_of, run}
 use Rattle.placing.specs.declared.State.{State}
 use Rattle.placing.specs.declared.Placing.{Placing}

@@ -1,6 +1,6 @@
 -- What the columns read after the triangles were stored, and where a pass ends.
-use mathlib.Core.Path.{◌≡◌, refl, sym, ap, subst, ◌∙◌}
-use mathlib.Core.Bool.{Bool, true, false, cond, true≢false}
+use mathlib.Core.Path.{◌≡◌, refl, sym, subst, ◌∙◌}
+use mathlib.Core.Bool.{Bool, true, false, true≢false}
 use mathlib.Core.List.{List, [], ◌∷◌}
 use Prim.Native.Nat.{ℕ, zero, suc, ◌+◌, ◌*◌, ◌<◌, ◌≤◌}
 use native.Mathlib.Omega.{arith}
@@ -10,7 +10,7 @@ use lib.Seq.{get_or-set_same, get_or-set_other}
 use Rattle.float.specs.Literals.{zero32}
 use Rattle.geometry.specs.declared.Triangle.{Triangle}
 use Rattle.geometry.specs.Triangle.{is_degenerate_of, triangle_of_corners}
-use Rattle.columns.specs.Columns.{column_count, triangle_at_of, edges_at_of, dots_at_of, row_of, put_triangle_of}
+use Rattle.columns.specs.Columns.{column_count, row_of, put_triangle_of}
 use Rattle.columns.proofs.Storing.{put_other}
 use Rattle.columns.proofs.Readback.{triangle_same, edges_same, dots_same, triangle_other, edges_other, dots_other, length_stored}
 use Rattle.placing.specs.declared.State.{State}

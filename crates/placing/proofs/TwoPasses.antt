@@ -1,8 +1,8 @@
 -- The one pass answers as a testing pass followed by a keeping pass (document 02, note 6).
 --     two_passes         what the contract of `triangles_from_scene` promises is what two passes give, with three placings a triple in range
 --     load_two_passes    the same of `load_scene`
-use Prim.Native.Nat.{ℕ, zero, suc, ◌+◌, ◌*◌, ◌<◌}
-use mathlib.Core.Path.{◌≡◌, refl, sym, ap, subst, ◌∙◌}
+use Prim.Native.Nat.{ℕ, ◌+◌, ◌*◌, ◌<◌}
+use mathlib.Core.Path.{◌≡◌, refl, sym, ap, ◌∙◌}
 use mathlib.Core.Bool.{Bool, true, false, cond, not, ◌&&◌, ◌||◌}
 use mathlib.Core.List.{List, [], ◌∷◌, ◌++◌, map}
 use native.Mathlib.Omega.{arith}
@@ -22,7 +22,7 @@ use Rattle.placing.specs.Loading.{first_refusal, loaded_of, left, Loading}
 use Rattle.placing.specs.declared.Placed.{Placed}
 use Rattle.placing.specs.declared.Placed.TheVariants.{Far, Kept}
 use Rattle.placing.specs.declared.Loaded.{Loaded}
-use Rattle.placing.specs.TwoPasses.{MeshTriple, mesh_triple, mesh_triples, scene_triples, ranged, placed, test_pass, keep_pass, placings_for, refusal_of, kept_of, placings_of, AsTwoPasses, loaded_by, LoadsAsTwoPasses}
+use Rattle.placing.specs.TwoPasses.{MeshTriple, mesh_triple, mesh_triples, ranged, placed, test_pass, keep_pass, placings_for, refusal_of, kept_of, placings_of, AsTwoPasses, loaded_by, LoadsAsTwoPasses}
 
 -- ---- the corners of the triples in range
 

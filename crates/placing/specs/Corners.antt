@@ -1,5 +1,5 @@
 -- The placed corners of a scene's triples, its triangles (`triangles_from_scene`), and refusal 6, over lists of meshes.
-use Rattle.std.specs.Prelude.{ℕ, zero, suc, ◌+◌, ◌*◌, ltb, Float, length, get_or, Bool, true, false, cond, not, ◌&&◌, ◌||◌, List, [], ◌∷◌, ◌++◌}
+use Rattle.std.specs.Prelude.{ℕ, suc, ◌+◌, ◌*◌, ltb, Float, length, get_or, Bool, false, cond, not, ◌&&◌, ◌||◌, List, [], ◌∷◌, ◌++◌}
 use Rattle.std.specs.Float.{nan, binary32}
 use Rattle.std.specs.Float.Ieee.{lt, of_bits}
 use Rattle.vector.specs.declared.Vec3.{Vec3}

@@ -1,5 +1,5 @@
 -- The front of a query: the refusals 1 to 6, the answer and the areas, for any input.
-use Rattle.std.specs.Prelude.{ℕ, zero, suc, ◌<◌, eqb, Float, length, get_or, replicate, ◌≡◌, Bool, cond, List, [], ◌∷◌}
+use Rattle.std.specs.Prelude.{ℕ, zero, suc, ◌<◌, eqb, Float, length, get_or, replicate, ◌≡◌, cond, List, [], ◌∷◌}
 use Rattle.float.specs.Literals.{zero32}
 use Rattle.geometry.specs.declared.Triangle.{Triangle}
 use Rattle.scene.specs.declared.Settings.{Settings}

@@ -1,7 +1,6 @@
 -- The pass over the corners: what it carries, a step, and what the whole answers.
-use Rattle.std.specs.Prelude.{ℕ, zero, suc, ◌+◌, ◌*◌, ◌≤◌, ◌<◌, Float, length, set, get_or, replicate, ◌≡◌, Bool, true, false, cond, List, [], ◌∷◌}
-use Rattle.std.specs.Float.{nan, binary32}
-use Rattle.std.specs.Float.Ieee.{of_bits}
+use Rattle.std.specs.Prelude.{ℕ, ◌+◌, ◌*◌, ◌≤◌, ◌<◌, Float, length, set, get_or, replicate, ◌≡◌, Bool, true, false, cond, List, [], ◌∷◌}
+use Rattle.std.specs.Float.{nan}
 use Rattle.geometry.specs.declared.Triangle.{Triangle}
 use Rattle.geometry.specs.Triangle.{is_degenerate_of, triangle_of_corners}
 use Rattle.scene.specs.Scene.{headers, vertex_sum, index_sum, triple_sum}

@@ -1,21 +1,21 @@
 -- The largest triangle of each patch: one pass over the triangles, which meets each in its patch (`Meeting`), gives for each patch the fold
 -- over its own triangles, and that fold is the definition's (`largest_is`).
 use mathlib.Core.Path.{◌≡◌, refl, sym, ap, ◌∙◌}
-use mathlib.Core.Logic.{⊎_elim, ◌⊎◌, inl, inr}
+use mathlib.Core.Logic.{◌⊎◌}
 use mathlib.Core.Bool.{Bool, true, false, cond}
-use mathlib.Core.List.{List, [], ◌∷◌, ◌++◌, foldl, foldl-append}
+use mathlib.Core.List.{List, [], ◌∷◌, foldl, foldl-append}
 use Prim.Native.Nat.{ℕ, zero, suc, ◌+◌, ◌<◌, ◌≤◌}
-use native.Mathlib.Nat.{le_refl, not-suc-le-zero, le_of_suc-le-suc}
+use native.Mathlib.Nat.{not-suc-le-zero, le_of_suc-le-suc}
 use native.Mathlib.Numerals.{add-one}
 use native.Mathlib.Omega.{arith}
 use lib.Dec.{eqb}
 use lib.Ieee.{Float, nan, neg, lt}
-use lib.ListN.{length, get_or, set, length-set}
+use lib.ListN.{length, get_or, set}
 use lib.Seq.{get_or-set_same, get_or-set_other}
 use borrow.Author.Tests.{eq-eqb, ne_eqb}
 use Rattle.float.specs.Literals.{one32}
 use Rattle.float.proofs.Numbers.{by_order}
-use Rattle.order.proofs.Positions.{Under, under_up_to}
+use Rattle.order.proofs.Positions.{Under}
 use Rattle.geometry.specs.declared.Triangle.{Triangle}
 use Rattle.geometry.specs.Triangle.{triangle_area_of}
 use Rattle.order.specs.Runs.{head_or, up_to}
@@ -23,7 +23,7 @@ use Rattle.order.proofs.Stable.{by-eq}
 use Rattle.planes_patches.specs.Lists.{keep_if, filter_by}
 use Rattle.planes_patches.specs.Triangles.{nth_triangle}
 use Rattle.planes_patches.specs.Rows.{none_of, tris_in, Numbered}
-use Rattle.planes_patches.proofs.Lists.{under_filter, filter_more}
+use Rattle.planes_patches.proofs.Lists.{filter_more}
 use Rattle.planes_buried.specs.Buried.{larger_of}
 use Rattle.planes_buried.specs.Passes.{best_at, best_of, or_zero}
 

@@ -2,22 +2,20 @@
 -- the open patches (`closed_is`).
 use mathlib.Core.Path.{◌≡◌, refl, sym, ap, ◌∙◌}
 use mathlib.Core.Logic.{⊎_elim, ◌⊎◌, inl, inr}
-use mathlib.Core.Bool.{Bool, true, false, cond, not, false≢true}
+use mathlib.Core.Bool.{Bool, true, false, cond, false≢true}
 use mathlib.Core.List.{List, [], ◌∷◌, ◌++◌, append-nil, map}
-use Prim.Native.Nat.{ℕ, zero, suc, ◌+◌, ◌*◌, ◌<◌, ◌≤◌}
+use Prim.Native.Nat.{ℕ, zero, suc, ◌+◌, ◌<◌, ◌≤◌}
 use native.Mathlib.Nat.{le_refl, not-suc-le-zero, le_of_suc-le-suc}
-use native.Mathlib.Numerals.{add-one}
 use native.Mathlib.Omega.{arith}
 use lib.Dec.{eqb}
 use lib.Ieee.{Float}
 use lib.ListN.{length, get_or, set, length-set, length-append, get_or-append}
 use lib.Seq.{get_or-set_same, get_or-set_other, get_or-append_seam, ext_get_or}
-use borrow.Author.Tests.{eq-eqb, ne_eqb, eqb-true}
+use borrow.Author.Tests.{eq-eqb, ne_eqb}
 use Rattle.float.proofs.Numbers.{by_order}
 use Rattle.order.specs.Runs.{up_to}
 use Rattle.order.proofs.Stable.{by-eq}
 use Rattle.order.proofs.Positions.{get_or_map_up_to}
-use Rattle.planes_patches.specs.declared.PatchRow.{PatchRow}
 use Rattle.planes_patches.specs.Lists.{keep_if, filter_by}
 use Rattle.planes_patches.specs.Patch.{Patch, no_patch}
 use Rattle.planes_patches.specs.Rows.{none_of, row_in, tris_in, patch_in, patches_in, Numbered}

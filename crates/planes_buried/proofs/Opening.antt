@@ -1,34 +1,31 @@
 -- Step 3 as a whole: the largest triangles, the flags, and the rows and numbers of the open patches give the definition's (`opened_is`).
-use mathlib.Core.Path.{◌≡◌, refl, sym, ap, ◌∙◌}
-use mathlib.Core.Bool.{Bool, true, false, cond, not}
-use mathlib.Core.List.{List, [], ◌∷◌, foldl}
+use mathlib.Core.Path.{◌≡◌, sym, ap, ◌∙◌}
+use mathlib.Core.Bool.{Bool, true, not}
+use mathlib.Core.List.{List, [], ◌∷◌}
 use Prim.Native.Nat.{ℕ, ◌+◌, ◌<◌, ◌≤◌}
-use native.Mathlib.Nat.{not-suc-le-zero}
 use native.Mathlib.Omega.{arith}
 use lib.Dec.{eqb}
-use lib.Ieee.{Float, neg, lt}
+use lib.Ieee.{Float, lt}
 use lib.ListN.{length, get_or, set}
 use lib.Seq.{get_or-set_same, get_or-set_other}
-use Rattle.float.specs.Literals.{zero32, one32}
+use Rattle.float.specs.Literals.{zero32}
 use Rattle.float.proofs.Numbers.{by_order}
 use Rattle.order.proofs.Positions.{Under, under_up_to}
 use Rattle.vector.specs.declared.Ray.{Ray}
 use Rattle.geometry.specs.declared.Triangle.{Triangle}
 use Rattle.columns.specs.Columns.{triangle_at_of}
 use Rattle.tree_build.specs.Tree.{Tree}
-use Rattle.order.specs.Runs.{head_or, up_to}
+use Rattle.order.specs.Runs.{up_to}
 use Rattle.order.proofs.Stable.{by-eq}
-use Rattle.planes_patches.specs.Lists.{filter_by}
 use Rattle.planes_patches.specs.Triangles.{nth_triangle, triangles_in}
-use Rattle.planes_patches.specs.Patch.{Patch}
 use Rattle.planes_patches.specs.Rows.{none_of, row_in, tris_in, patch_in, patches_in, Numbered}
 use Rattle.planes_patches.proofs.Lists.{under_filter}
 use Rattle.planes_patches.proofs.Filling.{triangle_in}
-use Rattle.planes_buried.specs.Buried.{larger_of, largest_of, probe_ray_of, is_buried, open_of}
+use Rattle.planes_buried.specs.Buried.{largest_of, is_buried, open_of}
 use Rattle.planes_buried.specs.Probe.{probe_of, lies_between, TreeHeld}
-use Rattle.planes_buried.specs.Passes.{best_at, best_of, or_zero, is_open, open_to, number_in, renumbered_of}
+use Rattle.planes_buried.specs.Passes.{best_at, or_zero, is_open, open_to, number_in, renumbered_of}
 use Rattle.planes_buried.proofs.Best.{best_to, largest_is, largest_low}
-use Rattle.planes_buried.proofs.Closing.{closed_is, numbered_new}
+use Rattle.planes_buried.proofs.Closing.{closed_is}
 
 -- ---- the loop of `mark_open`
 

@@ -1,13 +1,13 @@
 -- The first match among several cells: of the first of three lists of cells that has one. So go `first_along_z`, `first_along_y` and
 -- `found`.
-use mathlib.Core.Path.{◌≡◌, refl, sym, ap, ◌∙◌}
-use mathlib.Core.Bool.{Bool, true, false, cond}
-use mathlib.Core.List.{List, [], ◌∷◌, ◌++◌, append-nil, flat_map}
+use mathlib.Core.Path.{◌≡◌, sym, ap, ◌∙◌}
+use mathlib.Core.Bool.{cond}
+use mathlib.Core.List.{List, [], ◌++◌, append-nil, flat_map}
 use Prim.Native.Nat.{ℕ, ◌<◌, ◌≤◌}
 use lib.Dec.{ltb}
 use lib.Ieee.{Float}
 use borrow.Author.Tests.{lt-ltb, le-ltb}
-use Rattle.order.proofs.Positions.{Under, under_up_to}
+use Rattle.order.proofs.Positions.{under_up_to}
 use Rattle.vector.specs.declared.Vec3.{Vec3}
 use Rattle.order.specs.Runs.{first_by, up_to}
 use Rattle.planes_faces.specs.Key.{Key, same_key}

@@ -2,9 +2,9 @@
 -- (`Filling`).
 use mathlib.Core.Path.{◌≡◌, refl, sym, ap, ◌∙◌}
 use mathlib.Core.Bool.{Bool, true, false, cond, not}
-use mathlib.Core.List.{List, [], ◌∷◌, ◌++◌, append-nil, map, foldl, foldl-append}
-use Prim.Native.Nat.{ℕ, zero, suc, ◌+◌, ◌*◌, ◌<◌, ◌≤◌}
-use native.Mathlib.Nat.{le_refl, not-suc-le-zero}
+use mathlib.Core.List.{List, [], ◌∷◌, map, foldl, foldl-append}
+use Prim.Native.Nat.{ℕ, suc, ◌<◌, ◌≤◌}
+use native.Mathlib.Nat.{not-suc-le-zero}
 use native.Mathlib.Omega.{arith}
 use lib.Dec.{eqb}
 use lib.Ieee.{Float}
@@ -12,18 +12,18 @@ use lib.ListN.{length, get_or, replicate, length-replicate, get_or-replicate}
 use Rattle.order.proofs.Positions.{get_or_map_up_to}
 use Rattle.geometry.specs.declared.Triangle.{Triangle}
 use Rattle.columns.specs.Columns.{triangle_at_of}
-use Rattle.order.specs.Runs.{any_by, up_to}
+use Rattle.order.specs.Runs.{up_to}
 use Rattle.float.proofs.Numbers.{by_order}
 use Rattle.order.proofs.Stable.{by-eq}
 use Rattle.order.proofs.Runs.{any_under}
-use Rattle.planes_faces.specs.Faces.{Face, no_face, face_of, face_at, same_face, is_first, face_in, faces_in, keys_of}
+use Rattle.planes_faces.specs.Faces.{Face, no_face, face_of, face_at, same_face, is_first, face_in, faces_in}
 use Rattle.planes_faces.proofs.Corners.{face_in_lem}
 use Rattle.planes_patches.specs.Lists.{keep_if, filter_by}
 use Rattle.planes_patches.specs.Triangles.{no_triangle, nth_triangle, triangles_in}
 use Rattle.planes_patches.specs.Patch.{Patch}
 use Rattle.planes_patches.specs.Patches.{kept_of, placed_of, patches_of}
-use Rattle.planes_patches.specs.Rows.{patch_floats, none_of, patches_in, Numbered}
-use Rattle.planes_patches.specs.Grid.{bucket_count, newest, Grid, Standing}
+use Rattle.planes_patches.specs.Rows.{none_of, patches_in, Numbered}
+use Rattle.planes_patches.specs.Grid.{bucket_count, newest, Standing}
 use Rattle.planes_patches.proofs.Lists.{filter_more, filter_under, length_up_to}
 
 -- ---- the triangles that are kept

@@ -1,5 +1,5 @@
 -- Stores of rows and cells: what stands at their place afterwards, and that nothing else changes.
-use mathlib.Core.Path.{◌≡◌, refl, sym, ap, ◌∙◌}
+use mathlib.Core.Path.{◌≡◌, ◌∙◌}
 use mathlib.Core.Logic.{⊎_elim, ◌⊎◌, inl, inr}
 use mathlib.Core.List.{List}
 use Prim.Native.Nat.{ℕ, ◌+◌, ◌*◌, ◌<◌, ◌≤◌}
@@ -8,10 +8,7 @@ use lib.Ieee.{Float, nan}
 use lib.ListN.{length, get_or, set, length-set}
 use lib.Seq.{get_or-set_same, get_or-set_other}
 use Rattle.vector.specs.declared.Vec3.{Vec3}
-use Rattle.vector.specs.Vector.{vec}
-use Rattle.geometry.specs.declared.Aabb.{Aabb}
 use Rattle.float.proofs.Numbers.{by_order}
-use Rattle.planes_faces.specs.Key.{Key}
 use Rattle.planes_patches.specs.declared.PatchRow.{PatchRow}
 use Rattle.mirror.specs.Rows.{vec_of_floats}
 use Rattle.planes_patches.specs.Rows.{patch_floats, row_in, Beside}

@@ -1,14 +1,14 @@
 -- Patches in rows and numbers, when a triangle joins a patch (`turn_joined`), starts one (`turn_new`) or is left out (`turn_none`).
 use mathlib.Core.Path.{◌≡◌, refl, sym, ap, ◌∙◌}
 use mathlib.Core.Logic.{⊎_elim, ◌⊎◌, inl, inr}
-use mathlib.Core.Bool.{Bool, true, false, cond}
-use mathlib.Core.List.{List, [], ◌∷◌, ◌++◌, append-nil, map, flat_map, foldl, foldl-append}
-use Prim.Native.Nat.{ℕ, zero, suc, ◌+◌, ◌*◌, ◌<◌, ◌≤◌}
-use native.Mathlib.Nat.{le_refl, not-suc-le-zero}
+use mathlib.Core.Bool.{Bool}
+use mathlib.Core.List.{List, [], ◌∷◌, ◌++◌, append-nil, map, flat_map}
+use Prim.Native.Nat.{ℕ, suc, ◌+◌, ◌*◌, ◌<◌, ◌≤◌}
+use native.Mathlib.Nat.{le_refl}
 use native.Mathlib.Omega.{arith}
-use lib.Dec.{eqb, ltb}
+use lib.Dec.{eqb}
 use lib.Ieee.{Float}
-use lib.ListN.{length, get_or, set, length-set}
+use lib.ListN.{length, get_or, set}
 use lib.Seq.{get_or-set_same, get_or-set_other}
 use borrow.Author.Tests.{eq-eqb, ne_eqb, lt-ltb, le-ltb}
 use Rattle.order.proofs.Positions.{Under, under_up_to, get_or_map_up_to}
@@ -27,7 +27,7 @@ use Rattle.planes_patches.specs.Normal.{canonical_of, offset_of}
 use Rattle.planes_patches.specs.Patch.{Patch, no_patch, patch_at}
 use Rattle.planes_patches.specs.Patches.{cell_of, around_of, patches_in_cell, lies_in_plane, found_of, lone_patch, joined_of, placed_of}
 use Rattle.planes_patches.specs.Rows.{patch_floats, none_of, row_in, new_row_of, joined_row_of, tris_in, patch_in, patches_in, Numbered}
-use Rattle.planes_patches.specs.Grid.{key, plane_key_of, bucket_of, cell_at, linked_of, coplanar_at, cell_in, first_among, Grid, Standing}
+use Rattle.planes_patches.specs.Grid.{key, plane_key_of, bucket_of, cell_at, linked_of, coplanar_at, cell_in, first_among, Standing}
 use Rattle.planes_patches.proofs.Lists.{under_filter, under_flat, filter_more, filter_under, filter_none, length_up_to, map_under, map_set, map_push}
 use Rattle.planes_patches.proofs.Buckets.{grid_joined, grid_more}
 

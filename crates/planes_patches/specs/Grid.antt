@@ -1,6 +1,6 @@
 -- The grid of normals in areas: the cell of each patch, and a circular list of the patches whose cells share a bucket, from the oldest to the
 -- newest, the tail. A link is 0 where there is no patch, else a patch's number plus one.
-use Rattle.std.specs.Prelude.{ℕ, zero, suc, ◌+◌, ◌*◌, ◌%◌, ◌<◌, ◌≤◌, ◌≡◌, Bool, cond, ◌&&◌, eqb, length, get_or, set, Float, List, [], ◌∷◌}
+use Rattle.std.specs.Prelude.{ℕ, zero, suc, ◌+◌, ◌*◌, ◌%◌, ◌<◌, ◌≤◌, ◌≡◌, Bool, cond, ◌&&◌, eqb, length, get_or, set, Float, List, []}
 use mathlib.Core.List.{flat_map}
 use Rattle.vector.specs.declared.Vec3.{Vec3}
 use Rattle.geometry.specs.declared.Triangle.{Triangle}

@@ -11,7 +11,7 @@ use mathlib.Core.List.{List, [], ◌∷◌}
 use Prim.{absurd}
 use Rattle.scene.specs.declared.Settings.{Settings}
 use Rattle.scene.specs.Limits.{settings_of, counts_of, rates_of, merges_of, model_numbers_of, later_settings_of, probe_settings_of, low_air_of, high_air_of}
-use Rattle.settings_fault.specs.Fault.{first_failed, planes_in_bounds, room_in_bounds, crossings_in_bounds, high_air_tests, air_tests, probe_tests, model_tests, merge_tests, rate_tests, setting_tests, fault_of}
+use Rattle.settings_fault.specs.Fault.{first_failed, planes_in_bounds, room_in_bounds, crossings_in_bounds, high_air_tests, air_tests, probe_tests, model_tests, merge_tests, rate_tests, setting_tests}
 
 -- whether all hold
 abbrev pub all_of : List Bool → Bool

@@ -1,7 +1,7 @@
 -- The test of a box with the reciprocals at hand is `slab_of` (`past_is`, `cut_is`): a span that has closed on one axis stays closed on the others, so
 -- that one comparison at the end tells; and an axis on which the ray does not move leaves the span as it is.
 use mathlib.Core.Path.{◌≡◌, refl, sym, ap, subst, ◌∙◌}
-use mathlib.Core.Bool.{Bool, true, false, not, cond, ◌||◌}
+use mathlib.Core.Bool.{Bool, true, false, cond, ◌||◌}
 use lib.Dec.{T, T_not}
 use lib.Ieee.{Float, nan, inf, fin, binary32, sub, mul, div, lt, is_nan}
 use Rattle.float.specs.Literals.{one32}

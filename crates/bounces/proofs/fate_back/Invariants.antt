@@ -1,7 +1,7 @@
 -- `bounces::fate_back` meets its contract: the fate from here on is that of the whole way.
 use mathlib.Core.Path.{◌≡◌}
 use mathlib.Core.List.{[]}
-use Prim.Native.Nat.{ℕ, ◌-◌, ◌≤◌}
+use Prim.Native.Nat.{ℕ, ◌≤◌}
 use lib.Ieee.{Float}
 use Rattle.float.specs.Literals.{one32}
 use Rattle.geometry.specs.declared.Triangle.{Triangle}

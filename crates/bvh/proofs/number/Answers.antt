@@ -1,6 +1,5 @@
 -- `bvh::number` meets its contract: the positions so far hold their own number.
 use mathlib.Core.Path.{refl, ◌∙◌}
-use Prim.Native.Nat.{◌-◌}
 use native.Mathlib.Omega.{arith}
 use borrow.Author.Rules.{scaled_Fits}
 use lib.ListN.{length, length-set}

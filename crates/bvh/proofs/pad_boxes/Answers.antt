@@ -1,6 +1,5 @@
 -- `bvh::pad_boxes` meets its contract: the boxes so far are those of the nodes so far, padded.
 use mathlib.Core.Path.{refl, ap, ◌∙◌}
-use Prim.Native.Nat.{◌-◌}
 use native.Mathlib.Omega.{arith}
 use Rattle.bvh.proofs.Laws as law
 use Rattle.geometry.specs.Slab.{padded_of}

@@ -1,6 +1,5 @@
 -- `bvh::put_extents` meets its contract: the rows so far are those of the triangles so far.
 use mathlib.Core.Path.{refl, ap, ◌∙◌}
-use Prim.Native.Nat.{◌-◌}
 use native.Mathlib.Omega.{arith}
 use Rattle.bvh.proofs.Laws as law
 use Rattle.geometry.specs.declared.Triangle.{Triangle}

@@ -1,6 +1,6 @@
 -- `bvh::put_keys` meets its contract: the keys so far are those of finite values, whose order they have (`float_key_leb`).
 use mathlib.Core.Path.{◌≡◌, refl, sym, ap, ◌∙◌}
-use Prim.Native.Nat.{ℕ, ◌-◌}
+use Prim.Native.Nat.{ℕ}
 use native.Mathlib.Omega.{arith}
 use borrow.Author.Rules.{scaled_Fits}
 use lib.ListN.{length, length-set}

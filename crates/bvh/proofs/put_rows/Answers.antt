@@ -1,6 +1,5 @@
 -- `bvh::put_rows` meets its contract: the rows so far are those of the triangles that the order has so far.
 use mathlib.Core.Path.{refl, ◌∙◌}
-use Prim.Native.Nat.{◌-◌}
 use native.Mathlib.Omega.{arith}
 use lib.ListN.{length}
 use Rattle.bvh.proofs.Laws as law

@@ -1,6 +1,5 @@
 -- `cost::counts_of` meets its contract: a turn a level, by the laws of `Turns`.
 use mathlib.Core.Path.{refl}
-use Prim.Native.Nat.{◌-◌}
 use native.Mathlib.Omega.{arith}
 use Rattle.cost.proofs.Turns.{turned_none, fits_turn, turned_more, turned_all}
 use Rattle.cost.proofs.counts_of.Goals as goal

@@ -1,6 +1,6 @@
 -- `cost::query_cost` meets its contract: the figures one by one, and then what they say (`forecast`).
 use mathlib.Core.Path.{sym, ap, ◌∙◌}
-use Prim.Native.Nat.{◌-◌, min}
+use Prim.Native.Nat.{min}
 use native.Mathlib.Omega.{arith}
 use Rattle.sequences.specs.Allowed.{most}
 use Rattle.cost.proofs.Forecasts.{taken, told, turned}

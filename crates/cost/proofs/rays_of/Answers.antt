@@ -1,5 +1,4 @@
 -- `cost::rays_of` meets its contract: the rays of the first k orders, and then of one more.
-use Prim.Native.Nat.{◌-◌}
 use native.Mathlib.Omega.{arith}
 use Rattle.cost.proofs.Totals.{rays_none, factor_fits, term_fits, rays_more, rays_all}
 use Rattle.cost.proofs.rays_of.Goals as goal

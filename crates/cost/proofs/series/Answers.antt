@@ -1,6 +1,5 @@
 -- `cost::series` meets its contract: the sum for k terms, and then for one more.
 use mathlib.Core.Path.{◌≡◌, refl, ap, ◌∙◌}
-use Prim.Native.Nat.{◌-◌}
 use native.Mathlib.Omega.{arith}
 use Rattle.sequences.specs.Count.{series}
 use Rattle.cost.proofs.Sizes.{series_next, series_fits}

@@ -1,5 +1,4 @@
 -- `cost::words_of` meets its contract: the words of the first i areas, and then of one more.
-use Prim.Native.Nat.{◌-◌}
 use native.Mathlib.Omega.{arith}
 use Rattle.cost.proofs.Totals.{words_none, length_fits, words_fit, words_more, words_all}
 use Rattle.scene.proofs.Rooms.{small}

@@ -1,6 +1,5 @@
 -- `mirror::find` meets its contract: the triangles from here on give what all give.
 use mathlib.Core.Path.{◌≡◌, refl, sym, ◌∙◌}
-use Prim.Native.Nat.{◌-◌}
 use native.Mathlib.Omega.{arith}
 use lib.ListN.{get_or}
 use Rattle.order.specs.Sort.{Below}

@@ -1,6 +1,6 @@
 -- `mirror::snap_all` meets its contract: the triangles from here on give what all give.
 use mathlib.Core.Path.{◌≡◌, refl, sym, ap, ◌∙◌}
-use Prim.Native.Nat.{◌+◌, ◌-◌}
+use Prim.Native.Nat.{◌+◌}
 use native.Mathlib.Omega.{arith}
 use lib.ListN.{drop, get_or}
 use Rattle.order.specs.Sort.{Below}

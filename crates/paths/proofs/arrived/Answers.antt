@@ -21,13 +21,13 @@ candidate-requires c = tt
 pub returns-then-sum_of_squares-2 : goal.returns-then-sum_of_squares-2
 unfolding arrived_of
 returns-then-sum_of_squares-2 c = rw (
-      ← c.sum_of_squares.ensures,
-      c.if-sum_of_squares.true,
-      ← c.mul-left.ensures,
-      ← c.sum_of_squares-then-sum_of_squares.ensures,
-      c.if-sum_of_squares-2.true,
-      ← c.candidate.ensures,
-    )
+  ← c.sum_of_squares.ensures,
+  c.if-sum_of_squares.true,
+  ← c.mul-left.ensures,
+  ← c.sum_of_squares-then-sum_of_squares.ensures,
+  c.if-sum_of_squares-2.true,
+  ← c.candidate.ensures,
+)
 
 pub rejected-requires : goal.rejected-requires
 unfolding arrived_of
@@ -36,13 +36,13 @@ rejected-requires c = tt
 pub returns-then-sum_of_squares : goal.returns-then-sum_of_squares
 unfolding arrived_of
 returns-then-sum_of_squares c = rw (
-      ← c.sum_of_squares.ensures,
-      c.if-sum_of_squares.true,
-      ← c.mul-left.ensures,
-      ← c.sum_of_squares-then-sum_of_squares.ensures,
-      c.if-sum_of_squares-2.false,
-      ← c.rejected.ensures,
-    )
+  ← c.sum_of_squares.ensures,
+  c.if-sum_of_squares.true,
+  ← c.mul-left.ensures,
+  ← c.sum_of_squares-then-sum_of_squares.ensures,
+  c.if-sum_of_squares-2.false,
+  ← c.rejected.ensures,
+)
 
 pub returns : goal.returns
 unfolding arrived_of

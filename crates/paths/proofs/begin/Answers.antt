@@ -6,9 +6,9 @@ use Rattle.paths.proofs.begin.Goals as goal
 pub returns : goal.returns
 unfolding start_of
 returns c = record {
-      value = rw (← c.splat.ensures);
-      rays_value = refl;
-    }
+  value = rw (← c.splat.ensures);
+  rays_value = refl;
+}
 
 pub splat-requires : goal.splat-requires
 splat-requires c = tt

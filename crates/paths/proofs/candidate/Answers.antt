@@ -21,8 +21,8 @@ normalize3-requires c = tt
 pub returns : goal.returns
 unfolding candidate_of
 returns c = rw (
-      ← c.speed_of_sound-speed.ensures,
-      ← c.sum_of_squares.ensures,
-      ← c.sub3.ensures,
-      ← c.normalize3.ensures,
-    )
+  ← c.speed_of_sound-speed.ensures,
+  ← c.sum_of_squares.ensures,
+  ← c.sub3.ensures,
+  ← c.normalize3.ensures,
+)

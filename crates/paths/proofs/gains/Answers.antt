@@ -29,10 +29,10 @@ scale-requires c = tt
 pub returns : goal.returns
 unfolding gains_of
 returns c = rw (
-      ← c.gain.ensures,
-      ← c.splat.ensures,
-      ← c.air_gain.ensures,
-      ← c.mul-path.ensures,
-      ← c.mul.ensures,
-      ← c.scale.ensures,
-    )
+  ← c.gain.ensures,
+  ← c.splat.ensures,
+  ← c.air_gain.ensures,
+  ← c.mul-path.ensures,
+  ← c.mul.ensures,
+  ← c.scale.ensures,
+)

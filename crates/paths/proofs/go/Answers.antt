@@ -5,9 +5,9 @@ use Rattle.paths.proofs.go.Goals as goal
 
 pub segment_soft_transmission-g-requires : goal.segment_soft_transmission-g-requires
 segment_soft_transmission-g-requires c = record {
-      traceable = c.requires.traceable;
-      crossing_limit_bound = omega (arith, c.requires.crossing_limit_bound);
-    }
+  traceable = c.requires.traceable;
+  crossing_limit_bound = omega (arith, c.requires.crossing_limit_bound);
+}
 
 pub overflow_add-result : goal.overflow_add-result
 overflow_add-result c = omega (arith, c.segment_soft_transmission-g.ensures.rays_bound, c.requires.crossing_limit_bound)
@@ -15,9 +15,9 @@ overflow_add-result c = omega (arith, c.segment_soft_transmission-g.ensures.rays
 pub returns : goal.returns
 unfolding go_of
 returns c = record {
-      by_index = λ tri t h. rw (← c.segment_soft_transmission-g.ensures.by_index tri t h, ← c.mul.ensures, ← c.distance3.ensures);
-      rays_bound = omega (arith, c.segment_soft_transmission-g.ensures.rays_bound);
-    }
+  by_index = λ tri t h. rw (← c.segment_soft_transmission-g.ensures.by_index tri t h, ← c.mul.ensures, ← c.distance3.ensures);
+  rays_bound = omega (arith, c.segment_soft_transmission-g.ensures.rays_bound);
+}
 
 pub mul-requires : goal.mul-requires
 mul-requires c = tt

@@ -1,6 +1,5 @@
 -- `paths::judge` meets its contract, by the trail's fate and the tests of the way.
 use mathlib.Core.Path.{◌≡◌}
-use Prim.Native.Nat.{◌-◌}
 use native.Mathlib.Omega.{arith}
 use borrow.Author.Tests.{eq-eqb, ne_eqb}
 use lib.ListN.{take}
@@ -30,9 +29,9 @@ bounds-points-order c = omega (arith, c.requires.order_nonzero)
 
 pub reflected-requires : goal.reflected-requires
 reflected-requires c = record {
-      order_le_max_order = (c.requires.order_nonzero.1, (c.requires.going c.if-fate-eq0.true).tris_room);
-      by_index = c.requires.traceable.materials_room;
-    }
+  order_le_max_order = (c.requires.order_nonzero.1, (c.requires.going c.if-fate-eq0.true).tris_room);
+  by_index = c.requires.traceable.materials_room;
+}
 
 pub returns-then-usable : goal.returns-then-usable
 unfolding bounced_of trail_of
@@ -57,23 +56,23 @@ returns-then-usable c =
 pub returns-then-fate-eq0 : goal.returns-then-fate-eq0
 unfolding bounced_of trail_of
 returns-then-fate-eq0 c = record {
-      by_index = λ tri t h. rw (eq-eqb _ _ c.if-fate-eq0.true, ← c.go_all-way.ensures.by_index tri t h, ← c.usable.ensures, c.if-usable.false, ← c.counted-then-fate-eq0.ensures);
-      rays_bound = rw c.counted-then-fate-eq0.ensures c.go_all-way.ensures.rays_bound;
-    }
+  by_index = λ tri t h. rw (eq-eqb _ _ c.if-fate-eq0.true, ← c.go_all-way.ensures.by_index tri t h, ← c.usable.ensures, c.if-usable.false, ← c.counted-then-fate-eq0.ensures);
+  rays_bound = rw c.counted-then-fate-eq0.ensures c.go_all-way.ensures.rays_bound;
+}
 
 pub returns-then-fate-eq-NOT_CROSSED : goal.returns-then-fate-eq-NOT_CROSSED
 unfolding bounced_of trail_of
 returns-then-fate-eq-NOT_CROSSED c = record {
-      by_index = λ tri t h. rw (ne_eqb _ _ c.if-fate-eq0.false, eq-eqb _ _ c.if-fate-eq-NOT_CROSSED.true, ← c.counted-then-fate-eq-NOT_CROSSED.ensures);
-      rays_bound = rw c.counted-then-fate-eq-NOT_CROSSED.ensures (omega arith);
-    }
+  by_index = λ tri t h. rw (ne_eqb _ _ c.if-fate-eq0.false, eq-eqb _ _ c.if-fate-eq-NOT_CROSSED.true, ← c.counted-then-fate-eq-NOT_CROSSED.ensures);
+  rays_bound = rw c.counted-then-fate-eq-NOT_CROSSED.ensures (omega arith);
+}
 
 pub returns : goal.returns
 unfolding bounced_of trail_of
 returns c = record {
-      by_index = λ tri t h. rw (ne_eqb _ _ c.if-fate-eq0.false, ne_eqb _ _ c.if-fate-eq-NOT_CROSSED.false, ← c.counted-2.ensures);
-      rays_bound = rw c.counted-2.ensures (omega arith);
-    }
+  by_index = λ tri t h. rw (ne_eqb _ _ c.if-fate-eq0.false, ne_eqb _ _ c.if-fate-eq-NOT_CROSSED.false, ← c.counted-2.ensures);
+  rays_bound = rw c.counted-2.ensures (omega arith);
+}
 
 pub usable-requires : goal.usable-requires
 usable-requires c = tt

@@ -1,6 +1,5 @@
 -- `paths::reflected` meets its contract: the triangles from k on are still to be multiplied in.
 use mathlib.Core.Path.{◌≡◌, refl, sym, ◌∙◌}
-use Prim.Native.Nat.{◌-◌}
 use native.Mathlib.Omega.{arith}
 use lib.ListN.{get_or}
 use Rattle.paths.specs.Gains.{reflected_of}

@@ -1,5 +1,4 @@
 -- `paths::validate_image_path` meets its contract: the images that it is given are those of the sequence's beginnings.
-use Prim.Native.Nat.{◌-◌}
 use native.Mathlib.Omega.{arith}
 use lib.ListN.{get_or}
 use lib.Seq.{slice_empty}
@@ -13,11 +12,11 @@ bounds-images-order c = omega (arith, c.requires.order_nonzero)
 
 pub back-trail-requires : goal.back-trail-requires
 back-trail-requires c = record {
-      planes_lent = c.requires.scene_lent.planes;
-      k_le_order = (omega arith, c.requires.order_nonzero.1);
-      by_index = c.requires.by_index;
-      going = c.no_bounces.ensures.0;
-    }
+  planes_lent = c.requires.scene_lent.planes;
+  k_le_order = (omega arith, c.requires.order_nonzero.1);
+  by_index = c.requires.by_index;
+  going = c.no_bounces.ensures.0;
+}
 
 pub judge-requires : goal.judge-requires
 judge-requires c =

@@ -1,6 +1,5 @@
 -- `placing::place_mesh` meets its contract: a loop over the triples: the run of the rest from here is the run of the whole.
 use mathlib.Core.Path.{refl, sym, ◌∙◌}
-use Prim.Native.Nat.{◌-◌}
 use native.Mathlib.Omega.{arith}
 use Rattle.placing.proofs.Passes.{triples_step, mesh_step, mesh_done}
 use Rattle.placing.proofs.place_mesh.Goals as goal

@@ -12,10 +12,10 @@ use Rattle.planes_borders.proofs.count_edges.Goals as goal
 
 pub edge_keys-requires : goal.edge_keys-requires
 edge_keys-requires c = record {
-      n_in_bounds = c.requires.n_in_bounds.0;
-      m_le_n = c.requires.m_le_n;
-      keys_len = c.requires.keys_len;
-    }
+  n_in_bounds = c.requires.n_in_bounds.0;
+  m_le_n = c.requires.m_le_n;
+  keys_len = c.requires.keys_len;
+}
 
 pub first_indexes-requires : goal.first_indexes-requires
 first_indexes-requires c =
@@ -50,6 +50,6 @@ returns c =
     let firsts : (e : ℕ) → e < 3 * a.m → get_or first e 0 ≡ first_at (key_at hi lo) e = λ e h. c.first_indexes.ensures.firsts e (omega (arith, h, kh, q)) in record {
       below = firsts_low a.m (key_at hi lo) first len firsts;
       once_counted = λ area k h num. once_counted_lem area a.n k a.m a.numbers.now a.of.now num p.1 h o.0 o.1 (key_at hi lo) first uses c.edge_keys.ensures.by_index firsts
-            (λ e l. c.count_uses.ensures e (omega (arith, l, len)) ∙ ap (count_in first e) len);
+          (λ e l. c.count_uses.ensures e (omega (arith, l, len)) ∙ ap (count_in first e) len);
       rest = ((search rules), (search rules), (search rules), (search rules), (search rules));
     }

@@ -1,6 +1,6 @@
 -- `planes_borders::count_uses` meets its contract: the loop holds the counts of the edges before e (`Counted`).
 use mathlib.Core.Path.{◌∙◌, refl, sym}
-use Prim.Native.Nat.{◌+◌, ◌-◌}
+use Prim.Native.Nat.{◌+◌}
 use native.Mathlib.Omega.{arith}
 use lib.ListN.{get_or, length}
 use Rattle.planes_borders.proofs.Counting.{below_at, counted_all, counted_low, counted_more, counted_none}

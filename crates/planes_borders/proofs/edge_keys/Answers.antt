@@ -1,5 +1,4 @@
 -- `planes_borders::edge_keys` meets its contract: the loop holds the keys of the sides of the triangles before t (`Keyed`).
-use Prim.Native.Nat.{◌-◌}
 use native.Mathlib.Omega.{arith}
 use Rattle.planes_borders.proofs.Keying.{keyed_low, keyed_more, keyed_none}
 use Rattle.planes_borders.proofs.edge_keys.Goals as goal
@@ -56,6 +55,6 @@ shape_of-low_keys c = c.loop-t.invariant.1.len_lo
 
 pub returns : goal.returns
 returns c = let a = c.args in let p = c.requires.keys_len in let q = c.loop-t-test.false in record {
-      below = keyed_low a.numbers.now a.n a.of.now a.keys.now a.low_keys.now c.loop-t.keys c.loop-t.low_keys c.loop-t.t c.loop-t.invariant.1 (omega arith);
-      by_index = λ t j h g. c.loop-t.invariant.1.keys t j (omega (arith, h, q)) g;
-    }
+  below = keyed_low a.numbers.now a.n a.of.now a.keys.now a.low_keys.now c.loop-t.keys c.loop-t.low_keys c.loop-t.t c.loop-t.invariant.1 (omega arith);
+  by_index = λ t j h g. c.loop-t.invariant.1.keys t j (omega (arith, h, q)) g;
+}

@@ -1,6 +1,6 @@
 -- `planes_borders::put_border` meets its contract: the loop holds the border of the first k triangles.
 use mathlib.Core.Path.{◌∙◌, refl}
-use Prim.Native.Nat.{◌-◌, ◌/◌}
+use Prim.Native.Nat.{◌/◌}
 use native.Mathlib.Omega.{arith}
 use lib.ListN.{length}
 use Rattle.planes_borders.proofs.Counting.{below_at}
@@ -37,6 +37,6 @@ shape_of-plane_edges c = c.loop-k.invariant.2
 
 pub returns : goal.returns
 returns c = let a = c.args in let i = c.loop-k.invariant in let h = c.loop-k-test.false in record {
-      upper_bound = omega arith;
-      appended = border_all a.triangles.now a.n a.first.now a.uses.now a.tris.now c.loop-k.k a.plane_edges.now c.loop-k.plane_edges a.at c.loop-k.r (omega arith) c.loop-k.invariant.3;
-    }
+  upper_bound = omega arith;
+  appended = border_all a.triangles.now a.n a.first.now a.uses.now a.tris.now c.loop-k.k a.plane_edges.now c.loop-k.plane_edges a.at c.loop-k.r (omega arith) c.loop-k.invariant.3;
+}

@@ -7,7 +7,7 @@ use Rattle.planes_borders.proofs.put_key.Goals as goal
 
 pub returns : goal.returns
 returns c = let a = c.args in record {
-      keys_after = ap (λ (z : ℕ). set a.keys.now a.e (a.plane * 4294967296 + z)) c.lower-l.ensures;
-      low_keys_after = ap (λ (z : ℕ). set a.low_keys.now a.e z) c.higher-h.ensures;
-      q_bound = rw (← c.higher-h.ensures) (search rules);
-    }
+  keys_after = ap (λ (z : ℕ). set a.keys.now a.e (a.plane * 4294967296 + z)) c.lower-l.ensures;
+  low_keys_after = ap (λ (z : ℕ). set a.low_keys.now a.e z) c.higher-h.ensures;
+  q_bound = rw (← c.higher-h.ensures) (search rules);
+}

@@ -20,6 +20,6 @@ shape_of-plane_edges c = simp length-set
 pub returns : goal.returns
 unfolding vec_at_of
 returns c = let a = c.args in let x = get_or a.triangles.now a.p nan in let y = get_or a.triangles.now (a.p + a.n) nan in let z = get_or a.triangles.now (a.p + 2 * a.n) nan in record {
-      at_after = point_stored a.plane_edges.now a.at x y z c.requires.at_in_bounds;
-      beside = point_beside a.plane_edges.now a.at x y z;
-    }
+  at_after = point_stored a.plane_edges.now a.at x y z c.requires.at_in_bounds;
+  beside = point_beside a.plane_edges.now a.at x y z;
+}

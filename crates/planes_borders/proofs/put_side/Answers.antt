@@ -8,15 +8,15 @@ use Rattle.planes_borders.proofs.put_side.Goals as goal
 
 pub is_once-requires : goal.is_once-requires
 is_once-requires c = record {
-      e_in_bounds = c.requires.e_in_bounds.0;
-      below = c.requires.e_in_bounds.1;
-    }
+  e_in_bounds = c.requires.e_in_bounds.0;
+  below = c.requires.e_in_bounds.1;
+}
 
 pub put_edge-requires : goal.put_edge-requires
 put_edge-requires c = record {
-      n_in_bounds = c.requires.n_in_bounds;
-      edge_floats_in_bounds = c.requires.edge_floats_in_bounds;
-    }
+  n_in_bounds = c.requires.n_in_bounds;
+  edge_floats_in_bounds = c.requires.edge_floats_in_bounds;
+}
 
 pub shape_of-plane_edges-then-is_once : goal.shape_of-plane_edges-then-is_once
 shape_of-plane_edges-then-is_once c = c.put_edge.auto.plane_edges

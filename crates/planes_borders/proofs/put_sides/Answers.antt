@@ -15,10 +15,10 @@ overflow_mul-t c = let p = c.requires.t_in_bounds.0 in omega arith
 
 pub put_side-ab-requires : goal.put_side-ab-requires
 put_side-ab-requires c = let p = c.requires.t_lt_n in let q = c.requires.t_in_bounds in let e = c.requires.k_in_bounds in record {
-      n_in_bounds = (omega arith, omega arith);
-      e_in_bounds = (omega (arith, q.0), q.1);
-      edge_floats_in_bounds = omega arith;
-    }
+  n_in_bounds = (omega arith, omega arith);
+  e_in_bounds = (omega (arith, q.0), q.1);
+  edge_floats_in_bounds = omega arith;
+}
 
 pub overflow_mul-n-2 : goal.overflow_mul-n-2
 overflow_mul-n-2 c = let p = c.requires.t_lt_n in omega arith

@@ -1,6 +1,6 @@
 -- `planes_buried::largest_triangles` meets its contract: the loop holds it for the triangles before t (`Meeting`).
 use mathlib.Core.Path.{◌∙◌, refl}
-use Prim.Native.Nat.{◌-◌, ◌≤◌}
+use Prim.Native.Nat.{◌≤◌}
 use native.Mathlib.Omega.{arith}
 use Rattle.planes_patches.specs.Rows.{none_of}
 use Rattle.planes_patches.specs.Triangles.{triangles_in}
@@ -23,7 +23,7 @@ meet-requires c =
     let p = c.requires.n_in_bounds in let q = c.requires.np_le_m in let i = c.loop-t.invariant in let h = c.loop-t-test.true in let la = i.len_areas in let ll = i.len_largest in let ka = c.reset.auto.areas in let kl = c.reset.auto.largest in record {
       n_in_bounds = (p.0, p.1, omega arith, omega arith);
       np_in_bounds = (omega arith, omega arith);
-      fact = numbered_at c.args.of.now c.args.m c.args.np c.loop-t.t c.requires.numbered h p.4;
+      plane_or_none = numbered_at c.args.of.now c.args.m c.args.np c.loop-t.t c.requires.numbered h p.4;
     }
 
 pub overflow_add-t : goal.overflow_add-t

@@ -1,5 +1,4 @@
 -- `planes_buried::renumber` meets its contract: the loop holds it for the triangles before i.
-use Prim.Native.Nat.{◌-◌}
 use native.Mathlib.Omega.{arith}
 use lib.ListN.{length}
 use Rattle.planes_buried.proofs.Best.{numbered_at}

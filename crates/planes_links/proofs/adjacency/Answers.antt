@@ -1,7 +1,6 @@
 -- `planes_links::adjacency` meets its contract: the words of corners, their rows, the words of links, and theirs (`run_is`, `joined_is`).
 use borrow.Author.Rules.{rules}
 use mathlib.Core.Path.{◌∙◌}
-use Prim.Native.Nat.{◌-◌}
 use native.Mathlib.Omega.{arith}
 use Rattle.planes_links.specs.Words.{row_in}
 use Rattle.planes_links.proofs.Pushing.{run_is, joined_is, joined_cut, numbers_under}
@@ -48,7 +47,7 @@ make_rows-requires-2 c =
       k_in_bounds = omega (arith, k, v, c.requires.vsorted_len, c.requires.m_in_bounds_2, r.words, c.vertex_words-k.auto.words, c.link_rows-links.auto.words);
       k_in_bounds_2 = omega (arith, k, v, c.requires.vsorted_len, c.requires.m_in_bounds_3, r.scratch);
       k_in_bounds_3 = omega
-              (arith, k, v, c.requires.vsorted_len, c.requires.m_in_bounds_4);
+          (arith, k, v, c.requires.vsorted_len, c.requires.m_in_bounds_4);
       k_bound = omega (arith, k, v, c.requires.vsorted_len, p.m_le_most_triangles);
       rows_le_most_rows = omega (arith, p.np_le_most_triangles);
       rows_in_bounds = c.requires.np_in_bounds;
@@ -59,9 +58,9 @@ returns c =
     let a = c.args in record {
       row_bounds = c.make_rows-2.ensures.bounds;
       by_index = λ p h.
-            c.make_rows-2.ensures.are p h
-            ∙ joined_is a.numbers.now a.n a.of.now a.m a.np a.vertices (row_in c.make_rows.new.sorted c.make_rows.new.offsets) c.link_rows-links.new.words c.link_rows-links.result p c.link_rows-links.ensures.by_index
-            (λ v l. c.make_rows.ensures.are v l ∙ run_is a.numbers.now a.n a.of.now a.m a.np c.vertex_words-k.new.words c.vertex_words-k.result v c.vertex_words-k.ensures.by_index)
-            ∙ joined_cut a.numbers.now a.n a.of.now a.m a.np a.vertices p c.requires.np_le_most_triangles;
+          c.make_rows-2.ensures.are p h
+          ∙ joined_is a.numbers.now a.n a.of.now a.m a.np a.vertices (row_in c.make_rows.new.sorted c.make_rows.new.offsets) c.link_rows-links.new.words c.link_rows-links.result p c.link_rows-links.ensures.by_index
+          (λ v l. c.make_rows.ensures.are v l ∙ run_is a.numbers.now a.n a.of.now a.m a.np c.vertex_words-k.new.words c.vertex_words-k.result v c.vertex_words-k.ensures.by_index)
+          ∙ joined_cut a.numbers.now a.n a.of.now a.m a.np a.vertices p c.requires.np_le_most_triangles;
       rest = ((search rules), (search rules), (search rules), (search rules));
     }

@@ -9,18 +9,18 @@ overflow_cast-sorted c = omega (arith, (c.shared_slice_known-1.given c.args.i).f
 
 pub returns-then-sorted-i : goal.returns-then-sorted-i
 returns-then-sorted-i c = record {
-      i_in_bounds = (λ e. (c.if-i-sorted.true, c.if-sorted-i.true));
-      bound_bound = (λ e. absurd (clash refl e));
-    }
+  i_in_bounds = (λ e. (c.if-i-sorted.true, c.if-sorted-i.true));
+  at_or_past = (λ e. absurd (clash refl e));
+}
 
 pub returns-then-i-sorted : goal.returns-then-i-sorted
 returns-then-i-sorted c = record {
-      i_in_bounds = (λ e. absurd (clash e refl));
-      bound_bound = (λ e h. c.if-sorted-i.false);
-    }
+  i_in_bounds = (λ e. absurd (clash e refl));
+  at_or_past = (λ e h. c.if-sorted-i.false);
+}
 
 pub returns : goal.returns
 returns c = record {
-      i_in_bounds = (λ e. absurd (clash e refl));
-      bound_bound = (λ e h. absurd (let g = c.if-i-sorted.false in omega arith));
-    }
+  i_in_bounds = (λ e. absurd (clash e refl));
+  at_or_past = (λ e h. absurd (let g = c.if-i-sorted.false in omega arith));
+}

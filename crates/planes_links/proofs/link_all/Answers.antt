@@ -1,6 +1,5 @@
 -- `planes_links::link_all` meets its contract: the loop keeps `Added` of what the first patches are linked to.
 use mathlib.Core.Path.{refl, ◌∙◌}
-use Prim.Native.Nat.{◌-◌}
 use native.Mathlib.Omega.{arith}
 use Rattle.planes_links.proofs.Linking.{all_none, all_more, all_done}
 use Rattle.planes_links.proofs.link_all.Goals as goal
@@ -11,25 +10,24 @@ loop-i-init c =
 
 pub link_from-k-requires : goal.link_from-k-requires
 link_from-k-requires c = record {
-      p_lt_most_triangles = omega arith;
-      row_in_bounds = omega (arith, c.loop-i.invariant.2);
-    }
+  p_lt_most_triangles = omega arith;
+  row_in_bounds = omega (arith, c.loop-i.invariant.2);
+}
 
 pub loop-i-preserved : goal.loop-i-preserved
-loop-i-preserved c =
-    (
-      omega arith,
-      omega (arith, c.link_from-k.ensures.upper_bound),
-      c.link_from-k.auto.words ∙ c.loop-i.invariant.2,
-      all_more c.args.row.now c.args.words.now c.args.from c.loop-i.words c.link_from-k.new.words c.loop-i.k c.link_from-k.result c.loop-i.i c.loop-i-test.true
-          c.loop-i.invariant.3 c.link_from-k.ensures.by_index,
-    )
+loop-i-preserved c = (
+  omega arith,
+  omega (arith, c.link_from-k.ensures.upper_bound),
+  c.link_from-k.auto.words ∙ c.loop-i.invariant.2,
+  all_more c.args.row.now c.args.words.now c.args.from c.loop-i.words c.link_from-k.new.words c.loop-i.k c.link_from-k.result c.loop-i.i c.loop-i-test.true
+      c.loop-i.invariant.3 c.link_from-k.ensures.by_index,
+)
 
 pub shape_of-words : goal.shape_of-words
 shape_of-words c = c.loop-i.invariant.2
 
 pub returns : goal.returns
 returns c = record {
-      upper_bound = omega arith;
-      by_index = all_done c.args.row.now c.args.words.now c.args.from c.loop-i.words c.loop-i.k c.loop-i.i c.loop-i-test.false c.loop-i.invariant.3;
-    }
+  upper_bound = omega arith;
+  by_index = all_done c.args.row.now c.args.words.now c.args.from c.loop-i.words c.loop-i.k c.loop-i.i c.loop-i-test.false c.loop-i.invariant.3;
+}

@@ -1,7 +1,6 @@
 -- `planes_links::link_row` meets its contract: by the number of patches.
 use mathlib.Core.Path.{ap, ◌∙◌}
 use mathlib.Core.Bool.{Bool, ◌||◌}
-use Prim.Native.Nat.{◌-◌}
 use native.Mathlib.Omega.{arith}
 use Rattle.planes_links.specs.Words.{has, word_of, uppers, lows}
 use Rattle.planes_links.proofs.Linking.{lows_length, row_all, row_next}
@@ -9,9 +8,9 @@ use Rattle.planes_links.proofs.link_row.Goals as goal
 
 pub link_all-requires : goal.link_all-requires
 link_all-requires c = record {
-      row_len_bound = omega arith;
-      row_in_bounds = omega arith;
-    }
+  row_len_bound = omega arith;
+  row_in_bounds = omega arith;
+}
 
 pub returns-then-row-le-MOST_LINKED : goal.returns-then-row-le-MOST_LINKED
 returns-then-row-le-MOST_LINKED c =

@@ -1,6 +1,6 @@
 -- `planes_links::link_rows` meets its contract: the loop keeps `Told` of the rows so far.
 use mathlib.Core.Path.{◌≡◌, refl, ◌∙◌}
-use Prim.Native.Nat.{◌+◌, ◌-◌}
+use Prim.Native.Nat.{◌+◌}
 use native.Mathlib.Omega.{arith}
 use lib.ListN.{get_or}
 use Rattle.planes_links.specs.Words.{row_in}

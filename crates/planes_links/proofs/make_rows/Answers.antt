@@ -1,6 +1,5 @@
 -- `planes_links::make_rows` meets its contract: `sort_rows` of the first k words.
 use mathlib.Core.Path.{sym, ◌∙◌}
-use Prim.Native.Nat.{◌-◌}
 use native.Mathlib.Omega.{arith}
 use lib.Seq.{length-take-le}
 use Rattle.planes_links.specs.Words.{uppers}

@@ -1,6 +1,5 @@
 -- `planes_links::patch_words` meets its contract: the loop keeps `Told`.
 use mathlib.Core.Path.{◌≡◌, refl, ◌∙◌}
-use Prim.Native.Nat.{◌-◌}
 use native.Mathlib.Omega.{arith}
 use Rattle.planes_links.proofs.Pushing.{told_none, patch_test, patch_skip, patch_more}
 use Rattle.planes_links.proofs.patch_words.Goals as goal
@@ -15,10 +14,10 @@ loop-i-preserved-then-p-np c =
 
 pub push-k-requires : goal.push-k-requires
 push-k-requires c = record {
-      k_in_bounds = omega (arith, c.loop-i.invariant.2);
-      p_lt_most_rows = omega (arith, c.if-p-np.false);
-      q_lt_most_triangles = omega arith;
-    }
+  k_in_bounds = omega (arith, c.loop-i.invariant.2);
+  p_lt_most_rows = omega (arith, c.if-p-np.false);
+  q_lt_most_triangles = omega arith;
+}
 
 pub loop-i-preserved : goal.loop-i-preserved
 loop-i-preserved c =

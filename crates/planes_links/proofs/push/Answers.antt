@@ -6,6 +6,6 @@ use Rattle.planes_links.proofs.push.Goals as goal
 
 pub returns : goal.returns
 returns c = record {
-      value = refl;
-      result_after = pushed c.args.words.now c.args.k (word_of c.args.p c.args.q) c.requires.k_in_bounds;
-    }
+  value = refl;
+  result_after = pushed c.args.words.now c.args.k (word_of c.args.p c.args.q) c.requires.k_in_bounds;
+}

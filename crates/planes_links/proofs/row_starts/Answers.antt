@@ -1,6 +1,5 @@
 -- `planes_links::row_starts` meets its contract: the loop keeps `Starting`, and either passes a word or ends a row.
 use mathlib.Core.Path.{refl, ◌∙◌}
-use Prim.Native.Nat.{◌-◌}
 use native.Mathlib.Omega.{arith}
 use lib.ListN.{length-set}
 use Rattle.planes_links.proofs.Cutting.{start_none, start_pass, start_row}
@@ -28,13 +27,12 @@ pub bounds-offsets-r : goal.bounds-offsets-r
 bounds-offsets-r c = omega (arith, c.loop-r.invariant.2, c.requires.rows_in_bounds)
 
 pub loop-r-preserved : goal.loop-r-preserved
-loop-r-preserved c =
-    (
-      omega arith,
-      omega arith,
-      length-set c.loop-r.offsets c.loop-r.r c.loop-r.i ∙ c.loop-r.invariant.2,
-      start_row c.args.sorted.now c.loop-r.offsets c.loop-r.r c.loop-r.i c.loop-r.invariant.3 c.requires.sorted (omega (arith, c.loop-r.invariant.2, c.requires.rows_in_bounds)) (c.is_before.ensures.at_or_past c.if-is_before.false),
-    )
+loop-r-preserved c = (
+  omega arith,
+  omega arith,
+  length-set c.loop-r.offsets c.loop-r.r c.loop-r.i ∙ c.loop-r.invariant.2,
+  start_row c.args.sorted.now c.loop-r.offsets c.loop-r.r c.loop-r.i c.loop-r.invariant.3 c.requires.sorted (omega (arith, c.loop-r.invariant.2, c.requires.rows_in_bounds)) (c.is_before.ensures.at_or_past c.if-is_before.false),
+)
 
 pub shape_of-offsets : goal.shape_of-offsets
 shape_of-offsets c = c.loop-r.invariant.2

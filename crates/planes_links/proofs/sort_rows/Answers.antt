@@ -1,6 +1,5 @@
 -- `planes_links::sort_rows` meets its contract: the words sorted, without repeats, and cut into rows (`rows_are`).
 use mathlib.Core.Path.{sym}
-use Prim.Native.Nat.{◌-◌}
 use native.Mathlib.Omega.{arith}
 use lib.Seq.{length-take-le}
 use Rattle.planes_links.proofs.Cutting.{set_sorted, rows_are}

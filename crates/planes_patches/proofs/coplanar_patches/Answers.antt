@@ -1,6 +1,5 @@
 -- `planes_patches::coplanar_patches` meets its contract: the loop holds that the areas have the patches of the triangles before t (`Filling`).
 use mathlib.Core.Path.{◌∙◌, sym}
-use Prim.Native.Nat.{◌-◌}
 use native.Mathlib.Omega.{arith}
 use native.Mathlib.Numerals.{add-one}
 use lib.ListN.{length}

@@ -10,9 +10,9 @@ use Rattle.planes_patches.proofs.first_along_y.Goals as goal
 
 pub first_along_z-a-requires : goal.first_along_z-a-requires
 first_along_z-a-requires c = record {
-      grid = c.requires.grid;
-      z_bound = c.requires.y_bound.1;
-    }
+  grid = c.requires.grid;
+  z_bound = c.requires.y_bound.1;
+}
 
 pub returns-then-a-np : goal.returns-then-a-np
 unfolding flat_map
@@ -23,9 +23,9 @@ returns-then-a-np c = let a = c.args in let k = a.k in let x = a.x in let y = a.
 
 pub first_along_z-b-requires : goal.first_along_z-b-requires
 first_along_z-b-requires c = record {
-      grid = c.requires.grid;
-      z_bound = c.requires.y_bound.1;
-    }
+  grid = c.requires.grid;
+  z_bound = c.requires.y_bound.1;
+}
 
 pub returns-then-b-np : goal.returns-then-b-np
 unfolding flat_map
@@ -36,9 +36,9 @@ returns-then-b-np c = let a = c.args in let k = a.k in let x = a.x in let y = a.
 
 pub first_along_z-requires : goal.first_along_z-requires
 first_along_z-requires c = record {
-      grid = c.requires.grid;
-      z_bound = c.requires.y_bound.1;
-    }
+  grid = c.requires.grid;
+  z_bound = c.requires.y_bound.1;
+}
 
 pub returns : goal.returns
 unfolding flat_map

@@ -10,9 +10,9 @@ use Rattle.planes_patches.proofs.found.Goals as goal
 
 pub first_along_y-a-requires : goal.first_along_y-a-requires
 first_along_y-a-requires c = record {
-      grid = c.requires.grid;
-      y_bound = (c.requires.x_bound.1, c.requires.x_bound.2);
-    }
+  grid = c.requires.grid;
+  y_bound = (c.requires.x_bound.1, c.requires.x_bound.2);
+}
 
 pub returns-then-a-np : goal.returns-then-a-np
 unfolding flat_map around_of
@@ -23,9 +23,9 @@ returns-then-a-np c = let a = c.args in let k = a.k in
 
 pub first_along_y-b-requires : goal.first_along_y-b-requires
 first_along_y-b-requires c = record {
-      grid = c.requires.grid;
-      y_bound = (c.requires.x_bound.1, c.requires.x_bound.2);
-    }
+  grid = c.requires.grid;
+  y_bound = (c.requires.x_bound.1, c.requires.x_bound.2);
+}
 
 pub returns-then-b-np : goal.returns-then-b-np
 unfolding flat_map around_of
@@ -36,9 +36,9 @@ returns-then-b-np c = let a = c.args in let k = a.k in
 
 pub first_along_y-requires : goal.first_along_y-requires
 first_along_y-requires c = record {
-      grid = c.requires.grid;
-      y_bound = (c.requires.x_bound.1, c.requires.x_bound.2);
-    }
+  grid = c.requires.grid;
+  y_bound = (c.requires.x_bound.1, c.requires.x_bound.2);
+}
 
 pub returns : goal.returns
 unfolding flat_map around_of

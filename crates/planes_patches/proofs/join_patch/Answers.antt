@@ -12,9 +12,9 @@ put_row-requires c = c.requires
 pub returns : goal.returns
 unfolding box_of joined_row_of
 returns c = record {
-      p_after = rw (← c.row_at-old.ensures, ← c.triangle_area.ensures, ← c.from_corners.ensures, ← c.union-aabb.ensures) c.put_row.ensures.p_after;
-      by_index = c.put_row.ensures.by_index;
-    }
+  p_after = rw (← c.row_at-old.ensures, ← c.triangle_area.ensures, ← c.from_corners.ensures, ← c.union-aabb.ensures) c.put_row.ensures.p_after;
+  by_index = c.put_row.ensures.by_index;
+}
 
 pub triangle_area-requires : goal.triangle_area-requires
 triangle_area-requires c = tt

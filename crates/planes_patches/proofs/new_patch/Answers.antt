@@ -10,9 +10,9 @@ put_row-requires c = c.requires.patch_floats_in_bounds
 pub returns : goal.returns
 unfolding box_of
 returns c = record {
-      p_after = c.put_row.ensures.p_after ∙ start_row c.args.t c.args.k _ c.requires.k_value refl refl c.triangle_area-area.ensures c.from_corners-aabb.ensures;
-      by_index = c.put_row.ensures.by_index;
-    }
+  p_after = c.put_row.ensures.p_after ∙ start_row c.args.t c.args.k _ c.requires.k_value refl refl c.triangle_area-area.ensures c.from_corners-aabb.ensures;
+  by_index = c.put_row.ensures.by_index;
+}
 
 pub triangle_area-area-requires : goal.triangle_area-area-requires
 triangle_area-area-requires c = tt

@@ -16,9 +16,9 @@ triangle_at-tri-requires c = let p = c.requires.n_in_bounds in (p.0, p.1, p.2)
 
 pub found-p-requires : goal.found-p-requires
 found-p-requires c = record {
-      grid = c.requires.standing.grid;
-      x_bound = c.plane_key-k.ensures.x_bound;
-    }
+  grid = c.requires.standing.grid;
+  x_bound = c.plane_key-k.ensures.x_bound;
+}
 
 pub join_patch-requires : goal.join_patch-requires
 join_patch-requires c =
@@ -40,7 +40,7 @@ returns-then-p-np c =
       standing_2 = joined_standing a.rows.now a.of.now a.cells.now a.heads.now a.next.now a.t a.np c.found-p.result c.triangle_at-tri.result c.plane_key-k.result s c.requires.patch_floats_in_bounds.3 c.plane_key-k.ensures.value c.found-p.ensures c.join_patch.new.rows
           c.if-p-np.true c.join_patch.auto.rows c.join_patch.ensures.p_after c.join_patch.ensures.by_index;
       result_after = λ ts w. joined_patches a.rows.now a.of.now a.cells.now a.heads.now a.next.now a.t a.np c.found-p.result c.triangle_at-tri.result c.plane_key-k.result s c.requires.patch_floats_in_bounds.3 c.plane_key-k.ensures.value c.found-p.ensures c.join_patch.new.rows
-            c.if-p-np.true c.join_patch.auto.rows c.join_patch.ensures.p_after c.join_patch.ensures.by_index ts (w ∙ sym c.triangle_at-tri.ensures);
+          c.if-p-np.true c.join_patch.auto.rows c.join_patch.ensures.p_after c.join_patch.ensures.by_index ts (w ∙ sym c.triangle_at-tri.ensures);
       by_index = λ i d. get_or-set_other a.of.now a.t i c.found-p.result none_of d;
     }
 
@@ -81,8 +81,8 @@ returns c =
           c.new_patch.ensures.p_after c.new_patch.ensures.by_index c.put_in_grid.ensures.p_after c.put_in_grid.ensures.by_index c.put_in_grid.new.heads
           c.put_in_grid.new.next c.put_in_grid.ensures.heads_after c.put_in_grid.ensures.next_after;
       result_after = λ ts w. new_patches a.rows.now a.of.now a.cells.now a.heads.now a.next.now a.t a.np c.found-p.result c.triangle_at-tri.result c.plane_key-k.result s p.3 c.plane_key-k.ensures.value c.found-p.ensures c.new_patch.new.rows
-            c.put_in_grid.new.cells c.if-p-np.false q rr rc rn
-            c.new_patch.ensures.p_after c.new_patch.ensures.by_index c.put_in_grid.ensures.p_after c.put_in_grid.ensures.by_index ts (w ∙ sym c.triangle_at-tri.ensures);
+          c.put_in_grid.new.cells c.if-p-np.false q rr rc rn
+          c.new_patch.ensures.p_after c.new_patch.ensures.by_index c.put_in_grid.ensures.p_after c.put_in_grid.ensures.by_index ts (w ∙ sym c.triangle_at-tri.ensures);
       by_index = λ i d. get_or-set_other a.of.now a.t i a.np none_of d;
     }
 

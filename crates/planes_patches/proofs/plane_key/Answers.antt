@@ -7,9 +7,9 @@ use Rattle.planes_patches.proofs.plane_key.Goals as goal
 pub returns : goal.returns
 unfolding plane_key_of cell_of key_by
 returns c = record {
-      value = rw (← c.canonical-normal.ensures, ← c.offset_of-offset.ensures, ← c.cell_part.ensures.0, ← c.cell_part-2.ensures.0, ← c.cell_part-3.ensures.0);
-      x_bound = (c.cell_part.ensures.1, c.cell_part-2.ensures.1, c.cell_part-3.ensures.1);
-    }
+  value = rw (← c.canonical-normal.ensures, ← c.offset_of-offset.ensures, ← c.cell_part.ensures.0, ← c.cell_part-2.ensures.0, ← c.cell_part-3.ensures.0);
+  x_bound = (c.cell_part.ensures.1, c.cell_part-2.ensures.1, c.cell_part-3.ensures.1);
+}
 
 pub canonical-normal-requires : goal.canonical-normal-requires
 canonical-normal-requires c = tt

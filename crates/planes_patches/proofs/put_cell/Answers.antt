@@ -17,6 +17,6 @@ shape_of-cells c = simp length-set
 
 pub returns : goal.returns
 returns c = let a = c.args in record {
-      p_after = cell_stored a.cells.now a.p a.x a.y a.z c.requires;
-      by_index = cell_other a.cells.now a.p a.x a.y a.z;
-    }
+  p_after = cell_stored a.cells.now a.p a.x a.y a.z c.requires;
+  by_index = cell_other a.cells.now a.p a.x a.y a.z;
+}

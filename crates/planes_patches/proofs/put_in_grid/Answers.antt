@@ -10,11 +10,11 @@ link-requires c = let b = c.bucket.ensures.1 in let p = c.requires in (omega ari
 
 pub returns : goal.returns
 returns c = let b = c.bucket.ensures.0 in record {
-      p_after = c.put_cell.ensures.p_after;
-      by_index = c.put_cell.ensures.by_index;
-      heads_after = rw (← b) c.link.ensures.heads_after;
-      next_after = rw (← b) c.link.ensures.next_after;
-    }
+  p_after = c.put_cell.ensures.p_after;
+  by_index = c.put_cell.ensures.by_index;
+  heads_after = rw (← b) c.link.ensures.heads_after;
+  next_after = rw (← b) c.link.ensures.next_after;
+}
 
 pub bucket-requires : goal.bucket-requires
 bucket-requires c = tt

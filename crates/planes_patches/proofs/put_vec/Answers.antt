@@ -17,6 +17,6 @@ shape_of-rows c = simp length-set
 
 pub returns : goal.returns
 returns c = record {
-      at_after = vec_stored c.args.rows.now c.args.at c.args.v c.requires;
-      beside = vec_beside c.args.rows.now c.args.at c.args.v;
-    }
+  at_after = vec_stored c.args.rows.now c.args.at c.args.v c.requires;
+  beside = vec_beside c.args.rows.now c.args.at c.args.v;
+}

@@ -21,11 +21,11 @@ place-requires c =
 
 pub returns-then-first-t : goal.returns-then-first-t
 returns-then-first-t c = record {
-      standing_2 = c.place.ensures.standing_2;
-      result_after = λ ts w. c.place.ensures.result_after ts w ∙ sym (rw (eq-eqb (get_or c.args.first.now c.args.t 0) c.args.t c.if-first-t.true));
-      by_index = c.place.ensures.by_index;
-      none_of_after = λ e. absurd (eqb-false (get_or c.args.first.now c.args.t 0) c.args.t e c.if-first-t.true);
-    }
+  standing_2 = c.place.ensures.standing_2;
+  result_after = λ ts w. c.place.ensures.result_after ts w ∙ sym (rw (eq-eqb (get_or c.args.first.now c.args.t 0) c.args.t c.if-first-t.true));
+  by_index = c.place.ensures.by_index;
+  none_of_after = λ e. absurd (eqb-false (get_or c.args.first.now c.args.t 0) c.args.t e c.if-first-t.true);
+}
 
 pub bounds-of-t : goal.bounds-of-t
 bounds-of-t c = c.requires.patch_floats_in_bounds.3

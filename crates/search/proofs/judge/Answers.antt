@@ -5,6 +5,7 @@ use native.Mathlib.Omega.{arith}
 use lib.Dec.{eqb}
 use lib.ListN.{length, take}
 use lib.Seq.{length-take-le}
+use borrow.Enum.Refused.{opened}
 use Rattle.claim.specs.Query.{visit_path}
 use Rattle.search.specs.Outcome.{outcome_of}
 use Rattle.search.proofs.Laws.{path_most, judged_fails, judged_passes, not_passed, passed}
@@ -48,7 +49,7 @@ returns-in_default c = let a = c.args in
       seen =
           λ tri t h.
           judged_fails a.q.room a.t.found a.t.nodes a.t.rays c.validate_image_path-v.result.rays a.candidate_floats.now a.candidate_words.now (not (eqb a.t.over 0)) (take a.len a.seq.now) _
-          (ap outcome_of (sym (rw c.all_planes.ensures at (c.validate_image_path-v.ensures.by_index_3 tri t h))) ∙ not_passed c.validate_image_path-v.result.fate c.validate_image_path-v.result.rays c.in_default.in_default-own.keys2);
+          (ap outcome_of (sym (rw c.all_planes.ensures at (c.validate_image_path-v.ensures.by_index_3 tri t h))) ∙ not_passed c.validate_image_path-v.result.fate c.validate_image_path-v.result.rays (opened c.in_default.in_default-own.keys2));
     })
 
 pub keep-requires : goal.keep-requires

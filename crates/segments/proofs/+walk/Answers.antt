@@ -1,7 +1,6 @@
 -- `segments::walk` meets its contract: each turn goes one of four ways, and a hit's handle has its row.
 use mathlib.Core.Path.{sym, ◌∙◌, ap}
 use Prim.Native.Nat.{◌+◌, ◌*◌, ◌≤◌}
-use native.Mathlib.Omega.{arith}
 use lib.ListN.{length}
 use Rattle.segments.specs.Materials.{material_floats, transmission_of_handle}
 use Rattle.segments.specs.Areas.{trace_in}

@@ -1,6 +1,5 @@
 -- `segments::segment_soft_transmission` meets its contract: after k turns the sum is that of the middle and k probes around it.
 use mathlib.Core.Path.{◌≡◌, ap}
-use Prim.Native.Nat.{◌-◌}
 use native.Mathlib.Numerals.{add-one}
 use native.Mathlib.Omega.{arith}
 use Rattle.segments.specs.declared.Transmission.{Transmission}

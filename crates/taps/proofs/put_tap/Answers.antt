@@ -57,7 +57,7 @@ put_gains-requires c =
     let r = s.candidate_rows in
     let i = s.i_lt_n in record {
       candidate_floats_in_bounds = (omega arith, simp length-set (omega arith));
-      level8 = s.sound.gains;
+      level_gains = s.sound.gains;
     }
 
 pub shape_of-taps : goal.shape_of-taps
