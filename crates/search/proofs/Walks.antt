@@ -20,8 +20,7 @@ use Rattle.sequences.specs.Allowed.{upto, may, below, at}
 use Rattle.sequences.specs.Run.{step}
 use Rattle.sequences.proofs.Running.{step_under, run_full}
 use Rattle.sequences.proofs.Walks.{upto_more, below_all}
-use Rattle.ranking.specs.Rows.{candidates_in}
-use Rattle.claim.specs.Query.{Search, search, visit_path}
+use Rattle.claim.specs.Query.{Search, visit_path}
 use Rattle.search.specs.declared.Task.{Task}
 use Rattle.search.specs.declared.Tally.{Tally}
 use Rattle.paths.proofs.Laws.{path_far, path_lost}

@@ -1,5 +1,4 @@
 -- `planes_groups::descending_key` meets its contract: from that of `rank`.
-use Prim.Native.Nat.{◌-◌}
 use Rattle.planes_groups.specs.Groups.{key_for_falling}
 use Rattle.planes_groups.proofs.descending_key.Goals as goal
 

@@ -1,5 +1,5 @@
 -- `planes_groups::first_triangle` meets its contract: the row has a first triangle, or none (`head_some`, `head_none`).
-use Prim.Native.Nat.{◌+◌, ◌-◌}
+use Prim.Native.Nat.{◌+◌}
 use native.Mathlib.Omega.{arith}
 use Rattle.planes_groups.proofs.Seeding.{head_some, head_none}
 use Rattle.planes_groups.proofs.first_triangle.Goals as goal

@@ -1,6 +1,6 @@
 -- `planes_groups::grow` meets its contract: the loop keeps `Breadth`.
 use mathlib.Core.Path.{refl, ◌∙◌}
-use Prim.Native.Nat.{◌+◌, ◌-◌}
+use Prim.Native.Nat.{◌+◌}
 use native.Mathlib.Omega.{arith}
 use lib.ListN.{get_or}
 use Rattle.planes_groups.specs.Rows.{takes_in}

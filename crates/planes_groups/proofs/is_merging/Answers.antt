@@ -1,5 +1,4 @@
 -- `planes_groups::is_merging` meets its contract: by the three tests.
-use Prim.Native.Nat.{◌-◌}
 use Rattle.planes_groups.proofs.is_merging.Goals as goal
 
 pub returns-then-most : goal.returns-then-most

@@ -1,5 +1,4 @@
 -- `planes_groups::is_near` meets its contract: from those of its calls.
-use Prim.Native.Nat.{◌-◌}
 use Rattle.planes_groups.proofs.is_near.Goals as goal
 
 pub returns : goal.returns

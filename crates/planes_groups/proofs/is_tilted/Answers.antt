@@ -1,5 +1,4 @@
 -- `planes_groups::is_tilted` meets its contract: from those of its calls, and the two tests.
-use Prim.Native.Nat.{◌-◌}
 use Rattle.planes_groups.proofs.is_tilted.Goals as goal
 
 pub returns-then-c-least : goal.returns-then-c-least

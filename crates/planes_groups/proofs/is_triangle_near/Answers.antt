@@ -1,5 +1,4 @@
 -- `planes_groups::is_triangle_near` meets its contract: corner by corner.
-use Prim.Native.Nat.{◌-◌}
 use Rattle.planes_patches.specs.Lists.{all_by}
 use Rattle.planes_patches.specs.Triangles.{corners_of}
 use Rattle.planes_groups.proofs.Taking.{and_one}

@@ -1,7 +1,7 @@
 -- `planes_groups::is_within` meets its contract: the loop holds that the triangles so far passed.
 use mathlib.Core.Path.{refl, ap, ◌∙◌}
 use mathlib.Core.Bool.{Bool}
-use Prim.Native.Nat.{ℕ, ◌-◌}
+use Prim.Native.Nat.{ℕ}
 use native.Mathlib.Omega.{arith}
 use Rattle.planes_groups.specs.Groups.{lies_near}
 use Rattle.columns.specs.Columns.{triangle_at_of}

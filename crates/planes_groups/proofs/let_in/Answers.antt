@@ -1,6 +1,6 @@
 -- `planes_groups::let_in` meets its contract: the loop keeps `Letting`.
 use mathlib.Core.Path.{refl, sym, ◌∙◌}
-use Prim.Native.Nat.{◌-◌, ◌%◌}
+use Prim.Native.Nat.{◌%◌}
 use native.Mathlib.Omega.{arith}
 use lib.ListN.{get_or, length-set}
 use Rattle.planes_links.specs.Words.{lows}

@@ -1,6 +1,5 @@
 -- `planes_groups::merge_patches` meets its contract: the rows of patches, the seeds, and the groups (`merged_is`, `alone_is`).
 use mathlib.Core.Path.{refl, sym, ◌∙◌}
-use Prim.Native.Nat.{◌-◌}
 use native.Mathlib.Omega.{arith}
 use lib.ListN.{take}
 use Rattle.planes_patches.specs.Triangles.{triangles_in}

@@ -1,5 +1,4 @@
 -- `planes_groups::rank` meets its contract: by the test for NaN.
-use Prim.Native.Nat.{◌-◌}
 use Rattle.planes_groups.specs.Groups.{rank_of}
 use Rattle.planes_groups.proofs.rank.Goals as goal
 

@@ -1,6 +1,5 @@
 -- `planes_groups::seeds` meets its contract: the sort of the patches by their keys (`seeds_sorted`).
 use mathlib.Core.Path.{sym, ◌∙◌}
-use Prim.Native.Nat.{◌-◌}
 use native.Mathlib.Omega.{arith}
 use lib.ListN.{length, take}
 use lib.Seq.{length-take-le, length_front}

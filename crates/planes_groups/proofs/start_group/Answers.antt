@@ -1,6 +1,5 @@
 -- `planes_groups::start_group` meets its contract: the seed marked and appended (`queue_push`), and its group grown (`seed_grown`).
 use mathlib.Core.Path.{◌∙◌}
-use Prim.Native.Nat.{◌-◌}
 use native.Mathlib.Omega.{arith}
 use lib.ListN.{length-set}
 use Rattle.planes_groups.specs.Rows.{takes_in}

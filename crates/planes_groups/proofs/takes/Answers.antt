@@ -1,5 +1,5 @@
 -- `planes_groups::takes` meets its contract: from those of its calls.
-use Prim.Native.Nat.{◌+◌, ◌-◌}
+use Prim.Native.Nat.{◌+◌}
 use native.Mathlib.Omega.{arith}
 use Rattle.planes_links.specs.Words.{row_in}
 use Rattle.planes_groups.specs.Rows.{takes_in}

@@ -19,11 +19,11 @@ all_points-requires c = c.requires.sound.images_room
 
 pub validate_image_path-v-requires : goal.validate_image_path-v-requires
 validate_image_path-v-requires c = let pre = c.requires in let k = pre.sound in record {
-      scene_lent = pre.lent;
-      order_nonzero = (pre.some, pre.within, ap length c.all_planes.ensures ∙ k.seq_room, pre.crossings);
-      by_index = rw c.all_planes.ensures k.planes;
-      by_index_2 = rw c.all_planes.ensures (λ j h. c.all_points.ensures j (omega (arith, h, pre.within)) ∙ k.are j h);
-    }
+  scene_lent = pre.lent;
+  order_nonzero = (pre.some, pre.within, ap length c.all_planes.ensures ∙ k.seq_room, pre.crossings);
+  by_index = rw c.all_planes.ensures k.planes;
+  by_index_2 = rw c.all_planes.ensures (λ j h. c.all_points.ensures j (omega (arith, h, pre.within)) ∙ k.are j h);
+}
 
 pub enum_known-fate : goal.enum_known-fate
 enum_known-fate c = c.in-Passed.in-Passed-own.keys1

@@ -1,5 +1,4 @@
 -- `search::next_near` meets its contract: each turn runs over one plane more, by the laws of `proofs/Walks.antt`.
-use Prim.Native.Nat.{◌-◌}
 use mathlib.Core.Path.{◌≡◌, sym, ap, ◌∙◌}
 use native.Mathlib.Omega.{arith}
 use lib.Ieee.{lt}
@@ -26,19 +25,18 @@ pub loop-p-smaller-then-q-s : goal.loop-p-smaller-then-q-s
 loop-p-smaller-then-q-s c = omega (arith, c.loop-p-test.true)
 
 pub loop-p-preserved-then-q-s : goal.loop-p-preserved-then-q-s
-loop-p-preserved-then-q-s c = let a = c.args in
-    (
-      omega (arith, c.loop-p-test.true),
-      omega (arith, c.loop-p.invariant.1),
-      λ padded nodes₁ perm rows handles materials columns members edges. law.skips_full (search_areas padded nodes₁ perm rows handles materials columns a.plane_floats.now a.plane_words.now members edges) a.q a.depth a.seq.now a.images.now a.from a.t c.loop-p.p c.loop-p.s
-          (c.loop-p.invariant.2 padded nodes₁ perm rows handles materials columns members edges) c.if-q-s.true,
-    )
+loop-p-preserved-then-q-s c = let a = c.args in (
+  omega (arith, c.loop-p-test.true),
+  omega (arith, c.loop-p.invariant.1),
+  λ padded nodes₁ perm rows handles materials columns members edges. law.skips_full (search_areas padded nodes₁ perm rows handles materials columns a.plane_floats.now a.plane_words.now members edges) a.q a.depth a.seq.now a.images.now a.from a.t c.loop-p.p c.loop-p.s
+      (c.loop-p.invariant.2 padded nodes₁ perm rows handles materials columns members edges) c.if-q-s.true,
+)
 
 pub may-requires : goal.may-requires
 may-requires c = record {
-      depth_in_bounds = (omega (arith, c.requires.depth_in_bounds.0), c.loop-p-test.true);
-      count_in_bounds = (c.requires.count_in_bounds.0, c.requires.count_in_bounds.1);
-    }
+  depth_in_bounds = (omega (arith, c.requires.depth_in_bounds.0), c.loop-p-test.true);
+  count_in_bounds = (c.requires.count_in_bounds.0, c.requires.count_in_bounds.1);
+}
 
 pub next_image-next-requires : goal.next_image-next-requires
 next_image-next-requires c =
@@ -52,8 +50,7 @@ loop-p-smaller-then-far c = omega (arith, c.loop-p-test.true)
 
 pub loop-p-preserved-then-far : goal.loop-p-preserved-then-far
 loop-p-preserved-then-far c =
-    let a = c.args in
-    (
+    let a = c.args in (
       omega (arith, c.loop-p-test.true),
       omega (arith, c.loop-p.invariant.1),
       λ padded nodes₁ perm rows handles materials columns members edges.
@@ -72,13 +69,12 @@ pub loop-p-smaller : goal.loop-p-smaller
 loop-p-smaller c = omega (arith, c.loop-p-test.true)
 
 pub loop-p-preserved : goal.loop-p-preserved
-loop-p-preserved c = let a = c.args in
-    (
-      omega (arith, c.loop-p-test.true),
-      omega (arith, c.loop-p.invariant.1),
-      λ padded nodes₁ perm rows handles materials columns members edges. law.skips_not (search_areas padded nodes₁ perm rows handles materials columns a.plane_floats.now a.plane_words.now members edges) a.q a.depth a.seq.now a.images.now a.from a.t c.loop-p.p
-          c.loop-p.s (c.loop-p.invariant.2 padded nodes₁ perm rows handles materials columns members edges) (sym (c.may.ensures members edges) ∙ c.if-may.false),
-    )
+loop-p-preserved c = let a = c.args in (
+  omega (arith, c.loop-p-test.true),
+  omega (arith, c.loop-p.invariant.1),
+  λ padded nodes₁ perm rows handles materials columns members edges. law.skips_not (search_areas padded nodes₁ perm rows handles materials columns a.plane_floats.now a.plane_words.now members edges) a.q a.depth a.seq.now a.images.now a.from a.t c.loop-p.p
+      c.loop-p.s (c.loop-p.invariant.2 padded nodes₁ perm rows handles materials columns members edges) (sym (c.may.ensures members edges) ∙ c.if-may.false),
+)
 
 pub returns : goal.returns
 returns c = λ padded nodes₁ perm rows handles materials columns members edges. record { from = c.loop-p.invariant.1; within = c.loop-p.invariant.0; next = λ h. absurd (let none : ⊥ = omega (arith, c.loop-p-test.false) in none); skips = c.loop-p.invariant.2 padded nodes₁ perm rows handles materials columns members edges }

@@ -13,11 +13,11 @@ use Rattle.search.proofs.search_images.Goals as goal
 
 pub returns-then-order-eq0 : goal.returns-then-order-eq0
 returns-then-order-eq0 c = let a = c.args in record {
-      searched = λ tri t h. searched_none (on_bytes (planes_in a.plane_floats.now a.plane_words.now a.plane_triangles.now a.plane_edges.now a.count) a.source) a.order a.room (outcomes_of a.settings (planes_in a.plane_floats.now a.plane_words.now a.plane_triangles.now a.plane_edges.now a.count) tri t a.materials.now a.source a.listener)
+  searched = λ tri t h. searched_none (on_bytes (planes_in a.plane_floats.now a.plane_words.now a.plane_triangles.now a.plane_edges.now a.count) a.source) a.order a.room (outcomes_of a.settings (planes_in a.plane_floats.now a.plane_words.now a.plane_triangles.now a.plane_edges.now a.count) tri t a.materials.now a.source a.listener)
       a.candidate_floats.now a.candidate_words.now c.if-order-eq0.true;
-      few = omega arith;
-      rest = (refl, refl);
-    }
+  few = omega arith;
+  rest = (refl, refl);
+}
 
 pub expand_images-s-requires : goal.expand_images-s-requires
 expand_images-s-requires c =

@@ -6,10 +6,10 @@ use Rattle.search.proofs.visit.Goals as goal
 
 pub made-requires : goal.made-requires
 made-requires c = let pre = c.requires in record {
-      planes_lent = pre.lent.planes;
-      len_in_bounds = (omega (arith, pre.within, pre.sound.seq_room), omega (arith, pre.within, pre.sound.images_room));
-      by_index = pre.sound.planes;
-    }
+  planes_lent = pre.lent.planes;
+  len_in_bounds = (omega (arith, pre.within, pre.sound.seq_room), omega (arith, pre.within, pre.sound.images_room));
+  by_index = pre.sound.planes;
+}
 
 pub judge-requires : goal.judge-requires
 judge-requires c = c.requires
