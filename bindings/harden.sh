@@ -4,14 +4,14 @@
 #
 #     bindings/harden.sh [SECONDS]        60 unless said
 #
-# Needs clang with its runtime libraries, and valgrind (apt-get install clang valgrind), and the archive of `rt staticlib exports`.
+# Needs clang with its runtime libraries, and valgrind (apt-get install clang valgrind), and the archive of `tools/staticlib.sh exports`.
 set -euo pipefail
 cd "$(dirname "$0")"
 seconds="${1:-60}"
 archive="${BIVELONDRY_ARCHIVE:-$PWD/../target/staticlib}/libexports.a"
 export BIVELONDRY_ARCHIVE="$(dirname "$archive")"
 if [ ! -e "$archive" ]; then
-    echo "bindings: $archive is missing: run \`rt staticlib exports\` in the repository" >&2
+    echo "bindings: $archive is missing: run \`tools/staticlib.sh exports\` in the repository" >&2
     exit 1
 fi
 for tool in cc clang valgrind cargo; do

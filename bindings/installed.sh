@@ -2,7 +2,7 @@
 # Installs into a folder of its own (tools/install.sh) and builds and runs what C, C++ and Rust callers have against the installed files alone: examples,
 # tests and recorded queries, as C99 and C++17, with gcc and clang, by pkg-config, with the shared library, the archive, and wholly static. Compares the
 # version wherever it stands with the header's.
-# Needs gcc, g++, clang, pkg-config, cargo, and the archive that `rt staticlib exports` makes. BIVELONDRY_ARCHIVE names another folder that has it.
+# Needs gcc, g++, clang, pkg-config, cargo, and the archive that `tools/staticlib.sh exports` makes. BIVELONDRY_ARCHIVE names another folder that has it.
 set -euo pipefail
 cd "$(dirname "$0")"
 
@@ -23,7 +23,7 @@ locked() { sed -n '/^name = "bivelondry"$/{n;s/^version = "\(.*\)"$/\1/p}' "$1";
 same bindings/rust/Cargo.toml "$(sed -n 's/^version = "\(.*\)"$/\1/p' rust/Cargo.toml)"
 same bindings/rust/Cargo.lock "$(locked rust/Cargo.lock)"
 same reference/Cargo.lock "$(locked ../reference/Cargo.lock)"
-same crates/booth/src/heading.rt "$(sed -n '/^fn print_version/{n;s/^ *print(b"\(.*\)");$/\1/p}' ../crates/booth/src/heading.rt)"
+same crates/booth/src/heading.rt "$(sed -n '/^fn print_version/{n;s/^ *print(rt, b"\(.*\)")$/\1/p}' ../crates/booth/src/heading.rt)"
 same docs/CHANGES.md "$(sed -n 's/^This is version \([0-9.]*[0-9]\)\..*/\1/p' ../docs/CHANGES.md)"
 
 echo "-- install"
@@ -47,7 +47,7 @@ sed -n 's/^static .*\(biv_[a-z_]*\)(.*/\1/p' "$prefix/include/bivelondry.h" > "$
 grep -vxFf "$built/inline.txt" "$built/all.txt" | sort > "$built/declared.txt"
 nm -D --defined-only "$prefix/lib/libbivelondry.so" | awk '{print $3}' | sort | diff "$built/declared.txt" - || stop "the shared library has not the functions of the header"
 nm -g --defined-only "$prefix/lib/libbivelondry.a" | awk 'NF == 3 {print $3}' | sort | diff "$built/declared.txt" - || stop "the archive has not the functions of the header"
-if BIVELONDRY_ARCHIVE=$built/none ../tools/install.sh "$built/none" 2> "$built/said.txt" || ! grep -q "rt staticlib exports" "$built/said.txt" || [ -e "$built/none" ]; then
+if BIVELONDRY_ARCHIVE=$built/none ../tools/install.sh "$built/none" 2> "$built/said.txt" || ! grep -q "tools/staticlib.sh exports" "$built/said.txt" || [ -e "$built/none" ]; then
     stop "an install without the archive must say what to do, and write nothing"
 fi
 
@@ -88,7 +88,7 @@ if cargo clippy --version > /dev/null 2>&1; then
 else
     echo "cargo clippy is not installed: no lints"
 fi
-if BIVELONDRY_ARCHIVE=$built/none cargo test --offline --quiet --no-run 2> "$built/said.txt" || ! grep -q "run-rt-staticlib-exports" "$built/said.txt"; then
+if BIVELONDRY_ARCHIVE=$built/none cargo test --offline --quiet --no-run 2> "$built/said.txt" || ! grep -q "run-tools-staticlib.sh-exports" "$built/said.txt"; then
     stop "a test without the archive must not link, and say what to do"
 fi
 BIVELONDRY_ARCHIVE=$prefix/lib cargo test --offline --quiet | grep "^test result: ok. [1-9]"

@@ -1,12 +1,12 @@
 #!/usr/bin/env bash
 # Builds and runs what C and Rust callers have: the examples, their tests, and the recorded queries through the C header.
-# Needs cc and cargo, and the archive that `rt staticlib exports` makes. BIVELONDRY_ARCHIVE names another folder that has it.
+# Needs cc and cargo, and the archive that `tools/staticlib.sh exports` makes. BIVELONDRY_ARCHIVE names another folder that has it.
 set -eu
 cd "$(dirname "$0")"
 archive="${BIVELONDRY_ARCHIVE:-$PWD/../target/staticlib}/libexports.a"
 export BIVELONDRY_ARCHIVE="$(dirname "$archive")"
 if [ ! -e "$archive" ]; then
-    echo "bindings: $archive is missing: run \`rt staticlib exports\` in the repository" >&2
+    echo "bindings: $archive is missing: run \`tools/staticlib.sh exports\` in the repository" >&2
     exit 1
 fi
 for tool in cc cargo; do

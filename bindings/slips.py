@@ -81,7 +81,7 @@ def fuzz_found(folder, name):
 
 
 if not os.path.exists(ARCHIVE) or not os.path.isdir(CORPUS):
-    sys.exit("slips: run `rt staticlib exports` and bindings/harden.sh first")
+    sys.exit("slips: run `tools/staticlib.sh exports` and bindings/harden.sh first")
 found = 0
 with tempfile.TemporaryDirectory() as folder:
     # without a slip nothing is found

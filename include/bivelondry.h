@@ -23,7 +23,7 @@
  * scene, source, listener and answer. docs/BEHAVIOUR.md is the manual: settings, refusals and what to do about each, how images, gains and the list are made.
  *
  * Link -lbivelondry where tools/install.sh put it (`pkg-config --cflags --libs bivelondry`), or target/staticlib/libexports.a (made by
- * `rt staticlib exports`), which it is made from. What is proved is what stands there; this header hands on to it, and nothing checks its declarations
+ * `tools/staticlib.sh exports`), which it is made from. What is proved is what stands there; this header hands on to it, and nothing checks its declarations
  * against the Rattle source but the tests of bindings/. The stages alone are in bivelondry_stages.h of the repository. */
 #ifndef BIVELONDRY_H
 #define BIVELONDRY_H

@@ -1,6 +1,6 @@
 /* The stages of the port, each as a function of its own: numbers, sort, scene, tree, planes, paths, search, ranking. The comparison with the Rust
  * uses them (reference/crates/port); a station needs bivelondry.h alone. They are the crate `stages`, target/staticlib/libstages.a (made by
- * `rt staticlib stages`). Each is proved equal to the definition named beside it; nothing checks these declarations against the Rattle source. */
+ * `tools/staticlib.sh stages`). Each is proved equal to the definition named beside it; nothing checks these declarations against the Rattle source. */
 #ifndef BIVELONDRY_STAGES_H
 #define BIVELONDRY_STAGES_H
 

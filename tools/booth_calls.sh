@@ -1,11 +1,11 @@
 #!/usr/bin/env bash
-# Good and bad calls of target/bin/booth (after `rt check booth`; or of the program BOOTH): what each must say, on which stream, and whether its packet is empty. Needs nothing else.
+# Good and bad calls of target/bin/booth (after `tools/program.sh booth`; or of the program BOOTH): what each must say, on which stream, and whether its packet is empty. Needs nothing else.
 set -uo pipefail
 cd "$(dirname "$0")/.."
 booth=${BOOTH:-$PWD/target/bin/booth}
 examples=$PWD/examples
 findings=$PWD/reference/findings
-[ -x "$booth" ] || { echo "booth_calls: no $booth: rt check booth" >&2; exit 1; }
+[ -x "$booth" ] || { echo "booth_calls: no $booth: run tools/program.sh booth" >&2; exit 1; }
 work=$(mktemp -d)
 trap 'rm -rf "$work"' EXIT
 cd "$work"
@@ -96,6 +96,15 @@ cmp -s mine.case "$examples/shoebox.case" || { echo 'wrong: mine.case is lost'; 
 call err 'missing.case: No such file or directory' empty missing.case p.bin
 call err '.: Is a directory' empty . p.bin
 call err 'none/p.bin: No such file or directory' old "$examples/shoebox.case" none/p.bin
+call err '.case: invalid filename' empty $'\377.case' p.bin
+call err '.bin: invalid filename' old "$examples/shoebox.case" $'\377.bin'
+# what cannot be printed ends the program with 1; the packet is not written
+calls=$((calls + 1))
+echo old > p.bin
+if "$booth" "$examples/shoebox.case" p.bin > /dev/full 2> err < /dev/null || [ -s p.bin ] || ! grep -q '^Error: .*No space left on device' err; then
+    echo 'wrong: booth goes on where it cannot print'
+    wrong=$((wrong + 1))
+fi
 : > nothing.case
 call err 'line 1: expected `case`' empty nothing.case p.bin
 edit word.case 's/^merge 1/merged 1/'

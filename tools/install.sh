@@ -3,7 +3,7 @@
 #
 #     tools/install.sh PREFIX        such as /usr/local or "$HOME/.local"
 #
-# Needs the archive of `rt staticlib exports` and a C compiler, which links the shared library. BIVELONDRY_ARCHIVE names another folder that has the
+# Needs the archive of `tools/staticlib.sh exports` and a C compiler, which links the shared library. BIVELONDRY_ARCHIVE names another folder that has the
 # archive, CC another compiler. DESTDIR is put before PREFIX, for packages. The files may be moved together: the pkg-config file finds them beside itself.
 set -euo pipefail
 
@@ -16,7 +16,7 @@ case $1 in
 esac
 repository=$(cd "$(dirname "$0")/.." && pwd)
 archive=${BIVELONDRY_ARCHIVE:-$repository/target/staticlib}/libexports.a
-[ -e "$archive" ] || stop "$archive is missing: run \`rt staticlib exports\` in the repository, or set BIVELONDRY_ARCHIVE to the folder that has it"
+[ -e "$archive" ] || stop "$archive is missing: run \`tools/staticlib.sh exports\` in the repository, or set BIVELONDRY_ARCHIVE to the folder that has it"
 cc=${CC:-cc}
 command -v "${cc%% *}" > /dev/null || stop "$cc is not installed: it links the shared library; install a C compiler, or set CC to one"
 

@@ -36,9 +36,13 @@ def parts(text, marks=','):
     return [p for p in found + [part.strip()] if p]
 
 
+# a comment, a string or a character; a lifetime is none of them
+ASIDE = re.compile(r"""//[^\n]*|b?"(?:\\.|[^"\\])*"|b?'(?:\\.[^']*|[^'\\])'""", re.S)
+
+
 def without_comments(text):
-    """The text with blanks for comments, so that every place stays."""
-    return re.sub(r'//.*', lambda m: ' ' * len(m.group()), text)
+    """The text with blanks for comments and for the marks in strings, so that every place stays and every bracket is one of the code."""
+    return ASIDE.sub(lambda m: re.sub(r'[^\n]' if m.group().startswith('//') else r'[^\w\s"]', ' ', m.group()), text)
 
 
 def comment_above(text, at):
@@ -95,7 +99,7 @@ def fields():
         for m in re.finditer(r'\bstruct (\w+)\s*\{', text):
             body = text[m.end():closing(text, m.end() - 1)]
             found[crate, m.group(1)] = [p.split(':')[0].replace('pub ', '').strip() for p in parts(body)]
-        taken += [(crate, *m.groups()) for m in re.finditer(r'^use (\w+)::(\w+);', text, re.M)]
+        taken += [(crate, m.group(1), name.strip()) for m in re.finditer(r'^use (\w+)::\{?([\w,\s]+)\}?;', text, re.M) for name in m.group(2).split(',')]
     for crate, other, name in taken:
         if (other, name) in found:
             found[crate, name] = found[other, name]

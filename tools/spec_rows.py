@@ -15,9 +15,9 @@ sys.dont_write_bytecode = True
 from rattle_source import functions, is_library, sources
 
 MARK = '● '
-USE = re.compile(r'^\s*(pub )?(?:ghost )?use Rattle·(\w+?)(?:·specs)?\.specs\.(\w+)(?:\.\{([^}]*)\}| as ([\w-]+)|$)', re.M)
+USE = re.compile(r'^\s*(pub )?(?:ghost )?use Rattle\.(\w+)\.specs\.(\w+)(?:\.\{([^}]*)\}| as (\w+)|$)', re.M)
 START = re.compile(r'(\s*)(?:(?:abbrev|unfoldable|opaque|pub) )+(?:record |data )?([^\s{]+)')
-TOKEN = re.compile(r'(?:([\w-]+)\.)?([^\s(){}\[\],;.«»⌜⌝|]+)')
+TOKEN = re.compile(r'(?:([\w-]+)\.)?([^\s(){}\[\],;.«»|]+)')
 
 
 class File:
@@ -61,17 +61,18 @@ def resolve(files, file, name):
 
 
 def cited(files, text, names, modules, own=None):
-    """The definitions that a text names."""
+    """The definitions that a text names; of `r.f` the record may be one, and the field is looked up as a name."""
     for module, name in TOKEN.findall(text):
-        found = None
-        if module in modules:
-            found = resolve(files, modules[module], name)
-        if not found and own:
-            found = resolve({own: files[own]}, own, name)
-        if not found and name in names:
-            found = resolve(files, *names[name])
-        if found:
-            yield found
+        for word in filter(None, (module, name)):
+            found = None
+            if word == name and module in modules:
+                found = resolve(files, modules[module], name)
+            if not found and own:
+                found = resolve({own: files[own]}, own, word)
+            if not found and word in names:
+                found = resolve(files, *names[word])
+            if found:
+                yield found
 
 
 def unfolded(files, starts):

@@ -9,7 +9,7 @@ The house rule: each public function equates what it returns and what every area
   contract   it has no `ensures` at all (it has no line under the next three kinds)
   result     no `ensures` names the result in an equation or a record: it stands nowhere, or in a bound, in its length, or before an arrow alone
   fields     the result is a struct of which some fields stand in an equation or a record, and the ones listed do not
-  area       a `&mut` parameter whose `.exit` no `ensures` mentions, or whose length alone one mentions; `Open` (crates/order/specs/Open.antt) says that it is open
+  area       a `&mut` parameter whose `.new` no `ensures` mentions, or whose length alone one mentions; `Open` (crates/order/specs/Open.antt) says that it is open
   open       not a finding: the `&mut` parameters that an `Open` names (a record of specs/ may have more)
   requires   it asks something of its caller
   own        no other crate calls it, and C does not: it could be private
@@ -24,7 +24,7 @@ from rattle_source import fields, functions, is_library, parts, sources, without
 
 KINDS = 'contract', 'result', 'fields', 'area', 'open', 'requires', 'own'
 OPEN = re.compile(r'\b(?:not|nothing is) said\b')
-WORD = r'(?<![\w«·′-])«?{}»?(?![\w·′-])'
+WORD = r"(?<![\w«.'-])«?{}»?(?![\w'-])"
 
 
 def word(name):
@@ -78,23 +78,22 @@ def claims(text):
 
 
 def ensured(f):
-    """The name of the result and the claims of each `ensures`."""
+    """The claims of each `ensures`."""
     for clause in f.ensures:
-        m = re.match(r'\s*λ\s+(\S+?)\s*\.\s', clause)
-        yield m.group(1), list(claims(unfolded(clause[m.end():]).replace('⌜', '(').replace('⌝', ')')))
+        yield list(claims(unfolded(clause)))
 
 
 def of_result(f, structs):
     """Findings on the result: its kind and the words."""
     how, told, whole = set(), set(), False
-    for name, said in ensured(f):
+    for said in ensured(f):
         for kind, text in said:
-            for m in word(name).finditer(text) if name != '_' else ():
+            for m in word('result').finditer(text):
                 if kind in ('premise', 'bound'):
                     how.add({'premise': 'before an arrow', 'bound': 'in a bound'}[kind])
                 elif re.search(r'\blength\s*\(*$', text[:m.start()]):
                     how.add('in its length')
-                elif field := re.match(r'\s*\.«?(\w+)»?', text[m.end():]):
+                elif field := re.match(r'\.«?(\w+)»?', text[m.end():]):
                     told.add(field.group(1))
                 else:
                     whole = True
@@ -116,17 +115,17 @@ def lent(f):
 def of_open(f):
     """Those that an `Open` names."""
     text = ' '.join(f.ensures)
-    return [name for name in lent(f) if re.search(rf'\bOpen \(now \(«?{name}»? \.entry\)\)', text)]
+    return [name for name in lent(f) if re.search(rf'\bOpen «?{name}»?\.old\b', text)]
 
 
 def of_areas(f):
     """The `&mut` parameters of which nothing is said."""
     for name in lent(f):
-        leaves = re.compile(WORD.format(re.escape(name)) + r'\s*\.exit')
-        before = [text[:m.start()] for _, said in ensured(f) for _, text in said for m in leaves.finditer(text)]
+        leaves = re.compile(WORD.format(re.escape(name)) + r'\.new\b')
+        before = [text[:m.start()] for said in ensured(f) for _, text in said for m in leaves.finditer(text)]
         if not before:
             yield name
-        elif all(re.search(r'\blength\s*\(\s*now\s*\(\s*$', b) for b in before):
+        elif all(re.search(r'\blength\s*\(*$', b) for b in before):
             yield f'{name} (its length alone)'
 
 

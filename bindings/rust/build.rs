@@ -1,4 +1,4 @@
-//! Links the archive that `rt staticlib exports` writes; BIVELONDRY_ARCHIVE names another folder that has it, by that name or as tools/install.sh
+//! Links the archive that `tools/staticlib.sh exports` writes; BIVELONDRY_ARCHIVE names another folder that has it, by that name or as tools/install.sh
 //! names it. Without the archive the crate is checked and documented all the same; a program or test is not linked.
 use std::path::PathBuf;
 
@@ -15,9 +15,9 @@ fn main() {
             println!("cargo:rustc-link-lib=static={name}");
         }
         None => {
-            println!("cargo:warning={} is missing: to link a program or a test, run `rt staticlib exports` in the repository, or set BIVELONDRY_ARCHIVE to the folder that has it", file("exports").display());
+            println!("cargo:warning={} is missing: to link a program or a test, run `tools/staticlib.sh exports` in the repository, or set BIVELONDRY_ARCHIVE to the folder that has it", file("exports").display());
             // the linker prints the name that it does not find, with --quiet too
-            println!("cargo:rustc-link-lib=dylib=exports-is-missing--run-rt-staticlib-exports-or-set-BIVELONDRY_ARCHIVE");
+            println!("cargo:rustc-link-lib=dylib=exports-is-missing--run-tools-staticlib.sh-exports-or-set-BIVELONDRY_ARCHIVE");
         }
     }
 }

@@ -1,5 +1,5 @@
 #!/usr/bin/env python3
-"""Writes the proofs of functions without loops: each return by one `rw` over the calls, tests and matches on the way.
+"""Writes the proofs of functions without loops: each return by one `rw` over the calls, tests and matches on the way. For the older kit (README.md).
 
 usage: tools/proofs/auto.py CRATE FN.. [--gen DIR] [--unfold FN:NAMES] [--use FN:LINE] [--ans FN:NEED=TERM]
        tools/proofs/auto.py CRATE all ..     those that have no proof file, or only a stub

@@ -1,5 +1,5 @@
 #!/usr/bin/env python3
-"""bind_chains.py FILE..: binds each chain of `.before` that a need's answer uses twice, by a `let` at its start, and breaks lines that are still long.
+"""bind_chains.py FILE..: binds each chain of `.before` that a need's answer uses twice, by a `let` at its start, and breaks lines that are still long. For the older kit (README.md).
 
 A proof of a function answers needs, `NAME c = ..` or `NAME c κs = ..`, and reaches what is known there by `c .before .before ..`. This script rewrites the
 answers of the files named, in place: `let b12 = c .before .. in` stands for the chain of twelve, and a longer one is bound from the next shorter.

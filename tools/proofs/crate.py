@@ -1,4 +1,4 @@
-"""Where the proofs of a crate's functions stand. Read by the scripts beside it, from the top of the repository."""
+"""Where the proofs of a crate's functions stand. Read by the scripts beside it, from the top of the repository. For the older kit (README.md)."""
 import pathlib
 import sys
 

@@ -1,5 +1,5 @@
 #!/usr/bin/env python3
-"""Writes a function's proof from a file of answers in which names stand for the paths to steps.
+"""Writes a function's proof from a file of answers in which names stand for the paths to steps. For the older kit (README.md).
 
 usage: tools/proofs/fill.py CRATE FN [--gen DIR] [--ans DIR] [--dump]
 from the top of the repository, after `rt dev CRATE --generated DIR` (target/gen); the answers are in DIR/CRATE.FN (target/ans; `tags.several` for `tags/several`)

@@ -1,5 +1,5 @@
 #!/usr/bin/env python3
-"""What is known at each need of a function, and the path to it.
+"""What is known at each need of a function, and the path to it. For the older kit (README.md).
 
 usage: tools/proofs/paths.py CRATE FN [--gen DIR] [-v]     from the top of the repository, after `rt dev CRATE --generated DIR`
 

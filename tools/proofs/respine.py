@@ -1,5 +1,5 @@
 #!/usr/bin/env python3
-"""Carries a proof over a change of parameters: paths and places become names, and the names paths and places of the new code.
+"""Carries a proof over a change of parameters: paths and places become names, and the names paths and places of the new code. For the older kit (README.md).
 
 usage: tools/proofs/respine.py name CRATE FN > FILE                 before the change
        tools/proofs/respine.py place CRATE FN FILE [--gen DIR]      after it, and after `rt dev CRATE --generated DIR` (target/gen)

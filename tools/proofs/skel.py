@@ -1,9 +1,9 @@
 #!/usr/bin/env python3
 """Writes each proof file that a check offers and that is not there.
 
-usage: tools/proofs/skel.py OUT     OUT is what `rt dev NAME > OUT 2>&1` wrote
+usage: ../../tools/proofs/skel.py OUT     from the crate's folder; OUT is what `rt check > OUT 2>&1` wrote there
 
-A function that the check cannot prove by itself and that has no proof file is printed as a skeleton: 'help: write PATH with these lines', and the lines,
+Of a function that the check cannot prove by itself it prints what to answer: 'help: write PATH with these lines', and the lines,
 indented. Files that are there stay as they are."""
 import pathlib
 import re

@@ -1,5 +1,5 @@
 #!/usr/bin/env python3
-"""A hole for each function of a crate that has no proof file, so that a check writes its goals and searches for nothing.
+"""A hole for each function of a crate that has no proof file, so that a check writes its goals and searches for nothing. For the older kit (README.md).
 
 usage: tools/proofs/stub.py CRATE     from the top of the repository"""
 import sys

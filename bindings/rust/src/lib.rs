@@ -23,7 +23,7 @@
 //! scene, source, listener and answer. docs/BEHAVIOUR.md of the repository is the manual: settings, refusals and what to do about each, how images,
 //! gains and the list are made.
 //!
-//! What is proved is what the archive holds (`target/staticlib/libexports.a`, by `rt staticlib exports`); this crate hands on to it. Its `unsafe`
+//! What is proved is what the archive holds (`target/staticlib/libexports.a`, by `tools/staticlib.sh exports`); this crate hands on to it. Its `unsafe`
 //! calls pass slices of their own lengths and arrays of the length that their types say; no function of the archive asks more.
 
 /// The archive's functions as they are, for the comparison with the Rust, which hands over what no caller should.

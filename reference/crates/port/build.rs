@@ -1,4 +1,4 @@
-//! Links the archive that `rt staticlib stages` writes; bindings/rust links that of `exports`.
+//! Links the archive that `tools/staticlib.sh stages` writes; bindings/rust links that of `exports`.
 fn main() {
     let dir = std::path::Path::new(env!("CARGO_MANIFEST_DIR")).join("../../../target/staticlib");
     let archive = dir.join("libstages.a");
