@@ -175,6 +175,7 @@ class Fn:
         self.crate, self.key, self.info, self.contracts = crate, key, info, contracts
         self.problems = []
         self.used_places = set()
+        self.keep_whole = False
         self.places = {p[0]: p for p in info['places']}
         self.newplace = {}
         self.arm_by_place = {p[0]: a for p, a in zip(info['places'], info['arms']) if a}
@@ -243,6 +244,14 @@ class Fn:
                 q = self.places.get(p[1])
                 return q[2][1] if q else None
 
+    def rest_of(self, names, path):
+        """The clauses that are left where the path only steps right: their names, or None."""
+        if len(names) > 1 and all(x == '1' for x in path) and len(path) < len(names) - 1: return names[len(path):]
+        return None
+
+    def tuple_of(self, head, names):
+        return head + '.' + names[0] if len(names) == 1 else '(%s.%s, %s)' % (head, names[0], self.tuple_of(head, names[1:]))
+
     def clause(self, names, path):
         """path: list of '0'/'1' after .requires or .ensures; returns [name]+rest or None."""
         n = len(names)
@@ -278,6 +287,8 @@ class Fn:
                 if mt and self.own and tail[0] not in self.own['params'] and 0 < int(mt[1]) <= len(self.own['params']):
                     tail[0] = self.own['params'][int(mt[1]) - 1]
             if f == 'requires' and self.own:
+                left = self.rest_of(self.own['req'], tail)
+                if left and (tail or not self.keep_whole): return self.tuple_of(root + '.requires', left)
                 t = self.clause(self.own['req'], tail)
                 if t is not None: tail = t
             return '.'.join(res + tail)
@@ -294,10 +305,14 @@ class Fn:
             up = self.step_above(f, place)
             if up: return '.'.join([root, up, 'is'] + tail[2:])
         res.append(nf)
-        if tail and tail[0] == 'exit': tail = ['new'] + tail[1:]
+        if tail and callee and tail[0] in ('exit', 'last'): tail = ['new'] + tail[1:]
+        if tail and callee and tail[0] == 'kept': tail = ['auto'] + tail[1:]
+        if tail and tail[0] == 'inv': tail = ['invariant'] + tail[1:]
         if tail and tail[0] in ('ensures',):
             c = lookup(self.contracts, callee)
             if c:
+                left = self.rest_of(c['ens'], tail[1:])
+                if left and (tail[1:] or not self.keep_whole): return self.tuple_of('.'.join(res + ['ensures']), left)
                 t = self.clause(c['ens'], tail[1:])
                 if t is not None: tail = ['ensures'] + t
         elif tail and tail[0] in ('new', 'auto') and len(tail) > 1:
@@ -332,7 +347,9 @@ class Fn:
             if mm: return mm[1]
         while i < len(ts):
             t = ts[i]
-            if t in env and not (i and ts[i-1] == '.'):
+            nx = i + 1
+            while nx < len(ts) and ts[nx].isspace(): nx += 1
+            if t in env and not (i and ts[i-1] == '.') and not (nx < len(ts) and ts[nx] == '=' and i and ts[i-1] == '{'):
                 parts, j = [], i + 1
                 while j + 1 < len(ts) and ts[j] == '.' and not ts[j+1].isspace() and ts[j+1] not in '({[':
                     parts.append(ts[j+1]); j += 2
@@ -359,7 +376,17 @@ class Fn:
                     else:
                         out.append('.'.join([root] + full))
                 else:
+                    self.keep_whole = bool(whole)
                     r = self.turn_chain(root, full, place)
+                    self.keep_whole = False
+                    if whole and r.startswith('('):
+                        env[name] = (root, full); plainly.add(name); short[name] = r
+                        if ts[k] == 'in' and re.search(r'(?:^|\s)let\s+\S+\s+=\s+$', ''.join(out[-8:])):
+                            while out and out[-1] != 'let': out.pop()
+                            out.pop()
+                            k += 1
+                            while k < len(ts) and ts[k].isspace(): k += 1
+                            i = k; continue
                     st = short[t]
                     txt = r
                     if t in plainly: txt = r
@@ -382,6 +409,19 @@ class Fn:
                 pass
             out.append(t); i += 1
         return ''.join(out)
+
+def flat_lists(text):
+    """A tuple of facts in a tactic's list is written as its parts."""
+    out, i = '', 0
+    for m in re.finditer(r'(?<![\w.-])(?:omega|grind|search) \(', text):
+        if m.end() <= i: continue
+        d, j = 1, m.end()
+        while j < len(text) and d:
+            d += {'(': 1, ')': -1}.get(text[j], 0); j += 1
+        inner = text[m.end():j - 1]
+        inner = re.sub(r"\((c\.[\w.'-]+(?:, \(*c\.[\w.'-]+\)*)+)\)", lambda q: q[1].replace('(', '').replace(')', ''), inner)
+        out += text[i:m.end()] + inner + ')'; i = j
+    return out + text[i:]
 
 def top_tuple(text):
     """(a, (b, c)) -> [a, b, c] flattened to the right, or None."""
@@ -407,6 +447,9 @@ def flatten(text, n):
     # (a, b, c) is (a, (b, c))
     while len(ps) < n:
         more = top_tuple(ps[-1])
+        if (more is None or len(more) < 2) and re.match(r"[\w'.-]+$", ps[-1]) and not ps[-1].endswith(('.requires', '.ensures')):
+            left = n - len(ps) + 1
+            more = [ps[-1] + '.1' * k + ('.0' if k < left - 1 else '') for k in range(left)]
         if more is None or len(more) < 2: return None
         ps = ps[:-1] + more
     if len(ps) > n:
@@ -628,6 +671,7 @@ def convert(crate_dir, names, contracts, wanted):
             args = [a for a in mm[2].split() if not a.startswith('κ')]
             if len(args) != 1: continue
             place_helpers[name] = ('', args[0], '', fn.turn_body(mm[3].strip(), hit[1], [args[0]]), d.unf)
+            if mm[3].strip() in ('search rules', 'omega arith'): abbrevs.add(name)
         for name, (d, old, hit) in named.items():
             body = '\n'.join(d.defs)
             if not hit:
@@ -643,7 +687,7 @@ def convert(crate_dir, names, contracts, wanted):
                 args, bd = mm[2].split(), mm[3]
                 drop = [a for a in args if a.startswith('κ')]
                 args = [a for a in args if not a.startswith('κ')]
-                root = args[-1] if args else None
+                root = args[0] if args else None
                 if root is None:
                     mmm = re.match(r'\s*λ\s+([^.]+)\.', bd)
                     if mmm: root = mmm[1].split()[0]
@@ -659,6 +703,7 @@ def convert(crate_dir, names, contracts, wanted):
                 nm = info['asked'].get(new) or {norm(k): v for k, v in info['asked'].items()}.get(norm(old)) or []
                 if not nm and (new == 'returns' or new.startswith('returns-')):
                     nm = fn.own['ens'] if fn.own else []
+                if len(nm) > 1 and bd.strip() == 'search rules': defs = None; break
                 if len(nm) > 1:
                     pre, tl = find_body(bd)
                     ps = flatten(tl, len(nm))
@@ -681,11 +726,15 @@ def convert(crate_dir, names, contracts, wanted):
                         left = len(nm) - len(q) + 1
                         if q[-1] == (root or 'c') + '.requires' and fn.own and len(fn.own['req']) == left and left > 1:
                             ps = q[:-1] + [q[-1] + '.' + x for x in fn.own['req']]
+                    if not ps and re.match(r"\s*[A-Za-z_][\w'.-]*(\s|$)", tl) and not re.match(r'\s*(rw|simp|search|grind|subst|record|elim|omega|let|absurd|unfold)\b', tl):
+                        pre = pre + ' let all = ' + tl.strip() + ' in'
+                        ps = ['all' + '.1' * k_ + ('.0' if k_ < len(nm) - 1 else '') for k_ in range(len(nm))]
                     if ps:
                         bd = pre + ' record {\n' + ''.join(f'      {a} = {b};\n' for a, b in zip(nm, ps)) + '    }'
                     else:
                         fn.problems.append(f'{new}: {len(nm)} clauses {nm}: not a tuple')
                 if drop: fn.problems.append(f'{new}: dropped {drop}')
+                bd = flat_lists(bd)
                 defs.append(f"{new}{''.join(' ' + a for a in args)} ={bd}")
                 for u in more_unf:
                     if u not in d.unf: d.unf = d.unf + [u]

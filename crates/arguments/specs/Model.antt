@@ -1,5 +1,5 @@
 -- The distance model as numbers: its curve is 0 for Inverse, else Linear.
-use Rattle.std.specs.Prelude.{ℕ, zero, suc, Float, cond, eqb}
+use Rattle.std.specs.Prelude.{ℕ, Float, cond, eqb}
 use Rattle.bands.specs.declared.DistanceCurve.{DistanceCurve}
 use Rattle.bands.specs.declared.DistanceCurve.TheVariants.{Inverse, Linear}
 use Rattle.bands.specs.declared.DistanceModel.{DistanceModel}

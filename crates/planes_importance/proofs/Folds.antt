@@ -1,14 +1,13 @@
 -- One turn, and the end, of the folds over a scene's triangles and over a plane's.
-use mathlib.Core.Path.{◌≡◌, refl, sym, ap, ◌∙◌}
+use mathlib.Core.Path.{◌≡◌, refl, ap, ◌∙◌}
 use mathlib.Core.List.{List, [], ◌∷◌, ◌++◌, map, foldl-append}
-use Prim.Native.Nat.{ℕ, zero, suc, ◌+◌, ◌<◌, ◌≤◌}
+use Prim.Native.Nat.{ℕ, ◌+◌, ◌<◌, ◌≤◌}
 use native.Mathlib.Omega.{arith}
 use native.Mathlib.Numerals.{add-one}
 use lib.ListN.{length, set, take, length-set}
 use lib.Seq.{take-suc-set}
 use lib.Ieee.{Float}
 use Rattle.order.specs.Runs.{head_or, up_to}
-use Rattle.geometry.specs.declared.Triangle.{Triangle}
 use Rattle.columns.specs.Columns.{triangle_at_of}
 use Rattle.planes_patches.specs.Triangles.{triangles_in}
 use Rattle.order.specs.Sort.{Below}

@@ -1,21 +1,19 @@
 -- The keys in the code's columns are those of the planes that the areas read as.
 use mathlib.Core.Path.{◌≡◌, sym, ap, ◌∙◌}
 use mathlib.Core.List.{List, [], map, foldl}
-use Prim.Native.Nat.{ℕ, zero, ◌+◌, ◌<◌, ◌≤◌}
+use Prim.Native.Nat.{ℕ, ◌<◌, ◌≤◌}
 use native.Mathlib.Nat.{lt_of_lt_of_le}
-use lib.ListN.{length, get_or}
+use lib.ListN.{length}
 use lib.Ieee.{Float}
 use Rattle.laws.proofs.Lists.{map_map}
 use Rattle.order.specs.Sort.{Below, sort_by, key_of}
-use Rattle.order.specs.Runs.{head_or, up_to}
+use Rattle.order.specs.Runs.{up_to}
 use Rattle.order.proofs.Laws.{fold_same}
 use Rattle.geometry.specs.declared.Aabb.{Aabb}
-use Rattle.geometry.specs.declared.Triangle.{Triangle}
 use Rattle.columns.specs.Columns.{triangle_at_of}
 use Rattle.planes_patches.specs.Triangles.{nth_triangle, triangles_in}
 use Rattle.planes_patches.proofs.Lists.{length_up_to, map_under}
 use Rattle.planes_patches.proofs.Filling.{triangle_in}
-use Rattle.mirror.specs.Plane.{Plane}
 use Rattle.mirror.specs.Rows.{row_of, tris_of, plane_in, planes_in, PlanesHeld}
 use Rattle.planes_importance.specs.Importance.{scene_box_of, no_moments, moment_of, area_centre_of, importance_of, key_of_plane, ranking_of, key_in, row_key_in}
 

@@ -1,6 +1,6 @@
 -- The call's steps together: the positions that the ranking gives are those of sound rows, what is stored of them reads as the ranked list, and the
 -- writer's answer is then the list's packet (`ended`).
-use Prim.Native.Nat.{ℕ, suc, ◌+◌, ◌*◌, ◌≤◌, ◌<◌}
+use Prim.Native.Nat.{ℕ, suc, ◌*◌, ◌≤◌, ◌<◌}
 use mathlib.Core.Path.{◌≡◌, refl, sym, ap, subst, ◌∙◌}
 use mathlib.Core.List.{List, [], ◌∷◌, ◌++◌, map}
 use native.Mathlib.Omega.{arith}

@@ -1,7 +1,7 @@
 -- A packet by computing: one tap of order 1, number 1, direction (0, 0, 1), 750 samples late, a half in each band but the last, whose gain is 0 and
 -- has no bit.
 use mathlib.Core.Path.{◌≡◌, refl}
-use mathlib.Core.List.{List, [], ◌∷◌}
+use mathlib.Core.List.{[], ◌∷◌}
 use lib.Ieee.{Float, binary32, of_bits, to_bits}
 use Rattle.float.specs.Literals.{zero32, one32}
 use Rattle.vector.specs.Vector.{vec}

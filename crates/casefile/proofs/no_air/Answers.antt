@@ -1,5 +1,4 @@
 -- `casefile::no_air` is safe and ends, and the area keeps its length.
-use Prim.Native.Nat.{◌-◌}
 use Rattle.casefile.proofs.no_air.Goals as goal
 
 pub set_word-requires : goal.set_word-requires

@@ -1,5 +1,4 @@
 -- `casefile::read_indices` meets its contract: the area keeps its length, and each turn brings the count nearer.
-use Prim.Native.Nat.{◌-◌}
 use Rattle.casefile.proofs.read_indices.Goals as goal
 
 pub plus-requires : goal.plus-requires

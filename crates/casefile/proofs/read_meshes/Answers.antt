@@ -1,5 +1,4 @@
 -- `casefile::read_meshes` meets its contract: the areas keep their lengths, and each turn brings the count nearer.
-use Prim.Native.Nat.{◌-◌}
 use Rattle.casefile.proofs.read_meshes.Goals as goal
 
 pub read_mesh-d-requires : goal.read_mesh-d-requires

@@ -1,5 +1,4 @@
 -- `casefile::read_rows` meets its contract: the area keeps its length, and each turn brings the count nearer.
-use Prim.Native.Nat.{◌-◌}
 use Rattle.casefile.proofs.read_rows.Goals as goal
 
 pub read_row-d-requires : goal.read_row-d-requires

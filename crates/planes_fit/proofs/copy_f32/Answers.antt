@@ -1,6 +1,5 @@
 -- `planes_fit::copy_f32` meets its contract: the values so far stand in the area.
 use mathlib.Core.Path.{refl}
-use Prim.Native.Nat.{◌-◌}
 use native.Mathlib.Omega.{arith}
 use Rattle.planes_fit.proofs.Copying.{copied_more, copied_none}
 use Rattle.planes_fit.proofs.copy_f32.Goals as goal

@@ -1,6 +1,5 @@
 -- `planes_fit::mean_offset` meets its contract: the triangles from here on give what all give.
 use mathlib.Core.Path.{◌∙◌, refl, sym}
-use Prim.Native.Nat.{◌-◌}
 use native.Mathlib.Omega.{arith}
 use Rattle.laws.proofs.Lists.{fold_done, fold_step}
 use Rattle.order.specs.Sort.{Below}

@@ -1,5 +1,4 @@
 -- `planes_fit::name_group` meets its contract: the patches so far have the number.
-use Prim.Native.Nat.{◌-◌}
 use native.Mathlib.Omega.{arith}
 use Rattle.order.specs.Sort.{Below}
 use Rattle.planes_fit.proofs.Naming.{named_all, named_more, named_none}

@@ -1,6 +1,6 @@
 -- `planes_fit::name_groups` meets its contract: the groups so far are named.
 use mathlib.Core.Path.{◌∙◌, refl}
-use Prim.Native.Nat.{◌+◌, ◌-◌}
+use Prim.Native.Nat.{◌+◌}
 use native.Mathlib.Omega.{arith}
 use lib.ListN.{length}
 use Rattle.order.proofs.Laws.{below_more}

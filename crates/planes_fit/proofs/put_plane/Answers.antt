@@ -28,10 +28,12 @@ shape_of-plane_words c = c.copy_u32.auto.area
 pub returns : goal.returns
 returns c =
     let a = c.args in
-    let f = rw c.floats_of-reals.ensures at (c.copy_f32.ensures.by_index, c.copy_f32.ensures.by_index_2) in
-    let w = rw c.words_of-counts.ensures at (c.copy_u32.ensures.by_index, c.copy_u32.ensures.by_index_2) in record {
-      g_after = row_stored a.plane_floats.now c.copy_f32.new.area a.plane_words.now c.copy_u32.new.area a.g a.r f.0 w.0;
-      by_index = row_other a.plane_floats.now c.copy_f32.new.area a.plane_words.now c.copy_u32.new.area a.g f.1 w.1;
+    let here = rw c.floats_of-reals.ensures at c.copy_f32.ensures.by_index in
+    let else_where = rw c.floats_of-reals.ensures at c.copy_f32.ensures.by_index_2 in
+    let words_here = rw c.words_of-counts.ensures at c.copy_u32.ensures.by_index in
+    let words_else = rw c.words_of-counts.ensures at c.copy_u32.ensures.by_index_2 in record {
+      g_after = row_stored a.plane_floats.now c.copy_f32.new.area a.plane_words.now c.copy_u32.new.area a.g a.r here words_here;
+      by_index = row_other a.plane_floats.now c.copy_f32.new.area a.plane_words.now c.copy_u32.new.area a.g else_where words_else;
     }
 
 pub floats_of-reals-requires : goal.floats_of-reals-requires

@@ -1,5 +1,4 @@
 -- `planes_fit::unpack` meets its contract: the words so far are done.
-use Prim.Native.Nat.{◌-◌}
 use native.Mathlib.Omega.{arith}
 use Rattle.planes_fit.proofs.Naming.{unpacked_all, unpacked_more, unpacked_none}
 use Rattle.planes_fit.proofs.unpack.Goals as goal

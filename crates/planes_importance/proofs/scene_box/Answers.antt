@@ -1,6 +1,5 @@
 -- `planes_importance::scene_box` meets its contract: the box so far is that of the triangles so far.
 use mathlib.Core.Path.{◌≡◌, sym, ◌∙◌}
-use Prim.Native.Nat.{◌-◌}
 use native.Mathlib.Omega.{arith}
 use Rattle.planes_patches.specs.Triangles.{triangles_in}
 use Rattle.order.specs.Runs.{up_to}

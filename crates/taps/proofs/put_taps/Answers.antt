@@ -1,6 +1,5 @@
 -- `taps::put_taps` meets its contract: what is left to store gives the same area from each turn on.
 use native.Mathlib.Omega.{arith}
-use Prim.Native.Nat.{◌-◌}
 use mathlib.Core.Path.{refl, ◌∙◌}
 use Rattle.taps.proofs.Storing.{taps_step, taps_done}
 use Rattle.taps.proofs.put_taps.Goals as goal
@@ -25,8 +24,7 @@ put_tap-requires c =
 
 pub loop-k-preserved : goal.loop-k-preserved
 loop-k-preserved c =
-    let a = c.args in
-    (
+    let a = c.args in (
       omega arith,
       c.put_tap.auto.taps ∙ c.loop-k.invariant.1,
       taps_step a.candidate_floats.now a.candidate_words.now a.count a.positions.now c.loop-k.k c.loop-k.taps _ _
