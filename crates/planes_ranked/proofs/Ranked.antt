@@ -3,7 +3,7 @@
 use mathlib.Core.Path.{◌≡◌, refl, sym, ap, ◌∙◌}
 use mathlib.Core.Bool.{Bool, true, false}
 use mathlib.Core.List.{List, [], ◌∷◌, ◌++◌, map}
-use Prim.Native.Nat.{ℕ, zero, suc, ◌+◌, ◌*◌, ◌<◌, ◌≤◌}
+use Prim.Native.Nat.{ℕ, zero, suc, ◌+◌, ◌<◌, ◌≤◌}
 use native.Mathlib.Nat.{le_refl}
 use native.Mathlib.Omega.{arith}
 use lib.Dec.{eqb, leb}
@@ -11,7 +11,7 @@ use lib.ListN.{length, get_or, take, drop, length-drop, length-append}
 use lib.Seq.{length-take-le, take_all, take-suc, take-append-le}
 use lib.Ieee.{Float}
 use borrow.Author.Tests.{eqb-true, leb-true, leb-false}
-use Rattle.order.specs.Sort.{Perm, Below, sort_by, key_of}
+use Rattle.order.specs.Sort.{Perm, Below, key_of}
 use Rattle.order.specs.Sort.Perm.{none, skip, swap, then}
 use Rattle.order.specs.Runs.{up_to}
 use Rattle.order.proofs.Laws.{length_sort, below_head, below_tail, below_sort, below_take}

@@ -1,5 +1,5 @@
 -- The loop that stores the ranked planes: each stands in its row, with its border, and later ones leave it as it is.
-use mathlib.Core.Path.{◌≡◌, refl, sym, ap, subst, ◌∙◌}
+use mathlib.Core.Path.{◌≡◌, sym, ap, subst, ◌∙◌}
 use mathlib.Core.Logic.{inl, inr}
 use mathlib.Core.List.{List, [], ◌∷◌, ◌++◌}
 use Prim.Native.Nat.{ℕ, zero, suc, ◌+◌, ◌*◌, ◌/◌, ◌<◌, ◌≤◌}
@@ -11,7 +11,7 @@ use lib.Seq.{take-suc}
 use lib.Ieee.{Float}
 use Rattle.mirror.specs.declared.PlaneRow.{PlaneRow}
 use Rattle.mirror.specs.Plane.{Edge}
-use Rattle.mirror.specs.Rows.{plane_float_count, plane_word_count, edge_floats, row_of, tris_of, edges_in, row_plane, plane_in, border_of, RunsIn, PlanesHeld}
+use Rattle.mirror.specs.Rows.{plane_float_count, plane_word_count, edge_floats, row_of, tris_of, edges_in, plane_in, border_of, RunsIn, PlanesHeld}
 use Rattle.order.specs.Sort.{Below}
 use Rattle.planes_fit.specs.Rows.{Small}
 use Rattle.planes_borders.specs.Uses.{border_in, Appended}

@@ -1,11 +1,11 @@
 -- The keys by which `planes_groups` and `planes_importance` sort have the Rust's order: larger floats first, and of equal ones the lower number.
 --     descending_first     for floats of the format that are not NaN, and numbers below 2^32
-use Prim.Native.Nat.{ℕ, ◌+◌, ◌-◌, ◌*◌, ◌≤◌, ◌<◌}
-use mathlib.Core.Path.{◌≡◌, refl, sym, ap, ◌∙◌}
+use Prim.Native.Nat.{ℕ, ◌+◌, ◌-◌, ◌*◌, ◌<◌}
+use mathlib.Core.Path.{◌≡◌, refl, sym, ◌∙◌}
 use mathlib.Core.Bool.{Bool, true, false, cond, not}
 use native.Mathlib.Omega.{arith}
 use lib.Dec.{T, ltb}
-use lib.Ieee.{Float, binary32, fits, is_nan, lt}
+use lib.Ieee.{Float, binary32, fits, is_nan}
 use borrow.Author.Tests.{ltb-true, ltb-false, lt-ltb, le-ltb}
 use Rattle.float.specs.Key.{key_of_float}
 use Rattle.ranking.specs.Candidate.{decides}

@@ -2,7 +2,7 @@
 --     whole_held      for every float
 --     vertex_step     for a coordinate up to 10,000 in size our step of a millimetre is the Rust's, counted from -2^31
 --     same_keys       two points within 10,000 have one key of ours exactly when they have one of the Rust's
-use Prim.Native.Nat.{ℕ, zero, suc, ◌+◌, ◌-◌, ◌*◌, ◌/◌, ◌≤◌, ◌<◌, min}
+use Prim.Native.Nat.{ℕ, zero, suc, ◌+◌, ◌*◌, ◌/◌, ◌≤◌, ◌<◌, min}
 use mathlib.Core.Path.{◌≡◌, refl, sym, ap, subst, ◌∙◌}
 use mathlib.Core.Bool.{Bool, true, false, cond, ◌&&◌}
 use mathlib.Core.Logic.{◌↔◌}
@@ -17,7 +17,7 @@ use lib.Ieee.Nearest.{div_mono}
 use Rattle.bounds.specs.Bounds.{Within}
 use Rattle.bounds.proofs.Rounded.{round_within}
 use Rattle.vector.specs.declared.Vec3.{Vec3}
-use Rattle.float.specs.Round.{half_up, in_range, end, round_of}
+use Rattle.float.specs.Round.{half_up, in_range, round_of}
 use Rattle.planes_faces.specs.Whole.{whole_of, place_of}
 use Rattle.planes_faces.specs.Key.{step_of, key_by, same_key, vertex_steps_per_metre, vertex_key}
 use Rattle.rust_words.specs.Keys.{held_to32, rust_step, RustKey, rust_key, Near}

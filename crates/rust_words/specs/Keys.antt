@@ -1,5 +1,5 @@
 -- Vertex keys in the Rust's words: `vertex_key` rounds each coordinate to an `i64`, `x.round() as i64`.
-use Rattle.std.specs.Prelude.{ℕ, min, ℤ, pos, negsuc, Float}
+use Rattle.std.specs.Prelude.{min, ℤ, pos, negsuc, Float}
 use Rattle.std.specs.Float.{binary32}
 use Rattle.std.specs.Float.Ieee.{mul}
 use Rattle.vector.specs.declared.Vec3.{Vec3}

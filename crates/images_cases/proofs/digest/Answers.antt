@@ -1,5 +1,4 @@
 -- `images_cases::digest` is safe and ends. The loop's invariant: the digest is below its modulus.
-use Prim.Native.Nat.{◌-◌}
 use native.Mathlib.Omega.{arith}
 use Rattle.images_cases.proofs.digest.Goals as goal
 

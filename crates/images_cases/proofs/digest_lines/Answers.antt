@@ -1,5 +1,5 @@
 -- `images_cases::digest_lines` is safe and ends: a chunk with a line ends past where it began and within the total.
-use Prim.Native.Nat.{◌-◌, ◌<◌}
+use Prim.Native.Nat.{◌<◌}
 use mathlib.Core.Path.{refl, sym, ◌∙◌}
 use native.Mathlib.Omega.{arith}
 use lib.Seq.{length-take-le}

@@ -1,5 +1,4 @@
 -- `numbering_cases::agrees` is safe and ends: a record's place fits, since a number is a u32.
-use Prim.Native.Nat.{◌-◌}
 use mathlib.Core.Path.{refl}
 use native.Mathlib.Omega.{arith}
 use Rattle.numbering_cases.proofs.agrees.Goals as goal

@@ -1,5 +1,4 @@
 -- `numbering_cases::compare_all` is safe and ends: n is at most `images`, and each turn brings it nearer.
-use Prim.Native.Nat.{◌-◌}
 use Rattle.numbering_cases.proofs.compare_all.Goals as goal
 
 pub sequence_of-requires : goal.sequence_of-requires

@@ -26,18 +26,18 @@ open_patches-np-requires c =
     let n = c.args.n in let t = c.requires.triangles_lent in let p = c.requires.planes_room in record {
       triangles_lent = t;
       open_room = record {
-          keys_room = p.keys_room;
-          low_keys_room = p.low_keys_room;
-          index_room = p.index_room;
-          words_room = three_of n p.words_room;
-          scratch_room = three_of n p.scratch_room;
-          numbers_room = p.numbers_room;
-          first_room = seated t c.fresh-first.ensures;
-          next_room = seated t c.fresh-next.ensures;
-          areas_room = twelfth_of p.floats_room;
-          plane_floats_room = rows_of n p.plane_floats_room;
-          of_room = seated t c.fresh-of.ensures;
-        };
+        keys_room = p.keys_room;
+        low_keys_room = p.low_keys_room;
+        index_room = p.index_room;
+        words_room = three_of n p.words_room;
+        scratch_room = three_of n p.scratch_room;
+        numbers_room = p.numbers_room;
+        first_room = seated t c.fresh-first.ensures;
+        next_room = seated t c.fresh-next.ensures;
+        areas_room = twelfth_of p.floats_room;
+        plane_floats_room = rows_of n p.plane_floats_room;
+        of_room = seated t c.fresh-of.ensures;
+      };
       held = c.requires.held.0;
       count_nonzero = c.requires.held.1;
     }
@@ -59,28 +59,28 @@ group_planes-ng-requires c =
     let t = c.requires.triangles_lent in let p = c.requires.planes_room in let r = c.open_patches-np.ensures.upper_bound in record {
       triangles_lent = t;
       np_le_m = (
-          r.0,
-          fewer_rows r.0 t.some (still c.open_patches-np.auto.plane_floats p.plane_floats_room),
-          le_trans t.some (still c.open_patches-np.auto.of (seated t
-              c.fresh-of.ensures)),
-        );
+        r.0,
+        fewer_rows r.0 t.some (still c.open_patches-np.auto.plane_floats p.plane_floats_room),
+        le_trans t.some (still c.open_patches-np.auto.of (seated t
+            c.fresh-of.ensures)),
+      );
       n_in_bounds = (still c.open_patches-np.auto.numbers p.numbers_room, c.open_patches-np.ensures.numbered);
       group_room = record {
-            keys_room = third_of (still c.open_patches-np.auto.keys p.keys_room);
-            words_room = still c.open_patches-np.auto.words p.words_room;
-            scratch_room = still c.open_patches-np.auto.scratch p.scratch_room;
-            index_room = third_of (still c.open_patches-np.auto.index p.index_room);
-            next_room = still_below c.open_patches-np.auto.next (seated_below t
-                c.fresh-next.ensures);
-            adjacency_room = p.adjacency_room;
-            plane_triangles_room = p.plane_triangles_room;
-            first_room = still c.open_patches-np.auto.first (seated t
-                c.fresh-first.ensures);
-            plane_words_room = fifth_of p.plane_words_room;
-            queue_room = p.queue_room;
-            offsets_room = p.offsets_room;
-            floats_room = still c.open_patches-np.auto.areas p.floats_room;
-          };
+        keys_room = third_of (still c.open_patches-np.auto.keys p.keys_room);
+        words_room = still c.open_patches-np.auto.words p.words_room;
+        scratch_room = still c.open_patches-np.auto.scratch p.scratch_room;
+        index_room = third_of (still c.open_patches-np.auto.index p.index_room);
+        next_room = still_below c.open_patches-np.auto.next (seated_below t
+            c.fresh-next.ensures);
+        adjacency_room = p.adjacency_room;
+        plane_triangles_room = p.plane_triangles_room;
+        first_room = still c.open_patches-np.auto.first (seated t
+            c.fresh-first.ensures);
+        plane_words_room = fifth_of p.plane_words_room;
+        queue_room = p.queue_room;
+        offsets_room = p.offsets_room;
+        floats_room = still c.open_patches-np.auto.areas p.floats_room;
+      };
     }
 
 pub overflow_cast-settings : goal.overflow_cast-settings
@@ -103,24 +103,24 @@ ranked_planes-requires c =
       triangles_lent = t;
       group_planes = c.group_planes-ng.ensures.group_planes;
       edges_room = record {
-            keys_room = still c.group_planes-ng.auto.keys (still c.open_patches-np.auto.keys p.keys_room);
-            low_keys_room = still c.open_patches-np.auto.low_keys p.low_keys_room;
-            index_room = still c.group_planes-ng.auto.index (still c.open_patches-np.auto.index p.index_room);
-            words_room = three_of n (still c.group_planes-ng.auto.words (still c.open_patches-np.auto.words p.words_room));
-            scratch_room = three_of n (still c.group_planes-ng.auto.scratch (still c.open_patches-np.auto.scratch p.scratch_room));
-            numbers_room = still c.open_patches-np.auto.numbers p.numbers_room;
-            queue_room = still c.group_planes-ng.auto.queue p.queue_room;
-            offsets_room = still c.group_planes-ng.auto.offsets (under p.offsets_room);
-          };
+        keys_room = still c.group_planes-ng.auto.keys (still c.open_patches-np.auto.keys p.keys_room);
+        low_keys_room = still c.open_patches-np.auto.low_keys p.low_keys_room;
+        index_room = still c.group_planes-ng.auto.index (still c.open_patches-np.auto.index p.index_room);
+        words_room = three_of n (still c.group_planes-ng.auto.words (still c.open_patches-np.auto.words p.words_room));
+        scratch_room = three_of n (still c.group_planes-ng.auto.scratch (still c.open_patches-np.auto.scratch p.scratch_room));
+        numbers_room = still c.open_patches-np.auto.numbers p.numbers_room;
+        queue_room = still c.group_planes-ng.auto.queue p.queue_room;
+        offsets_room = still c.group_planes-ng.auto.offsets (under p.offsets_room);
+      };
       n_in_bounds = (
-            still c.group_planes-ng.auto.next (still c.open_patches-np.auto.next (seated t
-                c.fresh-next.ensures)),
-            record {
-              floats_room = still c.open_patches-np.auto.plane_floats p.plane_floats_room;
-              words_room = still c.group_planes-ng.auto.plane_words p.plane_words_room;
-              edges_room = p.plane_edges_room;
-            },
-          );
+        still c.group_planes-ng.auto.next (still c.open_patches-np.auto.next (seated t
+            c.fresh-next.ensures)),
+        record {
+          floats_room = still c.open_patches-np.auto.plane_floats p.plane_floats_room;
+          words_room = still c.group_planes-ng.auto.plane_words p.plane_words_room;
+          edges_room = p.plane_edges_room;
+        },
+      );
     }
 
 pub shape_of-keys : goal.shape_of-keys

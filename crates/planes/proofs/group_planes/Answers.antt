@@ -41,81 +41,81 @@ group_planes-requires c =
       n_in_bounds = (t.columns, t.named, q.1);
       m_le_n = (t.some, omega (arith, t.few, t.some), q.2);
       grouped = (
-            grouped c.merge_patches-ng.new.queue c.merge_patches-ng.new.offsets a.np ng
-                (merge_settings a.on a.least a.most) (triangles_in a.triangles.now a.handles.now a.n a.m) (patches_in a.plane_floats.now a.of.now
-                a.m a.np) (patches_length a.plane_floats.now a.of.now a.m a.np) is (omega (
-                  arith,
-                  few,
-                  q.0,
-                  t.some,
-                  c.merge_patches-ng.auto.offsets,
-                  g.offsets_room,
-                )) (omega (
-                  arith,
-                  ends,
-                  q.0,
-                  t.some,
-                  c.merge_patches-ng.auto.queue,
-                  g.queue_room,
-                )),
-            omega (arith, few, q.0, t.some, t.few),
-          );
+        grouped c.merge_patches-ng.new.queue c.merge_patches-ng.new.offsets a.np ng
+            (merge_settings a.on a.least a.most) (triangles_in a.triangles.now a.handles.now a.n a.m) (patches_in a.plane_floats.now a.of.now
+            a.m a.np) (patches_length a.plane_floats.now a.of.now a.m a.np) is (omega (
+              arith,
+              few,
+              q.0,
+              t.some,
+              c.merge_patches-ng.auto.offsets,
+              g.offsets_room,
+            )) (omega (
+              arith,
+              ends,
+              q.0,
+              t.some,
+              c.merge_patches-ng.auto.queue,
+              g.queue_room,
+            )),
+        omega (arith, few, q.0, t.some, t.few),
+      );
       np_in_bounds = (
-              omega (
-                arith,
-                c.merge_patches-ng.auto.tsorted,
-                g.index_room,
-                q.0,
-                t.some,
-              ),
-              omega (
-                arith,
-                c.merge_patches-ng.auto.order,
-                g.first_room,
-                t.some,
-              ),
-            );
+        omega (
+          arith,
+          c.merge_patches-ng.auto.tsorted,
+          g.index_room,
+          q.0,
+          t.some,
+        ),
+        omega (
+          arith,
+          c.merge_patches-ng.auto.order,
+          g.first_room,
+          t.some,
+        ),
+      );
       m_in_bounds = (
-                omega (
-                  arith,
-                  c.merge_patches-ng.auto.words,
-                  g.words_room,
-                  t.some,
-                ),
-                omega (
-                  arith,
-                  c.merge_patches-ng.auto.scratch,
-                  g.scratch_room,
-                  t.some,
-                ),
-              );
+        omega (
+          arith,
+          c.merge_patches-ng.auto.words,
+          g.words_room,
+          t.some,
+        ),
+        omega (
+          arith,
+          c.merge_patches-ng.auto.scratch,
+          g.scratch_room,
+          t.some,
+        ),
+      );
       m_in_bounds_2 = (
-                  omega (
-                    arith,
-                    c.merge_patches-ng.auto.astarts,
-                    g.plane_triangles_room,
-                    t.some,
-                  ),
-                  omega (
-                    arith,
-                    c.merge_patches-ng.auto.tstarts,
-                    g.next_room,
-                    few,
-                    q.0,
-                    t.some,
-                  ),
-                );
+        omega (
+          arith,
+          c.merge_patches-ng.auto.astarts,
+          g.plane_triangles_room,
+          t.some,
+        ),
+        omega (
+          arith,
+          c.merge_patches-ng.auto.tstarts,
+          g.next_room,
+          few,
+          q.0,
+          t.some,
+        ),
+      );
       ng_in_bounds = (
-                  omega (arith, g.floats_room, few, q.0, t.some),
-                  omega (
-                    arith,
-                    c.merge_patches-ng.auto.asorted,
-                    g.adjacency_room,
-                    few,
-                    q.0,
-                    t.some,
-                  ),
-                );
+        omega (arith, g.floats_room, few, q.0, t.some),
+        omega (
+          arith,
+          c.merge_patches-ng.auto.asorted,
+          g.adjacency_room,
+          few,
+          q.0,
+          t.some,
+        ),
+      );
     }
 
 pub shape_of-keys : goal.shape_of-keys

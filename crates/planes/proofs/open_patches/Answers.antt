@@ -45,7 +45,7 @@ duplicates-requires c =
       n_in_bounds = t.columns;
       vhi_len = length-take-le (3 * c.args.n) c.args.keys.now c.requires.open_room.keys_room;
       vlo_len = length-take-le
-                (3 * c.args.n) c.args.low_keys.now c.requires.open_room.low_keys_room;
+          (3 * c.args.n) c.args.low_keys.now c.requires.open_room.low_keys_room;
       index_len = length-take-le (3 * c.args.n) c.args.index.now c.requires.open_room.index_room;
       n_in_bounds_2 = f.words_room;
       n_in_bounds_3 = f.scratch_room;
@@ -61,18 +61,18 @@ coplanar_patches-np-requires c =
     let t = c.requires.triangles_lent in let f = c.requires.open_room in record {
       n_in_bounds = (t.columns, t.named, t.some, omega (arith, t.few, t.some), omega (arith, c.duplicates.auto.first, f.first_room, t.some));
       heads_len = (
-          c.fresh_heads-heads.ensures,
-          omega (arith, f.plane_floats_room, t.some),
-          omega (
-            arith,
-            length_front c.args.keys.now
-                c.duplicates.new.vhi (3 * c.args.n) c.duplicates.auto.vhi,
-            f.keys_room,
-            t.some,
-          ),
-          omega (arith, f.next_room, t.some),
-          omega (arith, f.of_room, t.some),
-        );
+        c.fresh_heads-heads.ensures,
+        omega (arith, f.plane_floats_room, t.some),
+        omega (
+          arith,
+          length_front c.args.keys.now
+              c.duplicates.new.vhi (3 * c.args.n) c.duplicates.auto.vhi,
+          f.keys_room,
+          t.some,
+        ),
+        omega (arith, f.next_room, t.some),
+        omega (arith, f.of_room, t.some),
+      );
       by_index = λ i h. c.duplicates.ensures.by_index i (omega (arith, h, t.some));
     }
 
@@ -81,13 +81,13 @@ open_patches-requires c =
     let t = c.requires.triangles_lent in let p = c.requires.open_room in let r = c.coplanar_patches-np.ensures.upper_bound in record {
       n_in_bounds = (t.columns, t.named, t.some, omega (arith, t.few, t.some), omega (arith, c.coplanar_patches-np.auto.of, p.of_room, t.some));
       np_le_m = (
-          r.0,
-          omega (arith, r.0, p.areas_room, t.some),
-          omega (arith, r.0, c.coplanar_patches-np.auto.next, p.next_room, t.some),
-          omega
-              (arith, r.0, c.duplicates.auto.first, p.first_room, t.some),
-          omega (arith, r.0, c.coplanar_patches-np.auto.rows, p.plane_floats_room, t.some),
-        );
+        r.0,
+        omega (arith, r.0, p.areas_room, t.some),
+        omega (arith, r.0, c.coplanar_patches-np.auto.next, p.next_room, t.some),
+        omega
+            (arith, r.0, c.duplicates.auto.first, p.first_room, t.some),
+        omega (arith, r.0, c.coplanar_patches-np.auto.rows, p.plane_floats_room, t.some),
+      );
       held = c.requires.held;
       count_nonzero = c.requires.count_nonzero;
       numbered = r.1;
@@ -136,7 +136,7 @@ shape_of-of c =
 pub returns : goal.returns
 unfolding open_patches_of
 returns c = let r = c.open_patches.ensures in record {
-      result_after = λ s tri k b h. r.by_index tri k h ∙ rw (← b, c.coplanar_patches-np.ensures.result_after);
-      upper_bound = (le_trans r.upper_bound.0 c.coplanar_patches-np.ensures.upper_bound.0, r.upper_bound.1);
-      numbered = c.duplicates.ensures.numbered;
-    }
+  result_after = λ s tri k b h. r.by_index tri k h ∙ rw (← b, c.coplanar_patches-np.ensures.result_after);
+  upper_bound = (le_trans r.upper_bound.0 c.coplanar_patches-np.ensures.upper_bound.0, r.upper_bound.1);
+  numbered = c.duplicates.ensures.numbered;
+}

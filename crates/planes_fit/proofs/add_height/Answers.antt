@@ -17,7 +17,7 @@ dot3-h-requires c = tt
 pub returns : goal.returns
 unfolding heights_of
 returns c = rw (
-      ← c.triangle_area-a.ensures,
-      ← c.centroid.ensures,
-      ← c.dot3-h.ensures,
-    )
+  ← c.triangle_area-a.ensures,
+  ← c.centroid.ensures,
+  ← c.dot3-h.ensures,
+)

@@ -15,6 +15,6 @@ union-aabb-requires c = tt
 pub returns : goal.returns
 unfolding summed_of weighted_of add3_of
 returns c = rw (
-      ← c.side.ensures,
-      ← c.union-aabb.ensures,
-    )
+  ← c.side.ensures,
+  ← c.union-aabb.ensures,
+)

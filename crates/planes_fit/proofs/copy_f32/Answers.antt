@@ -36,6 +36,6 @@ shape_of-area c = c.loop-k.invariant.len
 
 pub returns : goal.returns
 returns c = record {
-      by_index = λ k h. c.loop-k.invariant.done k (omega (arith, h, c.loop-k-test.false));
-      by_index_2 = c.loop-k.invariant.beside;
-    }
+  by_index = λ k h. c.loop-k.invariant.done k (omega (arith, h, c.loop-k-test.false));
+  by_index_2 = c.loop-k.invariant.beside;
+}

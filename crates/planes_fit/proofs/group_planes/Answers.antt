@@ -10,16 +10,16 @@ use Rattle.planes_fit.proofs.group_planes.Goals as goal
 
 pub name_groups-requires : goal.name_groups-requires
 name_groups-requires c = record {
-      grouped = c.requires.grouped.0;
-      np_in_bounds = c.requires.np_in_bounds.0;
-      ng_le_most_triangles = c.requires.grouped.1;
-    }
+  grouped = c.requires.grouped.0;
+  np_in_bounds = c.requires.np_in_bounds.0;
+  ng_le_most_triangles = c.requires.grouped.1;
+}
 
 pub name_planes-requires : goal.name_planes-requires
 name_planes-requires c = record {
-      m_in_bounds = c.requires.m_le_n.2;
-      m_in_bounds_2 = c.requires.np_in_bounds.1;
-    }
+  m_in_bounds = c.requires.m_le_n.2;
+  m_in_bounds_2 = c.requires.np_in_bounds.1;
+}
 
 pub patch_rows-requires : goal.patch_rows-requires
 patch_rows-requires c =
@@ -40,7 +40,7 @@ put_planes-requires c =
       n_in_bounds = p.n_in_bounds;
       grouped = p.grouped.0;
       runs = runs_are c.name_planes.new.plane_of c.patch_rows.new.sorted c.patch_rows.new.starts
-              c.unpack.new.words c.args.m c.args.n c.args.ng c.patch_rows.ensures.row_bounds c.patch_rows.ensures.by_index c.unpack.ensures p.m_le_n.0 (omega (arith, p.m_in_bounds_2.1, c.patch_rows.auto.starts));
+          c.unpack.new.words c.args.m c.args.n c.args.ng c.patch_rows.ensures.row_bounds c.patch_rows.ensures.by_index c.unpack.ensures p.m_le_n.0 (omega (arith, p.m_in_bounds_2.1, c.patch_rows.auto.starts));
       ng_in_bounds = p.ng_in_bounds;
     }
 
@@ -88,10 +88,10 @@ returns c =
     let run : (g : ℕ) → g < a.ng → group_in members mstarts g ≡ tris_in planes a.m g = λ g l. run_is planes sorted mstarts members a.m a.ng g c.patch_rows.ensures.by_index c.unpack.ensures l in record {
       ng_after = planes_are a.triangles.now a.handles.now a.n a.m a.rows.now a.of.now a.np a.queue.now a.offsets.now a.ng groups planes members mstarts floats words p.grouped.0 p.grouped.1 c.name_groups.ensures.by_index c.name_planes.ensures runs run c.put_planes.ensures;
       planes_held = planes_held_lem a.triangles.now a.handles.now a.n a.m a.rows.now a.of.now a.np a.queue.now a.offsets.now a.ng groups planes members mstarts floats words p.grouped.0 p.grouped.1 c.name_groups.ensures.by_index c.name_planes.ensures runs run c.put_planes.ensures (omega
-            (arith, p.ng_in_bounds.0, c.put_planes.auto.group_floats)) (omega (arith, p.ng_in_bounds.1, c.put_planes.auto.group_words));
+          (arith, p.ng_in_bounds.0, c.put_planes.auto.group_floats)) (omega (arith, p.ng_in_bounds.1, c.put_planes.auto.group_words));
       by_index = tris_is a.triangles.now a.handles.now a.n a.m a.rows.now a.of.now a.np a.queue.now a.offsets.now a.ng groups planes members mstarts floats words p.grouped.0 p.grouped.1 c.name_groups.ensures.by_index c.name_planes.ensures runs run c.put_planes.ensures;
       numbered = planes_numbered
-                a.of.now groups planes a.m a.ng c.name_planes.ensures c.name_groups.ensures.by_index_2;
+          a.of.now groups planes a.m a.ng c.name_planes.ensures c.name_groups.ensures.by_index_2;
       rest = (same_length, same-length-2, same-length-3, same-length-6);
     }
 

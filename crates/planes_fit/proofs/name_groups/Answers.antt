@@ -80,9 +80,9 @@ shape_of-group_of c = c.loop-g.invariant.1.0 ∙ c.clear_u32.auto.area
 
 pub returns : goal.returns
 returns c = record {
-      by_index = λ p g h. c.loop-g.invariant.1.1.is p g (omega (arith, h, c.loop-g-test.false));
-      by_index_2 = λ p. omega (arith, c.loop-g.invariant.1.1.bound p, c.loop-g.invariant.0);
-    }
+  by_index = λ p g h. c.loop-g.invariant.1.1.is p g (omega (arith, h, c.loop-g-test.false));
+  by_index_2 = λ p. omega (arith, c.loop-g.invariant.1.1.bound p, c.loop-g.invariant.0);
+}
 
 pub clear_u32-requires : goal.clear_u32-requires
 clear_u32-requires c = tt

@@ -30,7 +30,8 @@ pub loop-t-preserved : goal.loop-t-preserved
 loop-t-preserved c =
     planed_more _ _ _ _ _ _ _ c.loop-t.invariant c.loop-t-test.true (omega (arith, c.requires.m_in_bounds, c.requires.m_in_bounds_2, c.loop-t-test.true)) (omega (
       arith,
-      c.requires.m_in_bounds, c.requires.m_in_bounds_2,
+      c.requires.m_in_bounds,
+      c.requires.m_in_bounds_2,
       c.loop-t-test.true,
       c.loop-t.invariant.len,
     )) c.plane_number.ensures

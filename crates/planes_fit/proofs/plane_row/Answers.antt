@@ -19,10 +19,10 @@ returns-then-group-eq1 c = rw (eq-eqb _ _ c.if-group-eq1.true, head_at c.args.gr
 
 pub fitted-requires : goal.fitted-requires
 fitted-requires c = let p = c.requires in record {
-      n_in_bounds = p.n_in_bounds;
-      n_in_bounds_2 = p.n_in_bounds_2;
-      below = p.below_2;
-    }
+  n_in_bounds = p.n_in_bounds;
+  n_in_bounds_2 = p.n_in_bounds_2;
+  below = p.below_2;
+}
 
 pub returns : goal.returns
 unfolding plane_row_of

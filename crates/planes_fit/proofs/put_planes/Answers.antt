@@ -1,6 +1,6 @@
 -- `planes_fit::put_planes` meets its contract: the rows so far are stored.
 use mathlib.Core.Path.{◌∙◌}
-use Prim.Native.Nat.{◌+◌, ◌-◌}
+use Prim.Native.Nat.{◌+◌}
 use native.Mathlib.Omega.{arith}
 use lib.ListN.{get_or}
 use Rattle.columns.specs.Columns.{triangle_at_of}
@@ -126,7 +126,7 @@ put_plane-requires c =
       plane_floats_in_bounds = omega (arith, p.ng_in_bounds.0, t, i.len_floats);
       plane_words_in_bounds = omega (arith, p.ng_in_bounds.1, t, i.len_words);
       small = row_small (triangle_at_of a.triangles.now a.handles.now a.n) a.rows.now (group_in a.queue.now a.offsets.now g) (group_in a.plane_triangles.now a.mstarts.now g) (get_or a.mstarts.now g 0) c.plane_row-r.result
-            c.plane_row-r.ensures (omega arith) (omega arith);
+          c.plane_row-r.ensures (omega arith) (omega arith);
     }
 
 pub overflow_add-g : goal.overflow_add-g

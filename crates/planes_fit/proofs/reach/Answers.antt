@@ -42,13 +42,13 @@ max-requires c = tt
 pub returns : goal.returns
 unfolding reach_of corners_of
 returns c = rw (
-      ← c.dot3.ensures,
-      ← c.abs.ensures,
-      ← c.max-a.ensures,
-      ← c.dot3-2.ensures,
-      ← c.abs-2.ensures,
-      ← c.max-b.ensures,
-      ← c.dot3-3.ensures,
-      ← c.abs-3.ensures,
-      ← c.max.ensures,
-    )
+  ← c.dot3.ensures,
+  ← c.abs.ensures,
+  ← c.max-a.ensures,
+  ← c.dot3-2.ensures,
+  ← c.abs-2.ensures,
+  ← c.max-b.ensures,
+  ← c.dot3-3.ensures,
+  ← c.abs-3.ensures,
+  ← c.max.ensures,
+)

@@ -45,10 +45,10 @@ edge_numbers-requires c =
         c.requires.n_le_most_triangles.2,
       );
       keys_len = (
-          length-take-le (3 * c.args.n) c.args.keys.now c.requires.edges_room.keys_room,
-          length-take-le (3 * c.args.n) c.args.low_keys.now c.requires.edges_room.low_keys_room,
-          length-take-le (3 * c.args.n) c.args.index.now c.requires.edges_room.index_room,
-        );
+        length-take-le (3 * c.args.n) c.args.keys.now c.requires.edges_room.keys_room,
+        length-take-le (3 * c.args.n) c.args.low_keys.now c.requires.edges_room.low_keys_room,
+        length-take-le (3 * c.args.n) c.args.index.now c.requires.edges_room.index_room,
+      );
       n_in_bounds = (e.words_room, e.scratch_room, e.numbers_room);
     }
 
@@ -185,43 +185,43 @@ count_edges-requires c =
       n_in_bounds = (omega (arith, c.edge_numbers.auto.numbers, e.numbers_room), omega (arith, s.0), omega (arith, s.0, s.1));
       m_le_n = (s.1, s.3);
       keys_len = (
-            length-take-le (3 * c.args.m) ((c.edge_numbers.new.keys ++ drop (3 * c.args.n) c.args.keys.now)) (omega (
+        length-take-le (3 * c.args.m) ((c.edge_numbers.new.keys ++ drop (3 * c.args.n) c.args.keys.now)) (omega (
+          arith,
+          length_front c.args.keys.now c.edge_numbers.new.keys (3 * c.args.n) c.edge_numbers.auto.keys,
+          c.requires.edges_room.keys_room,
+          c.requires.n_le_most_triangles.1,
+        )),
+        length-take-le (3 * c.args.m)
+            ((c.edge_numbers.new.low_keys ++ drop (3 * c.args.n) c.args.low_keys.now)) (omega (
               arith,
-              length_front c.args.keys.now c.edge_numbers.new.keys (3 * c.args.n) c.edge_numbers.auto.keys,
-              c.requires.edges_room.keys_room,
+              length_front c.args.low_keys.now c.edge_numbers.new.low_keys (3 * c.args.n) c.edge_numbers.auto.low_keys,
+              c.requires.edges_room.low_keys_room,
               c.requires.n_le_most_triangles.1,
             )),
-            length-take-le (3 * c.args.m)
-                ((c.edge_numbers.new.low_keys ++ drop (3 * c.args.n) c.args.low_keys.now)) (omega (
-                  arith,
-                  length_front c.args.low_keys.now c.edge_numbers.new.low_keys (3 * c.args.n) c.edge_numbers.auto.low_keys,
-                  c.requires.edges_room.low_keys_room,
-                  c.requires.n_le_most_triangles.1,
-                )),
-          );
+      );
       index_len = (
-              length-take-le (3 * c.args.m) ((c.edge_numbers.new.index ++ drop (3 * c.args.n) c.args.index.now)) (omega (
-                arith,
-                length_front c.args.index.now c.edge_numbers.new.index (3 * c.args.n) c.edge_numbers.auto.index,
-                c.requires.edges_room.index_room,
-                c.requires.n_le_most_triangles.1,
-              )),
-              omega
-                  (arith, c.edge_numbers.auto.words, e.words_room, s.1),
-              omega (arith, c.edge_numbers.auto.scratch, e.scratch_room, s.1),
-            );
+        length-take-le (3 * c.args.m) ((c.edge_numbers.new.index ++ drop (3 * c.args.n) c.args.index.now)) (omega (
+          arith,
+          length_front c.args.index.now c.edge_numbers.new.index (3 * c.args.n) c.edge_numbers.auto.index,
+          c.requires.edges_room.index_room,
+          c.requires.n_le_most_triangles.1,
+        )),
+        omega
+            (arith, c.edge_numbers.auto.words, e.words_room, s.1),
+        omega (arith, c.edge_numbers.auto.scratch, e.scratch_room, s.1),
+      );
       first_len = (
-              length-take-le (3 * c.args.m) c.args.queue.now (omega (
-                arith,
-                c.requires.edges_room.queue_room,
-                c.requires.n_le_most_triangles.1,
-              )),
-              length-take-le (3 * c.args.m) c.args.offsets.now (omega (
-                arith,
-                c.requires.edges_room.offsets_room,
-                c.requires.n_le_most_triangles.1,
-              )),
-            );
+        length-take-le (3 * c.args.m) c.args.queue.now (omega (
+          arith,
+          c.requires.edges_room.queue_room,
+          c.requires.n_le_most_triangles.1,
+        )),
+        length-take-le (3 * c.args.m) c.args.offsets.now (omega (
+          arith,
+          c.requires.edges_room.offsets_room,
+          c.requires.n_le_most_triangles.1,
+        )),
+      );
     }
 
 pub shape_of-keys : goal.shape_of-keys

@@ -1,6 +1,6 @@
 -- `planes_ranked::put_ranked` meets its contract: the planes so far stand in their rows.
 use mathlib.Core.Path.{refl, ap}
-use Prim.Native.Nat.{◌+◌, ◌-◌, ◌*◌, ◌<◌}
+use Prim.Native.Nat.{◌+◌, ◌*◌, ◌<◌}
 use native.Mathlib.Nat.{not-suc-le-zero}
 use native.Mathlib.Omega.{arith}
 use lib.ListN.{get_or}
@@ -54,7 +54,7 @@ put_plane-requires c =
       plane_floats_in_bounds = omega (arith, q.floats_room, c.loop-r.invariant.floats_long, c.loop-r-test.true);
       plane_words_in_bounds = omega (arith, q.words_room, c.loop-r.invariant.words_long, c.loop-r-test.true);
       small = small_is c.plane_at-plane.result _ _ _ c.bordered-p.ensures.value.0 (rw c.plane_at-plane.ensures starts) (rw c.plane_at-plane.ensures counts) room p.short
-            c.bordered-p.ensures.value.1;
+          c.bordered-p.ensures.value.1;
     }
 
 pub overflow_add-r : goal.overflow_add-r

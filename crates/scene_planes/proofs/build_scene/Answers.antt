@@ -70,21 +70,21 @@ build_planes-planes-requires c =
       triangles_lent = t;
       held = (w.tree.held, w.tree.some);
       planes_room = record {
-          keys_room = omega (arith, c.scene_bvh-nodes_count.auto.keys, p.keys_room);
-          low_keys_room = p.low_keys_room;
-          words_room = omega (arith, c.scene_bvh-nodes_count.auto.words, p.words_room);
-          scratch_room = omega (arith, c.scene_bvh-nodes_count.auto.scratch, p.scratch_room);
-          index_room = p.index_room;
-          numbers_room = p.numbers_room;
-          adjacency_room = p.adjacency_room;
-          queue_room = p.queue_room;
-          offsets_room = p.offsets_room;
-          plane_triangles_room = p.plane_triangles_room;
-          plane_words_room = p.plane_words_room;
-          plane_floats_room = omega (arith, c.scene_bvh-nodes_count.auto.extents, p.plane_floats_room);
-          floats_room = omega (arith, c.scene_bvh-nodes_count.auto.boxes, p.floats_room);
-          plane_edges_room = omega (arith, c.scene_bvh-nodes_count.auto.areas, p.plane_edges_room);
-        };
+        keys_room = omega (arith, c.scene_bvh-nodes_count.auto.keys, p.keys_room);
+        low_keys_room = p.low_keys_room;
+        words_room = omega (arith, c.scene_bvh-nodes_count.auto.words, p.words_room);
+        scratch_room = omega (arith, c.scene_bvh-nodes_count.auto.scratch, p.scratch_room);
+        index_room = p.index_room;
+        numbers_room = p.numbers_room;
+        adjacency_room = p.adjacency_room;
+        queue_room = p.queue_room;
+        offsets_room = p.offsets_room;
+        plane_triangles_room = p.plane_triangles_room;
+        plane_words_room = p.plane_words_room;
+        plane_floats_room = omega (arith, c.scene_bvh-nodes_count.auto.extents, p.plane_floats_room);
+        floats_room = omega (arith, c.scene_bvh-nodes_count.auto.boxes, p.floats_room);
+        plane_edges_room = omega (arith, c.scene_bvh-nodes_count.auto.areas, p.plane_edges_room);
+      };
     }
 
 pub shape_of-tree : goal.shape_of-tree
