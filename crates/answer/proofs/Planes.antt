@@ -1,7 +1,7 @@
 -- What `build_scene` leaves is what the search asks for, and the search over it is that over the scene's triangles.
 use mathlib.Core.Path.{◌≡◌, ap, subst, ◌∙◌}
 use mathlib.Core.List.{List}
-use Prim.Native.Nat.{ℕ, ◌*◌, ◌<◌, ◌≤◌}
+use Prim.Native.Nat.{ℕ, ◌*◌, ◌≤◌}
 use native.Mathlib.Nat.{lt_of_lt_of_le}
 use lib.ListN.{length, get_or}
 use lib.Ieee.{Float}

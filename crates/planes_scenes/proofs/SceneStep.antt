@@ -1,6 +1,6 @@
 -- The scene `step`: a parallel patch at another offset stays apart. Its planes are those that the Rust gave, bit for bit (the dump of the reference), by evaluation.
 use mathlib.Core.Path.{◌≡◌, refl}
-use mathlib.Core.Bool.{Bool, true, false}
+use mathlib.Core.Bool.{true, false}
 use mathlib.Core.List.{List, [], ◌∷◌, flat_map}
 use lib.IntN.{pos, negsuc}
 use lib.Ieee.{fin, add, sub, mul, div, neg, lt, le, eq, is_nan, of_bits, round, to_bits}

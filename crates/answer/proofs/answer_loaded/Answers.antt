@@ -141,21 +141,21 @@ returns c = let a = c.args in let st = a.settings in let r = c.find-found.result
             c.send-r.ensures;
       };
       planes_zero = record {
-          keys_zero = k.0;
-          low_keys_zero = k.1;
-          words_zero = k.2;
-          scratch_zero = k.3;
-          index_zero = l.0;
-          numbers_zero = l.1;
-          adjacency_zero = l.2;
-          queue_zero = l.3;
-          offsets_zero = l.4;
-          plane_triangles_zero = j.0;
-          plane_words_zero = j.1;
-          plane_floats_zero = g.0;
-          floats_zero = g.1;
-          plane_edges_zero = g.2;
-        };
+        keys_zero = k.0;
+        low_keys_zero = k.1;
+        words_zero = k.2;
+        scratch_zero = k.3;
+        index_zero = l.0;
+        numbers_zero = l.1;
+        adjacency_zero = l.2;
+        queue_zero = l.3;
+        offsets_zero = l.4;
+        plane_triangles_zero = j.0;
+        plane_words_zero = j.1;
+        plane_floats_zero = g.0;
+        floats_zero = g.1;
+        plane_edges_zero = g.2;
+      };
       scene_zero = c.clear_scene.ensures;
     }
 

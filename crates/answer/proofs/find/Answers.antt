@@ -18,12 +18,12 @@ use Rattle.answer.proofs.find.Goals as goal
 
 pub returns-then-silent : goal.returns-then-silent
 returns-then-silent c = let a = c.args in record {
-      finds = record {
+  finds = record {
     over = λ s f l cleared same. silent_finds a.settings (triangles s) s.materials a.source a.listener (silent_of a.separated a.source a.listener
         a.m) (order_of_search a.settings) a.room a.floats.now a.numbers.now (◌∙◌ {b = c.silent.result} (sym c.silent.ensures) c.if-silent.true);
   };
-      found_le_room = omega arith;
-    }
+  found_le_room = omega arith;
+}
 
 pub build_scene-built-requires : goal.build_scene-built-requires
 build_scene-built-requires c =
@@ -95,13 +95,13 @@ search_images-requires c =
       scene_lent = search_lent d.scene a.triangles.now a.handles.now a.n a.m (take (12 * a.m - 0) (drop 0 c.build_scene-built.new.tree)) c.build_scene-built.new.nodes (take a.m c.build_scene-built.new.leaf_order) (rows_in a.m c.build_scene-built.new.tree) c.build_scene-built.result.nodes c.build_scene-built.new.plane_floats c.build_scene-built.new.plane_words
           c.build_scene-built.new.plane_triangles c.build_scene-built.new.plane_edges c.build_scene-built.result.planes w p.held a.materials.now d.same t.columns t.some;
       order_le_max_order = (
-          omega (
-            arith,
-            c.search_order-order.ensures,
-          ),
-          omega (arith, p.most, h.few),
-          h.crossings,
-        );
+        omega (
+          arith,
+          c.search_order-order.ensures,
+        ),
+        omega (arith, p.most, h.few),
+        h.crossings,
+      );
       candidate_rows = record { few = rr.few; floats = omega (arith, c.build_scene-built.auto.floats, rr.floats); words = omega (arith, c.build_scene-built.auto.numbers, rr.words) };
     }
 

@@ -21,10 +21,10 @@ shape_of-numbers-then-flags-p-eq0 c = length-set c.args.numbers.now c.args.p non
 pub returns-then-flags-p-eq0 : goal.returns-then-flags-p-eq0
 unfolding is_open
 returns-then-flags-p-eq0 c = let e = eq-eqb (get_or c.args.flags.now c.args.p 0) 0 c.if-flags-p-eq0.true in record {
-      value = sym (rw e);
-      numbers_after = sym (rw e);
-      by_index = λ q. sym (rw e);
-    }
+  value = sym (rw e);
+  numbers_after = sym (rw e);
+  by_index = λ q. sym (rw e);
+}
 
 pub overflow_cast-numbers : goal.overflow_cast-numbers
 overflow_cast-numbers c = let p = c.requires in omega arith
@@ -47,7 +47,7 @@ shape_of-numbers c = simp length-set
 pub returns : goal.returns
 unfolding is_open
 returns c = let a = c.args in let e = ne_eqb (get_or a.flags.now a.p 0) 0 c.if-flags-p-eq0.false in record {
-      value = sym (rw (e, add-one a.w));
-      numbers_after = sym (rw e);
-      by_index = λ q. rw e (by-eq q a.w (λ s. rw (eq-eqb q a.w s) (ap (row_in c.put_row.new.rows) s ∙ c.put_row.ensures.p_after ∙ c.row_at-r.ensures)) (λ d. rw (ne_eqb q a.w d) (c.put_row.ensures.by_index q d)));
-    }
+  value = sym (rw (e, add-one a.w));
+  numbers_after = sym (rw e);
+  by_index = λ q. rw e (by-eq q a.w (λ s. rw (eq-eqb q a.w s) (ap (row_in c.put_row.new.rows) s ∙ c.put_row.ensures.p_after ∙ c.row_at-r.ensures)) (λ d. rw (ne_eqb q a.w d) (c.put_row.ensures.by_index q d)));
+}

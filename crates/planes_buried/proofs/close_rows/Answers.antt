@@ -40,7 +40,7 @@ shape_of-numbers c = c.loop-p.invariant.1.len_numbers
 
 pub returns : goal.returns
 returns c = let i = c.loop-p.invariant.1 in let e : c.loop-p.p ≡ c.args.np = omega (arith, c.loop-p.invariant.0, c.loop-p-test.false) in let f = c.args.flags.now in record {
-      value = i.count ∙ ap (λ (k : ℕ). length (open_to f k)) e;
-      by_index = λ p h. i.named p (omega arith);
-      by_index_2 = λ q h. i.moved q h ∙ ap (λ (k : ℕ). row_in c.args.rows.now (get_or (open_to f k) q 0)) e;
-    }
+  value = i.count ∙ ap (λ (k : ℕ). length (open_to f k)) e;
+  by_index = λ p h. i.named p (omega arith);
+  by_index_2 = λ q h. i.moved q h ∙ ap (λ (k : ℕ). row_in c.args.rows.now (get_or (open_to f k) q 0)) e;
+}

@@ -5,15 +5,15 @@ use Rattle.planes_buried.proofs.is_between.Goals as goal
 
 pub probe-requires : goal.probe-requires
 probe-requires c = record {
-      held = c.requires.held;
-      count_nonzero = c.requires.count_nonzero;
-    }
+  held = c.requires.held;
+  count_nonzero = c.requires.count_nonzero;
+}
 
 pub probe-requires-then-probe : goal.probe-requires-then-probe
 probe-requires-then-probe c = record {
-      held = c.requires.held;
-      count_nonzero = c.requires.count_nonzero;
-    }
+  held = c.requires.held;
+  count_nonzero = c.requires.count_nonzero;
+}
 
 pub returns-then-probe : goal.returns-then-probe
 unfolding lies_between

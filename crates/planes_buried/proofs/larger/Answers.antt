@@ -14,9 +14,9 @@ bounds-largest-p c = c.requires.1
 
 pub returns-then-areas-p : goal.returns-then-areas-p
 returns-then-areas-p c = let a = c.args in record {
-      p_after = λ ts e. best_larger a.areas.now a.largest.now a.p a.t a.a c.requires.0 c.requires.1 c.if-areas-p.true ts e;
-      by_index = best_both a.areas.now a.largest.now a.p a.t a.a;
-    }
+  p_after = λ ts e. best_larger a.areas.now a.largest.now a.p a.t a.a c.requires.0 c.requires.1 c.if-areas-p.true ts e;
+  by_index = best_both a.areas.now a.largest.now a.p a.t a.a;
+}
 
 pub bounds-largest-p-2 : goal.bounds-largest-p-2
 bounds-largest-p-2 c = c.requires.1
@@ -26,12 +26,12 @@ bounds-largest-p-then-largest-p c = c.requires.1
 
 pub returns-then-largest-p : goal.returns-then-largest-p
 returns-then-largest-p c = let a = c.args in record {
-      p_after = λ ts e. best_met a.areas.now a.largest.now a.p a.t a.a c.requires.1 c.if-areas-p.false c.if-largest-p.true ts e;
-      by_index = best_other a.areas.now a.largest.now a.p a.t a.a;
-    }
+  p_after = λ ts e. best_met a.areas.now a.largest.now a.p a.t a.a c.requires.1 c.if-areas-p.false c.if-largest-p.true ts e;
+  by_index = best_other a.areas.now a.largest.now a.p a.t a.a;
+}
 
 pub returns : goal.returns
 returns c = let a = c.args in record {
-      p_after = λ ts e. best_stays a.areas.now a.largest.now a.p a.t a.a c.if-areas-p.false c.if-largest-p.false ts e;
-      by_index = λ q d. refl;
-    }
+  p_after = λ ts e. best_stays a.areas.now a.largest.now a.p a.t a.a c.if-areas-p.false c.if-largest-p.false ts e;
+  by_index = λ q d. refl;
+}

@@ -25,9 +25,9 @@ triangle_at-t-requires c = let p = c.requires.n_in_bounds in (p.0, p.1, rw c.or_
 
 pub is_between-buried-requires : goal.is_between-buried-requires
 is_between-buried-requires c = record {
-      held = c.requires.held;
-      count_nonzero = c.requires.count_nonzero;
-    }
+  held = c.requires.held;
+  count_nonzero = c.requires.count_nonzero;
+}
 
 pub offset_bounds-flags-p : goal.offset_bounds-flags-p
 offset_bounds-flags-p c = let h = c.loop-p-test.true in let p = c.requires.n_in_bounds.4 in omega arith
@@ -43,11 +43,11 @@ loop-p-smaller c = let h = c.loop-p-test.true in omega arith
 
 pub loop-p-preserved : goal.loop-p-preserved
 loop-p-preserved c = let a = c.args in let room : c.loop-p.p < length c.loop-p.flags = omega (arith, c.loop-p-test.true, c.requires.n_in_bounds.3, c.loop-p.invariant.1) in (
-      omega arith,
-      length-set c.loop-p.flags c.loop-p.p c.flag.result ∙ c.loop-p.invariant.1,
-      tells_more (λ q v. Tells a.padded.now a.nodes.now a.leaf_order.now a.leaves.now a.handles.now (triangle_at_of a.triangles.now a.handles.now a.n (or_zero (get_or a.largest.now q 0))) a.reach v) c.loop-p.flags c.loop-p.p c.flag.result room c.loop-p.invariant.2
-          (λ tri k h. c.flag.ensures ∙ c.is_between-buried.ensures tri k h ∙ ap (λ (t : Triangle). lies_between (probe_of tri k) t a.reach) (c.triangle_at-t.ensures ∙ ap (triangle_at_of a.triangles.now a.handles.now a.n) c.or_zero-i.ensures)),
-    )
+  omega arith,
+  length-set c.loop-p.flags c.loop-p.p c.flag.result ∙ c.loop-p.invariant.1,
+  tells_more (λ q v. Tells a.padded.now a.nodes.now a.leaf_order.now a.leaves.now a.handles.now (triangle_at_of a.triangles.now a.handles.now a.n (or_zero (get_or a.largest.now q 0))) a.reach v) c.loop-p.flags c.loop-p.p c.flag.result room c.loop-p.invariant.2
+      (λ tri k h. c.flag.ensures ∙ c.is_between-buried.ensures tri k h ∙ ap (λ (t : Triangle). lies_between (probe_of tri k) t a.reach) (c.triangle_at-t.ensures ∙ ap (triangle_at_of a.triangles.now a.handles.now a.n) c.or_zero-i.ensures)),
+)
 
 pub shape_of-flags : goal.shape_of-flags
 shape_of-flags c = c.loop-p.invariant.1

@@ -14,10 +14,10 @@ use Rattle.planes_buried.proofs.open_patches.Goals as goal
 pub returns-else-reach : goal.returns-else-reach
 unfolding open_of
 returns-else-reach c = record {
-      by_index = λ tri k h. sym (rw c.if-reach.false);
-      upper_bound = (omega arith, c.requires.numbered);
-      rest = (refl, refl, refl);
-    }
+  by_index = λ tri k h. sym (rw c.if-reach.false);
+  upper_bound = (omega arith, c.requires.numbered);
+  rest = (refl, refl, refl);
+}
 
 pub largest_triangles-requires : goal.largest_triangles-requires
 largest_triangles-requires c =
@@ -34,7 +34,7 @@ mark_open-requires c =
       held = c.requires.held;
       count_nonzero = c.requires.count_nonzero;
       by_index = λ i h. let b = largest_below a.triangles.now a.handles.now a.n a.m a.of.now a.np c.largest_triangles.new.areas
-              c.largest_triangles.new.largest p.3 c.largest_triangles.ensures i h q.0 in omega arith;
+          c.largest_triangles.new.largest p.3 c.largest_triangles.ensures i h q.0 in omega arith;
     }
 
 pub close_rows-r-requires : goal.close_rows-r-requires

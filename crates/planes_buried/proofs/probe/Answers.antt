@@ -5,9 +5,9 @@ use Rattle.planes_buried.proofs.probe.Goals as goal
 
 pub intersect-requires : goal.intersect-requires
 intersect-requires c = record {
-      held = c.requires.held;
-      count_nonzero = c.requires.count_nonzero;
-    }
+  held = c.requires.held;
+  count_nonzero = c.requires.count_nonzero;
+}
 
 pub returns-in-At : goal.returns-in-At
 unfolding probe_of

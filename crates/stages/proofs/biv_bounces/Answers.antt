@@ -48,21 +48,21 @@ pub returns : goal.returns
 returns c =
     let same_length = c.put_points.auto.points in record {
       bounced = (
-      λ tri h.
-      let a = c.args in
-      let is = c.course_of-course.ensures in
-      let l = c.course_of-course.result.seq in
-      let n : ℕ = length a.seq.now in
-      let planes = planes_in a.plane_floats.now a.plane_words.now a.plane_triangles.now a.plane_edges.now a.count in
-      let back : trail_of c.back-trail.result (length a.seq.now) ≡ back_of tri a.fade (plane_on planes l) (λ j. get_or c.course_of-course.result.images j no_point) (length a.seq.now) c.point_from-end.result one32 [] [] =
-      rw (c.no_bounces.ensures.1, slice_empty (length a.seq.now) c.no_bounces.result.points, slice_empty (length a.seq.now) c.no_bounces.result.tris) at (c.back-trail.ensures.by_index_2 tri h) in
-      rw (← c.point_from-start.ensures, ← c.point_from-end.ensures)
-      (bounced_trail c.back-trail.result (length a.seq.now) _ c.fate_number.result c.put_points.new.points c.requires.in_bounds.1
-      (back
-      ∙ path_bounces planes tri c.point_from-start.result c.point_from-end.result l (λ j. get_or c.course_of-course.result.images j no_point) (length a.seq.now) (omega (arith, is.seq_room, c.requires.in_bounds.1)) (is.mirrored a.plane_triangles.now a.plane_edges.now) a.fade
-      ∙ ap (bounces_of tri a.fade planes c.point_from-start.result c.point_from-end.result) (whole a.seq.now l is.planes))
-      c.fate_number.ensures c.put_points.ensures)
-      );
+          λ tri h.
+          let a = c.args in
+          let is = c.course_of-course.ensures in
+          let l = c.course_of-course.result.seq in
+          let n : ℕ = length a.seq.now in
+          let planes = planes_in a.plane_floats.now a.plane_words.now a.plane_triangles.now a.plane_edges.now a.count in
+          let back : trail_of c.back-trail.result (length a.seq.now) ≡ back_of tri a.fade (plane_on planes l) (λ j. get_or c.course_of-course.result.images j no_point) (length a.seq.now) c.point_from-end.result one32 [] [] =
+          rw (c.no_bounces.ensures.1, slice_empty (length a.seq.now) c.no_bounces.result.points, slice_empty (length a.seq.now) c.no_bounces.result.tris) at (c.back-trail.ensures.by_index_2 tri h) in
+          rw (← c.point_from-start.ensures, ← c.point_from-end.ensures)
+          (bounced_trail c.back-trail.result (length a.seq.now) _ c.fate_number.result c.put_points.new.points c.requires.in_bounds.1
+          (back
+          ∙ path_bounces planes tri c.point_from-start.result c.point_from-end.result l (λ j. get_or c.course_of-course.result.images j no_point) (length a.seq.now) (omega (arith, is.seq_room, c.requires.in_bounds.1)) (is.mirrored a.plane_triangles.now a.plane_edges.now) a.fade
+          ∙ ap (bounces_of tri a.fade planes c.point_from-start.result c.point_from-end.result) (whole a.seq.now l is.planes))
+          c.fate_number.ensures c.put_points.ensures)
+          );
       rest = same_length;
     }
 

@@ -6,10 +6,10 @@ settings_from-s-requires c = c.requires.counts_len
 
 pub build_planes-requires : goal.build_planes-requires
 build_planes-requires c = let p = c.requires in record {
-      triangles_lent = p.triangles_lent;
-      held = p.held;
-      planes_room = p.planes_room;
-    }
+  triangles_lent = p.triangles_lent;
+  held = p.held;
+  planes_room = p.planes_room;
+}
 
 pub shape_of-keys : goal.shape_of-keys
 shape_of-keys c = c.build_planes.auto.keys
@@ -55,7 +55,7 @@ shape_of-plane_edges c = c.build_planes.auto.plane_edges
 
 pub returns : goal.returns
 returns c = record {
-      by_index = λ tri t h. rw (← c.settings_from-s.ensures) (c.build_planes.ensures.by_index tri t h);
-      upper_bound = (rw (← c.settings_from-s.ensures) c.build_planes.ensures.upper_bound.0, c.build_planes.ensures.upper_bound.1);
-      rest = c.build_planes.ensures.rest;
-    }
+  by_index = λ tri t h. rw (← c.settings_from-s.ensures) (c.build_planes.ensures.by_index tri t h);
+  upper_bound = (rw (← c.settings_from-s.ensures) c.build_planes.ensures.upper_bound.0, c.build_planes.ensures.upper_bound.1);
+  rest = c.build_planes.ensures.rest;
+}

@@ -27,7 +27,7 @@ validate_image_path-verdict-requires c =
       scene_lent = c.requires.scene_lent;
       order_nonzero = (c.requires.in_bounds.0, c.requires.in_bounds.1, is.seq_room, crossings_within_lem a.counts.now a.setting_floats.now c.settings_from-s.result c.settings_from-s.ensures c.requires.in_bounds.2);
       by_index = planes_below a.seq.now l a.count (whole a.seq.now l is.planes)
-              c.requires.by_index;
+          c.requires.by_index;
       by_index_2 = is.mirrored a.plane_triangles.now a.plane_edges.now;
     }
 

@@ -48,11 +48,11 @@ returns c =
     let same-length-3 = simp length-set in
     let same-length-2 = c.search_images-f.auto.candidate_words in record {
       searched = (
-      λ tri t reads.
-      let f = c.search_images-f.result in
-      let k = three c.args.found.now f.images f.rays f.found c.requires.source_len.2 in
-      rw (k.zeroth, k.first, k.second, ← c.settings_from-s.ensures, ← c.point_from-from.ensures, ← c.point_from-to.ensures)
-      (c.search_images-f.ensures.searched tri t reads)
-      );
+          λ tri t reads.
+          let f = c.search_images-f.result in
+          let k = three c.args.found.now f.images f.rays f.found c.requires.source_len.2 in
+          rw (k.zeroth, k.first, k.second, ← c.settings_from-s.ensures, ← c.point_from-from.ensures, ← c.point_from-to.ensures)
+          (c.search_images-f.ensures.searched tri t reads)
+          );
       rest = (same_length, same-length-2, same-length-3);
     }

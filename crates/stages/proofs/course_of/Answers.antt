@@ -1,6 +1,5 @@
 -- `stages::course_of` meets its contract: the first k planes are there, and the images of their beginnings.
 use mathlib.Core.Path.{◌≡◌, refl}
-use Prim.Native.Nat.{◌-◌}
 use native.Mathlib.Omega.{arith}
 use lib.ListN.{length}
 use Rattle.stages.proofs.Courses.{course, coursed_none, coursed_more}

@@ -1,5 +1,4 @@
 -- `stages::put_points` meets its contract: the points before k stand in their places.
-use Prim.Native.Nat.{◌-◌}
 use mathlib.Core.Path.{refl, ◌∙◌}
 use native.Mathlib.Omega.{arith}
 use Rattle.stages.proofs.Courses.{points_more}
