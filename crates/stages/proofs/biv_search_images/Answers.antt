@@ -44,9 +44,7 @@ shape_of-found c = simp length-set
 
 pub returns : goal.returns
 returns c =
-    let same_length = c.search_images-f.auto.candidate_floats in
-    let same-length-3 = simp length-set in
-    let same-length-2 = c.search_images-f.auto.candidate_words in record {
+    record {
       searched = (
           λ tri t reads.
           let f = c.search_images-f.result in
@@ -54,5 +52,5 @@ returns c =
           rw (k.zeroth, k.first, k.second, ← c.settings_from-s.ensures, ← c.point_from-from.ensures, ← c.point_from-to.ensures)
           (c.search_images-f.ensures.searched tri t reads)
           );
-      rest = (same_length, same-length-2, same-length-3);
+      rest = (c.search_images-f.auto.candidate_floats, c.search_images-f.auto.candidate_words, simp length-set);
     }
