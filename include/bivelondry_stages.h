@@ -79,7 +79,7 @@ bool biv_intersect(const float *padded, size_t padded_len, const uint32_t *nodes
 
 /* ---- planes */
 
-/* planes/specs/Build.antt, planes_of. The mirror planes of the first m triangles of columns of n floats (what biv_load_scene left, with its
+/* planes/specs/Build.antt, planes_of_triangles. The mirror planes of the first m triangles of columns of n floats (what biv_load_scene left, with its
  * handles; m <= n <= 4,096), over their tree of nodes_count above 0 nodes in padded, nodes, leaf_order and leaves, by
  * the settings counts and setting_floats (as for biv_load_scene). Answers how many planes there are; they stand in plane_floats (12
  * each), plane_words (5 each), plane_triangles and plane_edges, as biv_path takes them. Least lengths: keys, low_keys and index 3 n, words and
