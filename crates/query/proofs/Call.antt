@@ -6,7 +6,7 @@ use mathlib.Core.List.{List, [], ◌∷◌}
 use native.Mathlib.Omega.{arith}
 use native.Mathlib.Nat.{add-le-add}
 use borrow.Author.Tests.{ne_eqb, ltb-false}
-use lib.Dec.{T, eqb, ltb}
+use lib.Dec.{T, ltb}
 use lib.ListN.{length}
 use lib.Ieee.{Float}
 use Rattle.float.specs.Literals.{zero32, one32}
@@ -21,11 +21,10 @@ use Rattle.scene.specs.Scene.{Scene}
 use Rattle.scene.specs.Refusals.{refusal1, refusal2, refusal3, refusal4, refusal5, first}
 use Rattle.scene.specs.Speed.{speed_of}
 use Rattle.placing.specs.Corners.{triangles, placings, refusal6}
-use Rattle.placing.specs.Loading.{first_refusal, loaded_of, left, Loading}
+use Rattle.placing.specs.Loading.{first_refusal, loaded_of, left}
 use Rattle.placing.specs.declared.Loaded.{Loaded}
 use Rattle.placing.specs.declared.Loaded.TheVariants.{Triangles}
 use Rattle.bounces.specs.Areas.{max_order}
-use Rattle.packet.specs.Limits.{most_taps}
 use Rattle.sequences.specs.Allowed.{most_planes, visited}
 use Rattle.cost.specs.Forecast.{most_rays}
 use Rattle.paths.specs.Path.{path_of}
@@ -33,7 +32,6 @@ use Rattle.paths.specs.declared.Fate.{Fate}
 use Rattle.paths.specs.declared.Fate.TheVariants.{TooFar, NotCrossed, OffSurface, TooLong, Faded, Blocked, Faint, Passed}
 use Rattle.paths.proofs.Bound.{path_rays}
 use Rattle.claim.specs.Answer.{Outcome, rays_of, rays_for, found, Answer, answer_of}
-use Rattle.claim.specs.Complete.{Complete}
 use Rattle.claim.specs.Query.{Query, refused, given, query_of}
 use Rattle.claim.proofs.Searching.{query_complete}
 use Rattle.search.specs.Outcome.{on_bytes, by_fate, outcome_of, outcomes_of}
@@ -41,7 +39,7 @@ use Rattle.search.proofs.Answers.{paths_proper}
 use Rattle.scene_bvh.specs.SceneTree.{tree_of}
 use Rattle.scene_planes.specs.ScenePlanes.{planes_for}
 use Rattle.answer.specs.Query.{path_for}
-use Rattle.answer.specs.Answer.{query_for, Answers, answered_of, output_of}
+use Rattle.answer.specs.Answer.{query_for, Answers, answered_of}
 use Rattle.answer.specs.declared.Answered.{Answered}
 use Rattle.answer.proofs.Silence.{used_most}
 use Rattle.front.specs.declared.Front.{Front}

@@ -22,11 +22,11 @@ use Rattle.placing.specs.Loading.{first_refusal}
 use Rattle.mirror.specs.Plane.{Plane}
 use Rattle.bounces.specs.Areas.{max_order}
 use Rattle.bounces.specs.Image.{lies_on_of}
-use Rattle.sequences.specs.Allowed.{most, allowed, visited}
+use Rattle.sequences.specs.Allowed.{most, visited}
 use Rattle.sequences.specs.Count.{firsts}
 use Rattle.sequences.proofs.Counting.{order_zero}
 use Rattle.cost.specs.Cost.{takes, cost_of}
-use Rattle.cost.specs.Forecast.{most_rays, Counts, Forecast}
+use Rattle.cost.specs.Forecast.{most_rays, Counts}
 use Rattle.cost.specs.declared.Cost.{Cost}
 use Rattle.cost.proofs.Forecasts.{refused as turned_away, forecast}
 use Rattle.claim.specs.Answer.{Outcome, fails, passes, add_tap, found, Answer, answer_of}

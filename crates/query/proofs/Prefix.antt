@@ -4,10 +4,10 @@
 --     prefix_calls      the same of two calls with equal C and lengths, by their contract, and that both are refused alike or neither
 --     prefix_stations   the same of two calls that both gave a result, where C and lengths differ
 --     old_limit         a list cut at the limit before note 7 is the first 64 taps of the list, with equal images and rays
-use Prim.Native.Nat.{ℕ, zero, suc, ◌≤◌, ◌<◌, min}
+use Prim.Native.Nat.{ℕ, zero, suc, ◌≤◌, min}
 use mathlib.Core.Path.{◌≡◌, refl, sym, ap, subst, ◌∙◌}
 use mathlib.Core.Bool.{Bool, true, false, cond}
-use mathlib.Core.List.{List, [], ◌∷◌, ◌++◌}
+use mathlib.Core.List.{List, []}
 use native.Mathlib.Omega.{arith}
 use lib.Ieee.{Float, le}
 use lib.Dec.{ltb}
@@ -52,7 +52,7 @@ use Rattle.answer.specs.Query.{path_for}
 use Rattle.answer.specs.Answer.{answered_of, output_of}
 use Rattle.answer.specs.declared.Answered.{Answered}
 use Rattle.query.specs.Areas.{Work, lengths_of}
-use Rattle.query.specs.Trace.{by_refusal, order_of, limit_of, query_in, trace_of, call_of, Traced}
+use Rattle.query.specs.Trace.{by_refusal, order_of, query_in, trace_of, call_of, Traced}
 use Rattle.query.specs.Lists.{with_list, FirstOf, ShortAndLong, old_most_taps, old_query_in}
 
 -- ---- what does not read it
