@@ -1,5 +1,5 @@
 -- What the answer of the pass says of the numbers that `biv_triangles_from_scene` gives for it.
-use mathlib.Core.Path.{◌≡◌, sym, subst}
+use mathlib.Core.Path.{◌≡◌, subst}
 use mathlib.Core.List.{List}
 use Prim.Native.Nat.{ℕ}
 use lib.Ieee.{Float}

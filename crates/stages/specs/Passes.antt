@@ -2,7 +2,6 @@
 use Rattle.std.specs.Prelude.{ℕ, Float, ◌≡◌, List, [], ◌∷◌}
 use Rattle.std.proofs.lemmas.List.Edits.{sets}
 use Rattle.scene.specs.Scene.{Mesh}
-use Rattle.placing.specs.declared.Placed.{Placed}
 use Rattle.placing.specs.Corners.{corners_all}
 use Rattle.placing.specs.Passing.{placed_of, PassedOver}
 use Rattle.placing.specs.TwoPasses.{refusal_of, kept_of, placings_of}

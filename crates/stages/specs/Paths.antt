@@ -1,6 +1,5 @@
 -- A path as numbers: the course of a sequence of planes, and what `biv_path` leaves for a verdict of `validate_image_path`.
 use Rattle.std.specs.Prelude.{ℕ, ◌+◌, ◌≤◌, ◌<◌, eqb, Float, length, get_or, take, ◌≡◌, cond, List, [], ◌∷◌}
-use Rattle.std.specs.Float.{nan}
 use Rattle.std.proofs.lemmas.List.Edits.{sets}
 use Rattle.float.specs.Literals.{zero32}
 use Rattle.vector.specs.declared.Vec3.{Vec3}

@@ -12,13 +12,6 @@ returns-then-counts-gt-LAST_CURVE c =
       refused = λ h. record { answer = refl; count = refl; bytes = refl; areas = refl };
     }
 
--- an array that is lent as a slice has its length
-pub settings_from-s-requires : goal.settings_from-s-requires
-settings_from-s-requires c = (c.settings_from-arg-1.given.0, c.settings_from-arg-2-1.given.0)
-
-pub point_from-from-requires : goal.point_from-from-requires
-point_from-from-requires c = c.point_from-arg-1.given.0
-
 pub mark_front-requires : goal.mark_front-requires
 mark_front-requires c =
     let p = c.planes_of-p.ensures in

@@ -1,5 +1,4 @@
 -- `packets::words::hex_bytes` meets its contract: there are no more digits than bytes seen.
-use Prim.Native.Nat.{◌-◌}
 use Rattle.packets.proofs.words.hex_bytes.Goals as goal
 
 pub hex_digit-d-requires : goal.hex_digit-d-requires

@@ -1,5 +1,4 @@
 -- `packets::words::hex_words` meets its contract: there are no more digits than bytes seen.
-use Prim.Native.Nat.{◌-◌}
 use Rattle.packets.proofs.words.hex_words.Goals as goal
 
 pub returns-then-b-eq61 : goal.returns-then-b-eq61

@@ -1,5 +1,4 @@
 -- `packets::words::numbers` meets its contract: each turn brings the last number nearer.
-use Prim.Native.Nat.{◌-◌}
 use Rattle.packets.proofs.words.numbers.Goals as goal
 
 pub loop-k-init : goal.loop-k-init
