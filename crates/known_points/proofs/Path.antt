@@ -1,9 +1,10 @@
 -- Case A's path by way of the floor.
-use mathlib.Core.Path.{◌≡◌, refl}
+use mathlib.Core.Path.{◌≡◌, refl, sym, subst}
+use Prim.Native.Nat.{◌+◌}
 use mathlib.Core.Bool.{true, false}
 use mathlib.Core.List.{[], ◌∷◌}
 use lib.IntN.{pos, negsuc}
-use lib.Ieee.{fin, add, sub, mul, div, neg, lt, le, eq, is_nan, of_bits, of_int, round}
+use lib.Ieee.{fin, binary32, add, sub, mul, div, neg, lt, le, eq, is_nan, of_bits, of_int, round}
 use Rattle.float.specs.Literals.{one32}
 use Rattle.float.specs.Compare.{min_of, max_of, abs_of, clamp_of, is_finite}
 use Rattle.float.specs.Sqrt.{isqrt, root_of, sqrt_of}
@@ -106,11 +107,30 @@ tap_is = refl
 abbrev way : Way
 way = record { gain = splat_of one32; total = fin false 5 (pos 0); from = source; rays = 36 }
 
+-- a segment's way by what the segment gives
+abbrev onward : Transmission → Vec3 → Way → Way
+onward t to w =
+    record {
+      gain = mul_of w.gain t.gain;
+      total = add binary32 w.total (distance3_of w.from to);
+      from = to;
+      rays = w.rays + t.rays;
+    }
+
+abbrev clear : Transmission
+clear = transmission (splat_of one32) 18
+
+clear_way : onward clear source (onward clear bounce (start_of listener)) ≡ way
+unfolding start_of distance3_of length3_of dot3_of sub3_of sqrt_of root_of isqrt splat_of mul_of add sub mul neg lt eq of_bits round
+clear_way = refl
+
 way_is :
     (soft : Vec3 → Vec3 → Transmission) → soft listener bounce ≡ transmission (splat_of one32) 18 → soft bounce source ≡ transmission (splat_of one32) 18 →
     way_of soft listener source (bounce ∷ []) ≡ way
-unfolding way_of go_all_of go_of start_of distance3_of length3_of dot3_of sub3_of sqrt_of root_of isqrt splat_of mul_of add sub mul neg lt eq of_bits round
-way_is soft first second = rw (first, second)
+unfolding way_of go_all_of go_of start_of
+way_is soft first second =
+    subst (λ (a : Transmission). onward (soft bounce source) source (onward a bounce (start_of listener)) ≡ way) (sym first)
+    (subst (λ (b : Transmission). onward b source (onward clear bounce (start_of listener)) ≡ way) (sym second) clear_way)
 
 usable : usable_of (fin false 5 (pos 0)) settings.max_reflection_distance ≡ true
 unfolding usable_of is_finite lt of_bits round

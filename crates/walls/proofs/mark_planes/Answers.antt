@@ -1,5 +1,5 @@
 -- `walls::mark_planes` meets its contract. The loop's invariant: the bytes before p are those of their planes.
-use Prim.Native.Nat.{◌-◌, ◌<◌}
+use Prim.Native.Nat.{◌<◌}
 use mathlib.Core.Path.{refl, sym, ◌∙◌}
 use native.Mathlib.Omega.{arith}
 use lib.ListN.{length, length-set}
