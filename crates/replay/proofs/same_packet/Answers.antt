@@ -1,5 +1,4 @@
 -- `replay::same_packet` meets its contract: each index is below the length, and each turn brings it nearer.
-use Prim.Native.Nat.{◌-◌}
 use Rattle.replay.proofs.same_packet.Goals as goal
 
 pub loop-k-init : goal.loop-k-init

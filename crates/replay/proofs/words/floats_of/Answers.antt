@@ -1,5 +1,4 @@
 -- `replay::words::floats_of` meets its contract: each index is below the length, and each turn brings it nearer.
-use Prim.Native.Nat.{◌-◌}
 use Rattle.replay.proofs.words.floats_of.Goals as goal
 
 pub put_float-requires : goal.put_float-requires

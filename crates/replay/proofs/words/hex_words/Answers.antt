@@ -1,5 +1,4 @@
 -- `replay::words::hex_words` meets its contract: there are no more digits than bytes seen.
-use Prim.Native.Nat.{◌-◌}
 use Rattle.replay.proofs.words.hex_words.Goals as goal
 
 pub hex_digit-requires : goal.hex_digit-requires
