@@ -10,7 +10,7 @@ ghost use Rattle.listing.specs.Printed as printed;
 
 use sequences::{Enumeration, MAX_IMAGE_NODES, MAX_IMAGE_ORDER, RECORD, enumerate};
 
-// The longest text that is read, a byte less than `io::buffer` holds: a longer input fills the buffer and is refused.
+// The longest text that is read, a byte less than the programs have room for: a longer input fills that room and is refused.
 const TEXT: usize = 4095;
 
 // Numbers are read up to here, which is past every bound on them.

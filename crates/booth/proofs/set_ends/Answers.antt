@@ -1,7 +1,6 @@
 -- `booth::set_ends` meets its contract: each turn is one mesh more.
 use borrow.Author.Rules.{rules}
 use native.Mathlib.Omega.{arith}
-use Prim.Native.Nat.{◌-◌}
 use Rattle.booth.proofs.set_ends.Goals as goal
 
 pub word-requires : goal.word-requires

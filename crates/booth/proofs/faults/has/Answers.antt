@@ -1,5 +1,4 @@
 -- `booth::faults::has` meets its contract: each turn is one byte more.
-use Prim.Native.Nat.{◌-◌}
 use Rattle.booth.proofs.faults.has.Goals as goal
 
 pub loop-i-init : goal.loop-i-init

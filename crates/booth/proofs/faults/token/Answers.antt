@@ -1,5 +1,4 @@
 -- `booth::faults::token` meets its contract: each turn is one token more.
-use Prim.Native.Nat.{◌-◌}
 use Rattle.booth.proofs.faults.token.Goals as goal
 
 pub next_token-t-requires : goal.next_token-t-requires

@@ -1,5 +1,4 @@
 -- `booth::heading::count_outside` meets its contract: each turn is one float more.
-use Prim.Native.Nat.{◌-◌}
 use Rattle.booth.proofs.heading.count_outside.Goals as goal
 
 pub loop-k-init : goal.loop-k-init

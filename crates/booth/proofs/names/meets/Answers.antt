@@ -1,5 +1,4 @@
 -- `booth::names::meets` meets its contract: each turn is one wall more.
-use Prim.Native.Nat.{◌-◌}
 use Rattle.booth.proofs.names.meets.Goals as goal
 
 pub walls_of-met-requires : goal.walls_of-met-requires

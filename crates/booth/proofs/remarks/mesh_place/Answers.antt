@@ -1,5 +1,4 @@
 -- `booth::remarks::mesh_place` meets its contract: each turn is one token more.
-use Prim.Native.Nat.{◌-◌}
 use Rattle.booth.proofs.remarks.mesh_place.Goals as goal
 
 pub next_token-word-requires : goal.next_token-word-requires

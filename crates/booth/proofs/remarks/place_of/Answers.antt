@@ -1,5 +1,4 @@
 -- `booth::remarks::place_of` meets its contract: each turn is one byte more.
-use Prim.Native.Nat.{◌-◌}
 use Rattle.booth.proofs.remarks.place_of.Goals as goal
 
 pub loop-i-init : goal.loop-i-init

@@ -1,5 +1,4 @@
 -- `booth::tags::set_planes` meets its contract: each turn is one plane more.
-use Prim.Native.Nat.{◌-◌}
 use Rattle.booth.proofs.tags.set_planes.Goals as goal
 
 pub set_plane-requires : goal.set_plane-requires

@@ -1,5 +1,4 @@
 -- `booth::tags::several` meets its contract: each turn is one triangle more.
-use Prim.Native.Nat.{◌-◌}
 use Rattle.booth.proofs.tags.several.Goals as goal
 
 pub loop-k-init : goal.loop-k-init
