@@ -1,7 +1,7 @@
 #!/usr/bin/env python3
 """Turns proofs of the older form (proofs/F/Proof.antt over `tie`) into Invariants.antt and Answers.antt.
 
-usage: to_answers.py NAMES CRATE [FUNCTION..]
+usage: port_answers.py NAMES CRATE [FUNCTION..]
 
 NAMES is the names.json that `rt check --generated DIR --old-names` writes, CRATE the crate's folder.
 It prints what it could not turn. The old file is moved to /tmp/old-proofs/CRATE/F.antt.
@@ -342,6 +342,16 @@ class Fn:
         env = {r: (r, []) for r in roots}      # name -> the place variable and the old fields behind it
         short = {r: r for r in roots}          # name -> what it now stands for
         out, i, plainly = [], 0, set()
+        def is_let(k):
+            """Whether a `let NAME =` stands before what is read, and its `in` at k."""
+            return ts[k] == 'in' and re.search(r'(?:^|\s)let\s+\S+\s+=\s+$', ''.join(out[-8:]))
+        def without_let(k):
+            """Takes the `let NAME =` back; answers what is behind its `in` at k."""
+            while out and out[-1] != 'let': out.pop()
+            out.pop()
+            k += 1
+            while k < len(ts) and ts[k].isspace(): k += 1
+            return k
         def letname():
             mm = re.search(r'(?:^|\s)(?:let|;)\s+(\S+)\s+=\s+$', ''.join(out[-10:]))
             if mm: return mm[1]
@@ -362,14 +372,10 @@ class Fn:
                 whole = name and k < len(ts) and ts[k] in ('in', ';')
                 only = all(x == 'before' for x in full)
                 if only:
-                    if whole and ts[k] == 'in' and re.search(r'(?:^|\s)let\s+\S+\s+=\s+$', ''.join(out[-8:])):
+                    if whole and is_let(k):
                         # the name of a place goes: its steps are c's own
                         env[name] = (root, full); short[name] = root; plainly.add(name)
-                        while out and out[-1] != 'let': out.pop()
-                        out.pop()
-                        k += 1
-                        while k < len(ts) and ts[k].isspace(): k += 1
-                        i = k; continue
+                        i = without_let(k); continue
                     if whole:
                         env[name] = (root, full); short[name] = root
                         out.append(root)
@@ -381,32 +387,21 @@ class Fn:
                     self.keep_whole = False
                     if whole and r.startswith('('):
                         env[name] = (root, full); plainly.add(name); short[name] = r
-                        if ts[k] == 'in' and re.search(r'(?:^|\s)let\s+\S+\s+=\s+$', ''.join(out[-8:])):
-                            while out and out[-1] != 'let': out.pop()
-                            out.pop()
-                            k += 1
-                            while k < len(ts) and ts[k].isspace(): k += 1
-                            i = k; continue
+                        if is_let(k):
+                            i = without_let(k); continue
                     st = short[t]
                     txt = r
                     if t in plainly: txt = r
                     elif t != root and r.startswith(st + '.') : txt = t + r[len(st):]
                     elif t != root and r == st: txt = t
                     bare = [x for x in full if x != 'before']
-                    if whole and ts[k] == 'in' and len(bare) == 1 and bare[0] not in ('args', 'requires', 'pre') and re.search(r'(?:^|\s)let\s+\S+\s+=\s+$', ''.join(out[-8:])):
+                    if whole and is_let(k) and len(bare) == 1 and bare[0] not in ('args', 'requires', 'pre'):
                         env[name] = (root, full); short[name] = r; plainly.add(name)
-                        while out and out[-1] != 'let': out.pop()
-                        out.pop()
-                        k += 1
-                        while k < len(ts) and ts[k].isspace(): k += 1
-                        i = k; continue
+                        i = without_let(k); continue
                     if whole:
                         env[name] = (root, full); short[name] = r
                     out.append(txt)
                 i = j; continue
-            if t in ('λ',):
-                # a bound name hides
-                pass
             out.append(t); i += 1
         return ''.join(out)
 
