@@ -658,7 +658,7 @@ def convert(crate_dir, names, contracts, wanted):
         for name, (d, old, hit) in named.items():
             for w in toks('\n'.join(re.sub(r'^\S+', '', x) for x in d.defs)):
                 if w in named: cited.add(w)
-        for name in cited:
+        for name in [x for x in named if x in cited]:
             d, old, hit = named[name]
             if not hit or len(d.defs) != 1: continue
             mm = re.match(r"(\S+)((?:\s+[^\s=]+)*?)\s+=(?=\s)(.*)$", d.defs[0], re.S)
