@@ -120,12 +120,10 @@ fn last_byte(s: &[u8]) -> u8 {
 }
 
 fn has(s: &[u8], b: u8) -> bool {
-    let mut i = 0;
-    while i < s.len() {
+    for i in 0..s.len() {
         if s[i] == b {
             return true;
         }
-        i += 1;
     }
     false
 }
@@ -245,10 +243,8 @@ pub(crate) fn say_wrong(rt: &impl ErrorBytes, s: &[u8], c: Cursor) -> io::Result
 // Token number n of a text, from 0.
 fn token(s: &[u8], n: usize) -> Token {
     let mut t = text::next_token(s, 0, 1);
-    let mut k = 0;
-    while k < n {
+    for k in 0..n {
         t = text::next_token(s, t.end, t.line);
-        k += 1;
     }
     t
 }

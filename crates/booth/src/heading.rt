@@ -63,10 +63,8 @@ fn counted(n: u32, x: f32) -> u32 {
 // How many of the first `end` floats lie outside 0 to 1.
 fn count_outside(rows: &[f32], end: usize) -> u32 {
     let mut n = 0;
-    let mut k = 0;
-    while k < end {
+    for k in 0..end {
         n = counted(n, crate::real(rows, k));
-        k += 1;
     }
     n
 }

@@ -334,8 +334,7 @@ fn set_ends(
 ) {
     let mut vertices = 0;
     let mut corners = 0;
-    let mut j = 0;
-    while j < 64 {
+    for j in 0..64 {
         vertices = plus(vertices, casefile::word(meshes, 3 * j));
         corners = plus(corners, casefile::word(meshes, 3 * j + 1));
         let kept = kept_of(
@@ -351,7 +350,6 @@ fn set_ends(
             corners,
         );
         set_word(ends, j, kept);
-        j += 1;
     }
 }
 

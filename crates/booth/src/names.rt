@@ -46,24 +46,20 @@ pub(crate) fn print_walls(rt: &impl Print, on: &[u8], order: u32, number: u32) -
 fn meets(on: &[u8], order: u32, number: u32, p: usize) -> bool {
     let met = walls_of(on, order, number);
     let planes = met.planes;
-    let mut k = 0;
-    while k < met.len {
+    for k in 0..met.len {
         if wall_at(planes, k) as usize == p {
             return true;
         }
-        k += 1;
     }
     false
 }
 
 // Whether one of the echoes does.
 fn occurs(taps: &[u32], on: &[u8], order: u32, count: usize, p: usize) -> bool {
-    let mut i = 0;
-    while i < count {
+    for i in 0..count {
         if meets(on, order, word_of(taps, i, 1), p) {
             return true;
         }
-        i += 1;
     }
     false
 }

@@ -76,12 +76,10 @@ fn marked(on: &[u8], k: usize) -> bool {
 
 // Whether the source lies on one of the planes.
 fn on_any(on: &[u8], planes: usize) -> bool {
-    let mut k = 0;
-    while k < planes {
+    for k in 0..planes {
         if marked(on, k) {
             return true;
         }
-        k += 1;
     }
     false
 }

@@ -9,8 +9,7 @@ fn mesh_place(s: &[u8], j: u8) -> usize {
     let name = next_token(s, word.end, 1);
     let mut at = name.end;
     let mut left = j;
-    let mut k = 0;
-    while k < s.len() {
+    for k in 0..s.len() {
         let t = next_token(s, at, 1);
         at = t.end;
         if is_mesh(s, t) {
@@ -19,7 +18,6 @@ fn mesh_place(s: &[u8], j: u8) -> usize {
             }
             left -= 1;
         }
-        k += 1;
     }
     s.len()
 }
@@ -40,12 +38,10 @@ fn stops(x: u8, b: u8) -> bool {
 
 // The place of the first byte b, or of a line's end, from `at` on; the text's end where there is neither.
 fn place_of(s: &[u8], at: usize, b: u8) -> usize {
-    let mut i = at;
-    while i < s.len() {
+    for i in at..s.len() {
         if stops(s[i], b) {
             return i;
         }
-        i += 1;
     }
     s.len()
 }

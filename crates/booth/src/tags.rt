@@ -51,12 +51,10 @@ fn byte(n: usize) -> u8 {
 
 // The first mesh whose triangles end behind triangle t.
 fn mesh_of(ends: &[u32], t: u32) -> u8 {
-    let mut j = 0;
-    while j < ends.len() {
+    for j in 0..ends.len() {
         if t < word(ends, j) {
             return byte(j);
         }
-        j += 1;
     }
     255
 }
@@ -71,12 +69,10 @@ fn plus(a: u32, b: usize) -> usize {
 
 // 1 where one of `count` triangles from place `first` on is of another mesh.
 fn several(triangles: &[u32], ends: &[u32], first: u32, count: u32, mesh: u8) -> u8 {
-    let mut k = 0;
-    while k < count as usize {
+    for k in 0..count as usize {
         if mesh_of(ends, word(triangles, plus(first, k))) != mesh {
             return 1;
         }
-        k += 1;
     }
     0
 }
@@ -117,9 +113,7 @@ pub(crate) fn set_planes(
     ends: &[u32],
     planes: usize,
 ) {
-    let mut p = 0;
-    while p < planes {
+    for p in 0..planes {
         set_plane(on, words, triangles, meshes, ends, p);
-        p += 1;
     }
 }

@@ -42,8 +42,7 @@ fn put_extents(triangles: &[f32], handles: &[u32], n: usize, count: usize, exten
     ensures { (i : ℕ) → i < count → (aabb_at_of extents.new i ≡ aabb_of triangles.now handles.now n i) ×
         (centroid_at_of extents.new i ≡ centroid_in triangles.now handles.now n i) }
 {
-    let mut i = 0;
-    while i < count {
+    for i in 0..count {
         let t = columns::triangle_at(triangles, handles, n, i);
         put_extent(
             extents,
@@ -51,7 +50,6 @@ fn put_extents(triangles: &[f32], handles: &[u32], n: usize, count: usize, exten
             geometry::from_corners(t.a, t.b, t.c),
             geometry::centroid(t),
         );
-        i += 1;
     }
 }
 
@@ -76,8 +74,7 @@ fn put_keys(
     ensures { (result ≡ all_finite (λ i. axis_of (centroid_in triangles.now handles.now n i) k) count) × (result ≡ true →
         KeysInOrder count keys.new (λ i. axis_of (centroid_in triangles.now handles.now n i) k)) }
 {
-    let mut i = 0;
-    while i < count {
+    for i in 0..count {
         let c = geometry::centroid(columns::triangle_at(triangles, handles, n, i));
         let x = vector::axis(c, k);
         if float::is_finite(x) {
@@ -85,7 +82,6 @@ fn put_keys(
         } else {
             return false;
         }
-        i += 1;
     }
     true
 }
@@ -141,10 +137,8 @@ fn number(leaf_order: &mut [u32])
     ensures { (leaf_order.new ≡ count_to 0 (length leaf_order.old)) ×
         Below (length leaf_order.old) leaf_order.new }
 {
-    let mut i = 0;
-    while i < leaf_order.len() {
+    for i in 0..leaf_order.len() {
         leaf_order[i] = i as u32;
-        i += 1;
     }
 }
 
@@ -213,10 +207,8 @@ fn pad_boxes(boxes: &[f32], count: usize, padded: &mut [f32])
     requires { (6 * count ≤ length boxes.now) × (6 * count ≤ length padded.old) }
     ensures { (i : ℕ) → i < count → box_at_of padded.new i ≡ padded_of (box_at_of boxes.now i) }
 {
-    let mut i = 0;
-    while i < count {
+    for i in 0..count {
         put_box(padded, i, geometry::padded(tree_build::box_at(boxes, i)));
-        i += 1;
     }
 }
 
@@ -244,8 +236,7 @@ fn put_rows(triangles: &[f32], n: usize, leaf_order: &[u32], leaves: &mut [f32])
         (corner_at_of leaves.new k ≡ vec_at_of triangles.now n (get_or leaf_order.now k 0)) ×
         (edges_at_of leaves.new k ≡ Rattle.columns.specs.Columns.edges_at_of triangles.now n (get_or leaf_order.now k 0)) }
 {
-    let mut k = 0;
-    while k < leaf_order.len() {
+    for k in 0..leaf_order.len() {
         let i = leaf_order[k] as usize;
         put_row(
             leaves,
@@ -253,7 +244,6 @@ fn put_rows(triangles: &[f32], n: usize, leaf_order: &[u32], leaves: &mut [f32])
             columns::corner_at(triangles, n, i),
             columns::edges_at(triangles, n, i),
         );
-        k += 1;
     }
 }
 

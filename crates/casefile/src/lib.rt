@@ -257,13 +257,11 @@ fn read_float(s: &[u8], c: Cursor, f: &mut [f32], k: usize) -> Cursor {
 // n whole numbers, from place k on.
 fn read_words(s: &[u8], c: Cursor, w: &mut [u32], k: usize, n: usize) -> Cursor {
     let mut d = c;
-    let mut j = 0;
-    while j < n {
+    for j in 0..n {
         d = read_word(s, d, w, plus(k, j));
         if d.wrong != 0 {
             return d;
         }
-        j += 1;
     }
     d
 }
@@ -271,13 +269,11 @@ fn read_words(s: &[u8], c: Cursor, w: &mut [u32], k: usize, n: usize) -> Cursor 
 // n floats, from place k on.
 fn read_floats(s: &[u8], c: Cursor, f: &mut [f32], k: usize, n: usize) -> Cursor {
     let mut d = c;
-    let mut j = 0;
-    while j < n {
+    for j in 0..n {
         d = read_float(s, d, f, plus(k, j));
         if d.wrong != 0 {
             return d;
         }
-        j += 1;
     }
     d
 }
@@ -343,10 +339,8 @@ fn read_probes(s: &[u8], c: Cursor, w: &mut [u32], f: &mut [f32]) -> Cursor {
 
 // No coefficient: the air takes nothing.
 fn no_air(w: &mut [u32]) {
-    let mut k = 0;
-    while k < BANDS {
+    for k in 0..BANDS {
         set_word(w, AIR + k, 0);
-        k += 1;
     }
 }
 
@@ -390,13 +384,11 @@ fn read_row(s: &[u8], c: Cursor, materials: &mut [f32], j: usize) -> Cursor {
 
 fn read_rows(s: &[u8], c: Cursor, materials: &mut [f32], n: usize) -> Cursor {
     let mut d = c;
-    let mut j = 0;
-    while j < n {
+    for j in 0..n {
         d = read_row(s, d, materials, j);
         if d.wrong != 0 {
             return d;
         }
-        j += 1;
     }
     d
 }
@@ -422,13 +414,11 @@ fn read_position(s: &[u8], c: Cursor, positions: &mut [f32], k: usize) -> Cursor
 // n vertices, from vertex k on.
 fn read_positions(s: &[u8], c: Cursor, positions: &mut [f32], k: usize, n: usize) -> Cursor {
     let mut d = c;
-    let mut j = 0;
-    while j < n {
+    for j in 0..n {
         d = read_position(s, d, positions, plus(k, j));
         if d.wrong != 0 {
             return d;
         }
-        j += 1;
     }
     d
 }
@@ -445,13 +435,11 @@ fn read_index(s: &[u8], c: Cursor, indices: &mut [u32], k: usize, j: usize) -> C
 // n indices, from place k on.
 fn read_indices(s: &[u8], c: Cursor, indices: &mut [u32], k: usize, n: usize) -> Cursor {
     let mut d = c;
-    let mut j = 0;
-    while j < n {
+    for j in 0..n {
         d = read_index(s, d, indices, plus(k, j), j);
         if d.wrong != 0 {
             return d;
         }
-        j += 1;
     }
     d
 }
@@ -532,13 +520,11 @@ fn read_meshes(
     n: usize,
 ) -> Cursor {
     let mut d = c;
-    let mut j = 0;
-    while j < n {
+    for j in 0..n {
         d = read_mesh(s, d, w, meshes, transforms, positions, indices, j);
         if d.wrong != 0 {
             return d;
         }
-        j += 1;
     }
     d
 }

@@ -26,10 +26,8 @@ fn marks_u64(area: &[u64], near: usize, far: usize) -> u64
     ensures { result ≡ 0 → Run 0 0 area.now near 64 × Run 0 0 area.now far 64 }
 {
     let mut marks: u64 = 0;
-    let mut k = 0;
-    while k < SPAN {
+    for k in 0..SPAN {
         marks |= area[near + k] | area[far + k];
-        k += 1;
     }
     marks
 }
@@ -38,10 +36,8 @@ fn blank_u64(area: &mut [u64], from: usize, to: usize)
     requires { (from ≤ to) × (to ≤ length area.old) }
     ensures { Wiped 0 0 area.old area.new from to }
 {
-    let mut i = from;
-    while i < to {
+    for i in from..to {
         area[i] = 0;
-        i += 1;
     }
 }
 
@@ -60,10 +56,8 @@ fn wipe_u64(area: &mut [u64])
     ensures { area.new ≡ replicate (length area.old) 0 }
 {
     let m = area.len() / PAIR;
-    let mut k = 0;
-    while k < m {
+    for k in 0..m {
         wipe_both_u64(area, SPAN * k, SPAN * (m + k));
-        k += 1;
     }
     blank_u64(area, PAIR * m, area.len());
 }
@@ -76,10 +70,8 @@ fn marks_u32(area: &[u32], near: usize, far: usize) -> u32
     ensures { result ≡ 0 → Run 0 0 area.now near 64 × Run 0 0 area.now far 64 }
 {
     let mut marks: u32 = 0;
-    let mut k = 0;
-    while k < SPAN {
+    for k in 0..SPAN {
         marks |= area[near + k] | area[far + k];
-        k += 1;
     }
     marks
 }
@@ -88,10 +80,8 @@ fn blank_u32(area: &mut [u32], from: usize, to: usize)
     requires { (from ≤ to) × (to ≤ length area.old) }
     ensures { Wiped 0 0 area.old area.new from to }
 {
-    let mut i = from;
-    while i < to {
+    for i in from..to {
         area[i] = 0;
-        i += 1;
     }
 }
 
@@ -110,10 +100,8 @@ fn wipe_u32(area: &mut [u32])
     ensures { area.new ≡ replicate (length area.old) 0 }
 {
     let m = area.len() / PAIR;
-    let mut k = 0;
-    while k < m {
+    for k in 0..m {
         wipe_both_u32(area, SPAN * k, SPAN * (m + k));
-        k += 1;
     }
     blank_u32(area, PAIR * m, area.len());
 }
@@ -138,8 +126,7 @@ fn marks_f32(area: &[f32], near: usize, far: usize) -> u32
     ensures { result ≡ 0 → Run zero32 nan area.now near 64 × Run zero32 nan area.now far 64 }
 {
     let mut marks: u32 = 0;
-    let mut k = 0;
-    while k < QUARTER {
+    for k in 0..QUARTER {
         let p = near + k;
         let q = far + k;
         marks |= mark(
@@ -152,7 +139,6 @@ fn marks_f32(area: &[f32], near: usize, far: usize) -> u32
             area[q + 32],
             area[q + 48],
         );
-        k += 1;
     }
     marks
 }
@@ -161,10 +147,8 @@ fn blank_f32(area: &mut [f32], from: usize, to: usize)
     requires { (from ≤ to) × (to ≤ length area.old) }
     ensures { Wiped zero32 nan area.old area.new from to }
 {
-    let mut i = from;
-    while i < to {
+    for i in from..to {
         area[i] = 0.0;
-        i += 1;
     }
 }
 
@@ -183,10 +167,8 @@ fn wipe_f32(area: &mut [f32])
     ensures { area.new ≡ replicate (length area.old) zero32 }
 {
     let m = area.len() / PAIR;
-    let mut k = 0;
-    while k < m {
+    for k in 0..m {
         wipe_both_f32(area, SPAN * k, SPAN * (m + k));
-        k += 1;
     }
     blank_f32(area, PAIR * m, area.len());
 }

@@ -122,19 +122,15 @@ pub fn put_triangle(triangles: &mut [f32], n: usize, i: usize, t: Triangle)
 pub fn clear_f32(area: &mut [f32])
     ensures { area.new ≡ replicate (length area.old) zero32 }
 {
-    let mut i = 0;
-    while i < area.len() {
+    for i in 0..area.len() {
         area[i] = 0.0;
-        i += 1;
     }
 }
 
 pub fn clear_u32(area: &mut [u32])
     ensures { area.new ≡ replicate (length area.old) 0 }
 {
-    let mut i = 0;
-    while i < area.len() {
+    for i in 0..area.len() {
         area[i] = 0;
-        i += 1;
     }
 }

@@ -93,10 +93,8 @@ fn series(m: u64, d: usize) -> u64
     ensures { result ≡ count.series m d }
 {
     let mut s = 0;
-    let mut k = 0;
-    while k < d {
+    for k in 0..d {
         s = m * s + 1;
-        k += 1;
     }
     s
 }
@@ -138,15 +136,13 @@ fn counts_of(m: u64, order: usize, images: u64) -> [u32; MAX_IMAGE_ORDER]
     let mut counts = [0; MAX_IMAGE_ORDER];
     let mut full = 0;
     let mut under = images;
-    let mut k = 0;
-    while k < order {
+    for k in 0..order {
         let block = series(m, order - k);
         full = m * full + under / block;
         let rest = under % block;
         let part = begun(rest);
         counts[k] = (full + part) as u32;
         under = rest - part;
-        k += 1;
     }
     counts
 }
@@ -157,10 +153,8 @@ fn rays_of(limit: u64, counts: [u32; MAX_IMAGE_ORDER]) -> u64
     ensures { result ≡ spec.rays_over limit 1 counts }
 {
     let mut rays = 0;
-    let mut k = 0;
-    while k < MAX_IMAGE_ORDER {
+    for k in 0..MAX_IMAGE_ORDER {
         rays += 18 * (limit + 1) * (k as u64 + 2) * wide(counts[k]);
-        k += 1;
     }
     rays
 }
@@ -171,10 +165,8 @@ fn words_of(t: usize, c: usize) -> usize
     ensures { result ≡ work_words t c }
 {
     let mut words = 0;
-    let mut i = 0;
-    while i < AREAS {
+    for i in 0..AREAS {
         words += WORDS[i] * (TRIPLES[i] * t + CANDIDATES[i] * c + MORE[i]);
-        i += 1;
     }
     words
 }

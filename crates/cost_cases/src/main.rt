@@ -121,13 +121,11 @@ fn mask(first: usize) -> [u8; PLANES]
     ensures { length result ≡ 6 }
 {
     let mut on = [1; PLANES];
-    let mut p = 0;
-    while p < PLANES {
+    for p in 0..PLANES {
         if p >= first {
             return on;
         }
         on[p] = 0;
-        p += 1;
     }
     on
 }
@@ -145,13 +143,11 @@ fn says(records: &[u8], at: usize, len: u8) -> u32 {
 // How many of the records have `len` planes.
 fn records_of(records: &[u8], total: usize, len: u8) -> u32 {
     let mut n = 0;
-    let mut i = 0;
-    while i < total {
+    for i in 0..total {
         if i >= MAX_IMAGE_NODES {
             return n;
         }
         n = std::num::wrapping_add_u32(n, says(records, i * RECORD + MAX_IMAGE_ORDER, len));
-        i += 1;
     }
     n
 }
@@ -182,11 +178,9 @@ fn compare_counts(counts: [u32; MAX_IMAGE_ORDER], records: &[u8], total: usize) 
         counts: 0,
         differ: 0,
     };
-    let mut k = 0;
-    while k < MAX_IMAGE_ORDER {
+    for k in 0..MAX_IMAGE_ORDER {
         let n = records_of(records, total, (k + 1) as u8);
         t = add(t, one(n == counts[k]));
-        k += 1;
     }
     t
 }
@@ -215,10 +209,8 @@ fn compare_orders(on: &[u8], first: usize, records: &mut [u8]) -> Tally {
         counts: 0,
         differ: 0,
     };
-    let mut order = 1;
-    while order <= MAX_IMAGE_ORDER {
+    for order in 1..=MAX_IMAGE_ORDER {
         t = add(t, compare_order(on, first, order, records));
-        order += 1;
     }
     t
 }
@@ -230,11 +222,9 @@ fn compare_firsts(planes: usize, records: &mut [u8]) -> Tally
         counts: 0,
         differ: 0,
     };
-    let mut first = 0;
-    while first <= planes {
+    for first in 0..=planes {
         let on = mask(first);
         t = add(t, compare_orders(&on[..planes], first, records));
-        first += 1;
     }
     t
 }
@@ -244,10 +234,8 @@ fn compare_planes(records: &mut [u8]) -> Tally {
         counts: 0,
         differ: 0,
     };
-    let mut planes = 1;
-    while planes <= PLANES {
+    for planes in 1..=PLANES {
         t = add(t, compare_firsts(planes, records));
-        planes += 1;
     }
     t
 }

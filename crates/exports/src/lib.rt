@@ -115,10 +115,8 @@ fn least_lengths(t: usize, room: usize) -> [usize; scene::AREAS]
     ensures { result ≡ least_lengths_of t room }
 {
     let mut lens = [0; scene::AREAS];
-    let mut i = 0;
-    while i < scene::AREAS {
+    for i in 0..scene::AREAS {
         lens[i] = scene::TRIPLES[i] * t + scene::CANDIDATES[i] * room + scene::MORE[i];
-        i += 1;
     }
     lens
 }

@@ -57,10 +57,8 @@ fn digest(start: u64, bytes: &[u8]) -> u64
     ensures { result < 4294967291 }
 {
     let mut sum = start;
-    let mut i = 0;
-    while i < bytes.len() {
+    for i in 0..bytes.len() {
         sum = (sum * 31 + bytes[i] as u64) % PRIME;
-        i += 1;
     }
     sum
 }

@@ -68,12 +68,10 @@ pub fn is_decimal(word: &[u8]) -> bool
     if word.len() == 0 {
         return false;
     }
-    let mut i = 0;
-    while i < word.len() {
+    for i in 0..word.len() {
         if is_digit(word[i]) {} else {
             return false;
         }
-        i += 1;
     }
     true
 }
@@ -91,10 +89,8 @@ fn value(word: &[u8]) -> usize
     ensures { result ≡ min (request.value_of word.now) request.cap }
 {
     let mut n = 0;
-    let mut i = 0;
-    while i < word.len() {
+    for i in 0..word.len() {
         n = push(n, word[i]);
-        i += 1;
     }
     n
 }
@@ -242,11 +238,9 @@ fn put_planes(planes: &[u8], out: &mut [u8], at: usize) -> usize
     ensures { text.Wrote (text.planes_of planes.now) out.old at out.new result }
 {
     let mut p = at;
-    let mut i = 0;
-    while i < planes.len() {
+    for i in 0..planes.len() {
         p = put(b' ', out, p);
         p = put_digits(planes[i] as usize, DIGITS, out, p);
-        i += 1;
     }
     p
 }
@@ -314,11 +308,9 @@ fn put_on(mask: usize, on: &mut [u8])
     ensures { on.new ≡ printed.on_bytes (length on.old) mask }
 {
     let mut m = mask;
-    let mut p = 0;
-    while p < on.len() {
+    for p in 0..on.len() {
         on[p] = (m % 2) as u8;
         m = m / 2;
-        p += 1;
     }
 }
 

@@ -264,8 +264,7 @@ fn snap_all(triangles: &[f32], n: usize, ray: Ray, plane_triangles: &[u32]) -> S
         result ≡ snap_all_of tri ray plane_triangles.now Snap.Missed }
 {
     let mut best = Snap::Missed;
-    let mut k = 0;
-    while k < plane_triangles.len() {
+    for k in 0..plane_triangles.len() {
         let i = plane_triangles[k] as usize;
         best = snap_on(
             columns::corner_at(triangles, n, i),
@@ -274,7 +273,6 @@ fn snap_all(triangles: &[f32], n: usize, ray: Ray, plane_triangles: &[u32]) -> S
             i,
             best,
         );
-        k += 1;
     }
     best
 }
@@ -299,8 +297,7 @@ fn find(triangles: &[f32], n: usize, p: Vec3, plane_triangles: &[u32]) -> Spot
     ensures { (tri : ℕ → Triangle) → AllRead tri triangles.now n plane_triangles.now →
         result ≡ find_of tri p plane_triangles.now }
 {
-    let mut k = 0;
-    while k < plane_triangles.len() {
+    for k in 0..plane_triangles.len() {
         let i = plane_triangles[k] as usize;
         if geometry::contains(
             columns::corner_at(triangles, n, i),
@@ -310,7 +307,6 @@ fn find(triangles: &[f32], n: usize, p: Vec3, plane_triangles: &[u32]) -> Spot
         ) {
             return Spot::Inside(i, p);
         }
-        k += 1;
     }
     Spot::Outside
 }

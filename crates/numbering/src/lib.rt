@@ -32,12 +32,10 @@ pub struct Walls {
 fn are_flags(on: &[u8]) -> bool
     ensures { result ≡ spec.flags on.now }
 {
-    let mut i = 0;
-    while i < on.len() {
+    for i in 0..on.len() {
         if on[i] > 1 {
             return false;
         }
-        i += 1;
     }
     true
 }
@@ -55,10 +53,8 @@ fn firsts(on: &[u8]) -> u32
     ensures { result ≡ firsts on.now }
 {
     let mut e = 0;
-    let mut p = 0;
-    while p < on.len() {
+    for p in 0..on.len() {
         e += counts(on[p]);
-        p += 1;
     }
     e
 }
@@ -75,10 +71,8 @@ fn block(m: u32, d: u32) -> u32
     ensures { result ≡ block_of m d }
 {
     let mut b = 0;
-    let mut k = 0;
-    while k < d {
+    for k in 0..d {
         b = least(CAP, 1 + m * b);
-        k += 1;
     }
     b
 }
@@ -125,14 +119,12 @@ fn first_plane(on: &[u8], q: u32) -> u8
     ensures { result ≡ nth (may on.now []) (length on.now) q }
 {
     let mut left = q;
-    let mut p = 0;
-    while p < on.len() {
+    for p in 0..on.len() {
         let c = counts(on[p]);
         if left < c {
             return p as u8;
         }
         left -= c;
-        p += 1;
     }
     0
 }

@@ -139,12 +139,10 @@ fn plus_unless(n: u64, so: bool) -> u64 {
 fn agrees(w: Walls, records: &[u8], at: u32) -> bool {
     let planes = w.planes;
     let from = at as usize * RECORD;
-    let mut i = 0;
-    while i < MAX_IMAGE_ORDER {
+    for i in 0..MAX_IMAGE_ORDER {
         if planes[i] != text::byte_at(records, from + i, 255) {
             return false;
         }
-        i += 1;
     }
     w.refusal == 0 && w.len == text::byte_at(records, from + MAX_IMAGE_ORDER, 255) as usize
 }
@@ -168,10 +166,8 @@ fn compare_all(
     images: u32,
 ) -> Tally {
     let mut t = before;
-    let mut n = 0;
-    while n < images {
+    for n in 0..images {
         t = compared(t, agrees(sequence_of(planes, order, on, n + 1), records, n));
-        n += 1;
     }
     t
 }
@@ -233,8 +229,7 @@ fn compare_rooms(records: &mut [u8]) -> Tally {
         refused: 0,
         differ: 0,
     };
-    let mut k = 0;
-    while k < MASKS * ORDERS * PLANES {
+    for k in 0..MASKS * ORDERS * PLANES {
         t = compare_mask(
             t,
             k / PLANES % ORDERS + 1,
@@ -242,7 +237,6 @@ fn compare_rooms(records: &mut [u8]) -> Tally {
             k / PLANES / ORDERS,
             records,
         );
-        k += 1;
     }
     t
 }

@@ -40,39 +40,33 @@ fn zeros() -> [u8; LONGEST]
 
 // Whether the words from `from` on are as they were.
 fn words_kept(a: &[u32], from: usize) -> bool {
-    let mut i = from;
-    while i < a.len() {
+    for i in from..a.len() {
         if a[i] != FILL {
             return false;
         }
-        i += 1;
     }
     true
 }
 
 // Whether the bytes from `from` on are as they were.
 fn bytes_kept(a: &[u8], from: usize) -> bool {
-    let mut i = from;
-    while i < a.len() {
+    for i in from..a.len() {
         if a[i] != FILL_BYTE {
             return false;
         }
-        i += 1;
     }
     true
 }
 
 // Whether `b` starts with the bytes of `a`.
 fn starts_with(b: &[u8], a: &[u8]) -> bool {
-    let mut i = 0;
-    while i < a.len() {
+    for i in 0..a.len() {
         if b.len() <= i {
             return false;
         }
         if a[i] != b[i] {
             return false;
         }
-        i += 1;
     }
     true
 }
@@ -85,13 +79,11 @@ fn check_step(c: u64, w: u32) -> u64 {
 // The check of the first `n` words.
 fn check_words(a: &[u32], n: usize) -> u64 {
     let mut c: u64 = 0;
-    let mut i = 0;
-    while i < n {
+    for i in 0..n {
         if a.len() <= i {
             return c;
         }
         c = check_step(c, a[i]);
-        i += 1;
     }
     c
 }

@@ -46,12 +46,10 @@ fn number(s: &[u8], at: usize) -> Found {
 // The numbers of the next seven words. Answers the place after them.
 pub(crate) fn numbers(s: &[u8], at: usize, to: &mut [u64; 7]) -> usize {
     let mut i = at;
-    let mut k = 0;
-    while k < 7 {
+    for k in 0..7 {
         let n = number(s, find(s, i, false));
         to[k] = n.value;
         i = n.next;
-        k += 1;
     }
     i
 }

@@ -70,8 +70,7 @@ fn edge_keys(
     ensures by_index { (t j : ℕ) → t < m → j < 3 →
         key_at keys.new low_keys.new (3 * t + j) ≡ side_number numbers.now n of.now t j }
 {
-    let mut t = 0;
-    while t < m {
+    for t in 0..m {
         let a = numbers[t];
         let b = numbers[n + t];
         let c = numbers[2 * n + t];
@@ -79,7 +78,6 @@ fn edge_keys(
         put_key(keys, low_keys, 3 * t, plane, a, b);
         put_key(keys, low_keys, 3 * t + 1, plane, b, c);
         put_key(keys, low_keys, 3 * t + 2, plane, c, a);
-        t += 1;
     }
 }
 
@@ -91,11 +89,9 @@ fn count_uses(first: &[u32], uses: &mut [u32])
     ensures { (k : ℕ) → k < length first.now → get_or uses.new k 0 ≡ count_in first.now k (length first.now) }
 {
     columns::clear_u32(uses);
-    let mut e = 0;
-    while e < first.len() {
+    for e in 0..first.len() {
         let k = first[e] as usize;
         uses[k] = uses[k] + 1;
-        e += 1;
     }
 }
 
@@ -262,11 +258,9 @@ pub fn put_border(
         (border_in triangles.now n first.now uses.now tris.now) }
 {
     let mut r = at;
-    let mut k = 0;
-    while k < tris.len() {
+    for k in 0..tris.len() {
         let t = tris[k];
         r = put_sides(triangles, n, t as usize, first, uses, plane_edges, r);
-        k += 1;
     }
     r
 }

@@ -114,11 +114,9 @@ fn reset(areas: &mut [f32], largest: &mut [u32], np: usize)
     requires { (np ≤ length areas.old) × (np ≤ length largest.old) }
     ensures { (p : ℕ) → p < np → best_at areas.new largest.new p ≡ (neg one32, none_of) }
 {
-    let mut p = 0;
-    while p < np {
+    for p in 0..np {
         areas[p] = -1.0;
         largest[p] = planes_patches::NONE;
-        p += 1;
     }
 }
 
@@ -183,11 +181,9 @@ fn largest_triangles(
         foldl (best_of (triangles_in triangles.now handles.now n m)) (neg one32, none_of) (tris_in of.now m p) }
 {
     reset(areas, largest, np);
-    let mut t = 0;
-    while t < m {
+    for t in 0..m {
         let p = of[t];
         meet(triangles, handles, n, t, p, np, areas, largest);
-        t += 1;
     }
 }
 
@@ -236,13 +232,11 @@ fn mark_open(
         eqb (get_or flags.new p 0) 0 ≡
         lies_between (probe_of tri k) (triangle_at_of triangles.now handles.now n (or_zero (get_or largest.now p 0))) reach }
 {
-    let mut p = 0;
-    while p < np {
+    for p in 0..np {
         let i = or_zero(largest[p]) as usize;
         let t = columns::triangle_at(triangles, handles, n, i);
         let buried = is_between(padded, nodes, leaf_order, leaves, handles, count, t, reach);
         flags[p] = flag(buried);
-        p += 1;
     }
 }
 
@@ -274,10 +268,8 @@ fn close_rows(flags: &[u32], np: usize, rows: &mut [f32], numbers: &mut [u32]) -
     ensures by_index_2 { (q : ℕ) → q < result → row_in rows.new q ≡ row_in rows.old (get_or (open_to flags.now np) q 0) }
 {
     let mut w = 0;
-    let mut p = 0;
-    while p < np {
+    for p in 0..np {
         w = close_row(flags, p, w, rows, numbers);
-        p += 1;
     }
     w
 }
@@ -298,11 +290,9 @@ fn renumber(of: &mut [u32], m: usize, numbers: &[u32])
     requires numbered { Numbered of.old m (length numbers.now) }
     ensures { (i : ℕ) → i < m → get_or of.new i none_of ≡ renumbered_of numbers.now (get_or of.old i none_of) }
 {
-    let mut i = 0;
-    while i < m {
+    for i in 0..m {
         let p = of[i];
         of[i] = renumbered(numbers, p);
-        i += 1;
     }
 }
 

@@ -23,11 +23,8 @@ fn count_up(index: &mut [u32])
     requires { length index.old ≤ 4294967296 }
     ensures { index.new ≡ up_to (length index.old) }
 {
-    let n = index.len();
-    let mut i = 0;
-    while i < n {
+    for i in 0..index.len() {
         index[i] = i as u32;
-        i += 1;
     }
 }
 
@@ -63,12 +60,10 @@ fn mark_run_starts(keys: &[u64], low_keys: &[u64], index: &[u32], first: &mut [u
         return;
     }
     let mut start = index[0];
-    let mut p = 0;
-    while p < n {
+    for p in 0..n {
         let x = index[p];
         start = run_start(keys, low_keys, start, x);
         first[x as usize] = start;
-        p += 1;
     }
 }
 
@@ -156,14 +151,12 @@ fn face_keys(numbers: &[u32], n: usize, keys: &mut [u64], low_keys: &mut [u64])
     ensures by_index { (i : ℕ) → i < n → key_at keys.new low_keys.new i ≡
         packed3 (get_or numbers.now i 0) (get_or numbers.now (n + i) 0) (get_or numbers.now (2 * n + i) 0) }
 {
-    let mut i = 0;
-    while i < n {
+    for i in 0..n {
         let a = numbers[i];
         let b = numbers[n + i];
         let c = numbers[2 * n + i];
         keys[i] = face_hi(a, b, c);
         low_keys[i] = face_lo(a, b, c);
-        i += 1;
     }
 }
 
@@ -260,14 +253,12 @@ fn point_keys(
     ensures by_index_3 { (q : ℕ) → q < put → get_or keys.new q 0 ≡ get_or keys.old q 0 }
     ensures by_index_4 { (q : ℕ) → q < put → get_or low_keys.new q 0 ≡ get_or low_keys.old q 0 }
 {
-    let mut i = 0;
-    while i < n {
+    for i in 0..n {
         let x = step(triangles[i + at], scale);
         let y = step(triangles[i + at + n], scale);
         let z = step(triangles[i + at + 2 * n], scale);
         keys[put + i] = pair(x, y);
         low_keys[put + i] = wide(z);
-        i += 1;
     }
 }
 

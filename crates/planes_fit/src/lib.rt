@@ -83,11 +83,9 @@ fn sums_of(rows: &[f32], np: usize, group: &[u32], seed: PatchRow) -> Sums
         area: 0.0,
         aabb,
     };
-    let mut k = 0;
-    while k < group.len() {
+    for k in 0..group.len() {
         let p = group[k] as usize;
         s = add_patch(normal, s, planes_patches::row_at(rows, p));
-        k += 1;
     }
     s
 }
@@ -116,11 +114,9 @@ fn mean_offset(triangles: &[f32], handles: &[u32], n: usize, normal: Vec3, tris:
         sum: 0.0,
         weight: 0.0,
     };
-    let mut k = 0;
-    while k < tris.len() {
+    for k in 0..tris.len() {
         let i = tris[k] as usize;
         s = add_height(normal, s, columns::triangle_at(triangles, handles, n, i));
-        k += 1;
     }
     s.sum / float::max(s.weight, 1e-12)
 }
@@ -148,8 +144,7 @@ fn spread_of(
     ensures { result ≡ spread_of (triangle_at_of triangles.now handles.now n) normal offset tris.now }
 {
     let mut s = 0.0;
-    let mut k = 0;
-    while k < tris.len() {
+    for k in 0..tris.len() {
         let i = tris[k] as usize;
         s = reach(
             normal,
@@ -157,7 +152,6 @@ fn spread_of(
             s,
             columns::triangle_at(triangles, handles, n, i),
         );
-        k += 1;
     }
     s
 }
@@ -251,11 +245,9 @@ fn name_group(group: &[u32], number: u32, group_of: &mut [u32])
     requires { Below (length group_of.old) group.now }
     ensures { (p : ℕ) → get_or group_of.new p 0 ≡ cond (has p group.now) number (get_or group_of.old p 0) }
 {
-    let mut k = 0;
-    while k < group.len() {
+    for k in 0..group.len() {
         let p = group[k] as usize;
         group_of[p] = number;
-        k += 1;
     }
 }
 
@@ -298,10 +290,8 @@ fn name_planes(of: &[u32], m: usize, group_of: &[u32], plane_of: &mut [u32])
     requires m_in_bounds_2 { m ≤ length plane_of.old }
     ensures { (t : ℕ) → t < m → get_or plane_of.new t none_of ≡ before_of (get_or group_of.now (get_or of.now t none_of) 0) }
 {
-    let mut t = 0;
-    while t < m {
+    for t in 0..m {
         plane_of[t] = plane_number(group_of, of[t]);
-        t += 1;
     }
 }
 
@@ -309,10 +299,8 @@ fn name_planes(of: &[u32], m: usize, group_of: &[u32], plane_of: &mut [u32])
 fn unpack(words: &mut [u32])
     ensures { words.new ≡ lows words.old }
 {
-    let mut i = 0;
-    while i < words.len() {
+    for i in 0..words.len() {
         words[i] = words[i] % 4096;
-        i += 1;
     }
 }
 
@@ -323,10 +311,8 @@ fn copy_f32(values: &[f32], area: &mut [f32], at: usize)
     ensures by_index { (k : ℕ) → k < length values.now → get_or area.new (at + k) nan ≡ get_or values.now k nan }
     ensures by_index_2 { (q : ℕ) → (q < at) ⊎ (at + length values.now ≤ q) → get_or area.new q nan ≡ get_or area.old q nan }
 {
-    let mut k = 0;
-    while k < values.len() {
+    for k in 0..values.len() {
         area[at + k] = values[k];
-        k += 1;
     }
 }
 
@@ -335,10 +321,8 @@ fn copy_u32(values: &[u32], area: &mut [u32], at: usize)
     ensures by_index { (k : ℕ) → k < length values.now → get_or area.new (at + k) 0 ≡ get_or values.now k 0 }
     ensures by_index_2 { (q : ℕ) → (q < at) ⊎ (at + length values.now ≤ q) → get_or area.new q 0 ≡ get_or area.old q 0 }
 {
-    let mut k = 0;
-    while k < values.len() {
+    for k in 0..values.len() {
         area[at + k] = values[k];
-        k += 1;
     }
 }
 
@@ -424,8 +408,7 @@ fn put_planes(
         plane_row_in (triangle_at_of triangles.now handles.now n) rows.now queue.now offsets.now
         plane_triangles.now mstarts.now g }
 {
-    let mut g = 0;
-    while g < ng {
+    for g in 0..ng {
         let from = offsets[g] as usize;
         let to = offsets[g + 1] as usize;
         let first = mstarts[g] as usize;
@@ -434,7 +417,6 @@ fn put_planes(
         let tris = &plane_triangles[first..end];
         let r = plane_row(triangles, handles, n, rows, np, group, tris, first);
         put_plane(group_floats, group_words, g, r);
-        g += 1;
     }
 }
 

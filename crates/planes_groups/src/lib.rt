@@ -81,12 +81,10 @@ fn seed_keys(
     ensures order_after { take np order.new ≡ up_to np }
     ensures by_index { (p : ℕ) → p < np → get_or keys.new p 0 ≡ seed_key_in rows.now tsorted.now tstarts.now p }
 {
-    let mut p = 0;
-    while p < np {
+    for p in 0..np {
         let first = first_triangle(tsorted, tstarts, np, p);
         keys[p] = descending_key(rows[PATCH_FLOATS * p + 4], first);
         order[p] = p as u32;
-        p += 1;
     }
 }
 

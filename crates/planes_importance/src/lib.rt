@@ -75,10 +75,8 @@ fn scene_box(triangles: &[f32], handles: &[u32], n: usize, m: usize) -> Aabb
     ensures { result ≡ scene_box_of (triangles_in triangles.now handles.now n m) }
 {
     let mut b = no_box();
-    let mut i = 0;
-    while i < m {
+    for i in 0..m {
         b = grow_by(b, columns::triangle_at(triangles, handles, n, i));
-        i += 1;
     }
     b
 }
@@ -133,11 +131,9 @@ fn moments_of(triangles: &[f32], handles: &[u32], n: usize, tris: &[u32]) -> Mom
         sum: zero,
         weight: 0.0,
     };
-    let mut k = 0;
-    while k < tris.len() {
+    for k in 0..tris.len() {
         let i = tris[k] as usize;
         s = add_moment(s, columns::triangle_at(triangles, handles, n, i));
-        k += 1;
     }
     s
 }
@@ -214,8 +210,7 @@ fn put_keys(
         (row_of group_floats.now group_words.now g) plane_triangles.now) (up_to (length index.old)) }
 {
     let count = index.len();
-    let mut g = 0;
-    while g < count {
+    for g in 0..count {
         let row = mirror::plane_at(group_floats, group_words, g);
         let from = row.first;
         let to = from + row.count;
@@ -229,7 +224,6 @@ fn put_keys(
             &plane_triangles[from..to],
         );
         index[g] = g as u32;
-        g += 1;
     }
 }
 

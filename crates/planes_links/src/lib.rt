@@ -254,13 +254,10 @@ fn link_all(row: &[u32], words: &mut [u64], from: usize) -> usize
     ensures by_index { (a b : ℕ) → b < most_triangles →
         has (word_of a b) (uppers words.new result) ≡ has (word_of a b) (uppers words.old from) || links_all (lows row.now) a b }
 {
-    let n = row.len();
     let mut k = from;
-    let mut i = 0;
-    while i < n {
+    for i in 0..row.len() {
         let p = row[i] % MOST_TRIANGLES;
         k = link_from(p, row, words, k);
-        i += 1;
     }
     k
 }
@@ -308,12 +305,10 @@ fn link_rows(sorted: &[u32], offsets: &[u32], rows: usize, words: &mut [u64]) ->
         has (word_of a b) (uppers words.new result) ≡ any_by (λ v. is_linked (row_in sorted.now offsets.now v) a b) (up_to rows) }
 {
     let mut k = 0;
-    let mut v = 0;
-    while v < rows {
+    for v in 0..rows {
         let a = offsets[v] as usize;
         let b = offsets[v + 1] as usize;
         k = link_row(&sorted[a..b], words, k);
-        v += 1;
     }
     k
 }

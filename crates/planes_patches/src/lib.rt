@@ -484,12 +484,10 @@ pub fn coplanar_patches(
 {
     columns::clear_u32(heads);
     let mut np = 0;
-    let mut t = 0;
-    while t < m {
+    for t in 0..m {
         np = turn(
             triangles, handles, n, first, t, np, rows, cells, heads, next, of,
         );
-        t += 1;
     }
     np
 }

@@ -76,8 +76,7 @@ fn put_ranked(
         (length index.now) }
 {
     let mut at = 0;
-    let mut r = 0;
-    while r < index.len() {
+    for r in 0..index.len() {
         let plane = mirror::plane_at(group_floats, group_words, index[r] as usize);
         let p = bordered(
             triangles,
@@ -91,7 +90,6 @@ fn put_ranked(
         );
         at += p.edges;
         planes_fit::put_plane(plane_floats, plane_words, r, p);
-        r += 1;
     }
 }
 

@@ -259,8 +259,7 @@ fn other_byte(b: u8, w: u32, k: usize) -> bool {
 
 // Whether the first n bytes are those of the words.
 fn same_packet(out: &[u8], packet: &[u32], n: usize) -> bool {
-    let mut k = 0;
-    while k < n {
+    for k in 0..n {
         if out.len() <= k {
             return false;
         }
@@ -270,7 +269,6 @@ fn same_packet(out: &[u8], packet: &[u32], n: usize) -> bool {
         if other_byte(out[k], packet[k / 4], k % 4) {
             return false;
         }
-        k += 1;
     }
     true
 }

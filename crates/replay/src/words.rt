@@ -39,9 +39,7 @@ fn put_float(to: &mut [f32], i: usize, w: u32) {
 
 // Each word as the float that has its bits.
 pub(crate) fn floats_of(words: &[u32], to: &mut [f32]) {
-    let mut i = 0;
-    while i < words.len() {
+    for i in 0..words.len() {
         put_float(to, i, words[i]);
-        i += 1;
     }
 }

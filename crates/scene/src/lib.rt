@@ -447,12 +447,10 @@ fn areas_short(t: usize, c: u32, lens: [usize; AREAS]) -> bool
     ensures { result ≡ short_of t c lens }
 {
     let room = wide(c);
-    let mut i = 0;
-    while i < AREAS {
+    for i in 0..AREAS {
         if lens[i] < TRIPLES[i] * t + CANDIDATES[i] * room + MORE[i] {
             return true;
         }
-        i += 1;
     }
     false
 }

@@ -96,8 +96,7 @@ fn put_taps(
     ensures { taps.new ≡
         sets taps.old 0 (all_words (taps_at candidate_floats.now candidate_words.now count positions.now)) }
 {
-    let mut k = 0;
-    while k < count {
+    for k in 0..count {
         put_tap(
             candidate_floats,
             candidate_words,
@@ -106,7 +105,6 @@ fn put_taps(
             taps,
             k,
         );
-        k += 1;
     }
 }
 

@@ -97,10 +97,8 @@ fn value(n: u64, word: &[u8]) -> u64
     ensures { (result ≡ foldl numbers.push n word.now) × (result ≤ numbers.word_end) }
 {
     let mut v = n;
-    let mut i = 0;
-    while i < word.len() {
+    for i in 0..word.len() {
         v = push(v, word[i]);
-        i += 1;
     }
     v
 }
@@ -268,12 +266,10 @@ pub fn hex_digit(b: u8) -> u8
 pub fn is_hex(word: &[u8]) -> bool
     ensures { result ≡ numbers.all_hex word.now }
 {
-    let mut i = 0;
-    while i < word.len() {
+    for i in 0..word.len() {
         if hex_digit(word[i]) == 16 {
             return false;
         }
-        i += 1;
     }
     true
 }
@@ -300,10 +296,8 @@ fn hex_value(word: &[u8]) -> u32
     ensures { result ≡ numbers.hex_value_of word.now }
 {
     let mut n: u32 = 0;
-    let mut i = 0;
-    while i < word.len() {
+    for i in 0..word.len() {
         n = push_hex(n, word[i]);
-        i += 1;
     }
     n
 }
@@ -480,14 +474,12 @@ fn token_start(s: &[u8], at: usize, from: u32) -> Place
 {
     let mut line = from;
     let mut remark = false;
-    let mut i = at;
-    while i < s.len() {
+    for i in at..s.len() {
         if begins(s[i], remark) {
             return Place { at: i, line };
         }
         remark = remark_after(s[i], remark);
         line = line_after(s[i], line);
-        i += 1;
     }
     Place { at: s.len(), line }
 }
@@ -526,12 +518,10 @@ pub fn same(a: &[u8], b: &[u8]) -> bool {
     if a.len() != b.len() {
         return false;
     }
-    let mut i = 0;
-    while i < a.len() {
+    for i in 0..a.len() {
         if a[i] != b[i] {
             return false;
         }
-        i += 1;
     }
     true
 }

@@ -62,11 +62,9 @@ pub fn bounds(extents: &[f32], n: usize, part: &[u32]) -> Aabb
     ensures { result ≡ bounds_of (aabb_at_of extents.now) part.now }
 {
     let mut acc = geometry::new_empty();
-    let mut i = 0;
-    while i < part.len() {
+    for i in 0..part.len() {
         let t = part[i] as usize;
         acc = geometry::union(acc, aabb_at(extents, t));
-        i += 1;
     }
     acc
 }
@@ -78,11 +76,9 @@ fn centroid_aabb(extents: &[f32], n: usize, part: &[u32]) -> Aabb
     ensures { result ≡ bounds_of (λ i. from_point_of (centroid_at_of extents.now i)) part.now }
 {
     let mut acc = geometry::new_empty();
-    let mut i = 0;
-    while i < part.len() {
+    for i in 0..part.len() {
         let t = part[i] as usize;
         acc = geometry::union(acc, geometry::from_point(centroid_at(extents, t)));
-        i += 1;
     }
     acc
 }

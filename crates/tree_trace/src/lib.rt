@@ -149,11 +149,9 @@ fn visit_leaf(
 {
     let end = start + len;
     let mut closest = best;
-    let mut k = start;
-    while k < end {
+    for k in start..end {
         let i = leaf_order[k] as usize;
         closest = visit(corner_at(leaves, k), edges_at(leaves, k), ray, i, closest);
-        k += 1;
     }
     closest
 }

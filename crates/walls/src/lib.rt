@@ -150,9 +150,7 @@ pub fn mark_planes(floats: &[f32], words: &[u32], source: Vec3, on: &mut [u8])
     ensures { (members : List ℕ) (edges : List Float) →
         on.new ≡ on_bytes (planes_in floats.now words.now members edges (length on.old)) source }
 {
-    let mut p = 0;
-    while p < on.len() {
+    for p in 0..on.len() {
         on[p] = lies_on(floats, words, p, source);
-        p += 1;
     }
 }

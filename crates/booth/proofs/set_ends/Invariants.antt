@@ -6,6 +6,3 @@ use Rattle.booth.proofs.set_ends.Given as goal
 
 abbrev pub invariant-loop-j : goal.invariant-loop-j
 invariant-loop-j l = length l.ends ≡ length l.initial.ends
-
-abbrev pub decreases-loop-j : goal.decreases-loop-j
-decreases-loop-j l = 64 - l.j

@@ -7,6 +7,3 @@ use Rattle.bvh.proofs.number.Given as goal
 
 abbrev pub invariant-loop-i : goal.invariant-loop-i
 invariant-loop-i l = (l.i ≤ length l.initial.leaf_order) × (length l.leaf_order ≡ length l.initial.leaf_order) × law.CountedTo l.leaf_order l.i
-
-abbrev pub decreases-loop-i : goal.decreases-loop-i
-decreases-loop-i l = length l.initial.leaf_order - l.i

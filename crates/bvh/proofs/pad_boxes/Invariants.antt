@@ -7,6 +7,3 @@ use Rattle.bvh.proofs.pad_boxes.Given as goal
 
 abbrev pub invariant-loop-i : goal.invariant-loop-i
 invariant-loop-i l = (l.i ≤ l.count) × (length l.padded ≡ length l.initial.padded) × law.PaddedTo l.boxes l.padded l.i
-
-abbrev pub decreases-loop-i : goal.decreases-loop-i
-decreases-loop-i l = l.count - l.i

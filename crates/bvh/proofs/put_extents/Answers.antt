@@ -17,11 +17,6 @@ triangle_at-t-requires c = let p = c.requires in let t = c.loop-i-test.true in (
 pub put_extent-requires : goal.put_extent-requires
 put_extent-requires c = let p = c.requires in let l = c.loop-i.invariant.1 in let t = c.loop-i-test.true in omega arith
 
-pub overflow_add-i : goal.overflow_add-i
-overflow_add-i c = let p = c.requires in let t = c.loop-i-test.true in omega (arith, c.well_formed.1.0.0)
-
-pub loop-i-smaller : goal.loop-i-smaller
-loop-i-smaller c = let t = c.loop-i-test.true in omega arith
 
 pub loop-i-preserved : goal.loop-i-preserved
 unfolding aabb_of centroid_in

@@ -7,6 +7,3 @@ use Rattle.bvh.proofs.put_extents.Given as goal
 
 abbrev pub invariant-loop-i : goal.invariant-loop-i
 invariant-loop-i l = (l.i ≤ l.count) × (length l.extents ≡ length l.initial.extents) × law.ExtentsTo l.triangles l.handles l.n l.extents l.i
-
-abbrev pub decreases-loop-i : goal.decreases-loop-i
-decreases-loop-i l = l.count - l.i

@@ -44,12 +44,6 @@ returns-else-is_finite c =
     let e : c.axis-x.result ≡ f c.loop-i.i = c.axis-x.ensures ∙ ap (λ (v : Vec3). axis_of v a.k) (c.centroid-c.ensures ∙ ap triangle.centroid_of c.triangle_at.ensures) in
     (sym (law.all_false f a.count c.loop-i.i c.loop-i-test.true (ap is_finite (sym e) ∙ sym c.is_finite.ensures ∙ c.if-is_finite.false)), λ z. law.not_both z)
 
-pub overflow_add-i : goal.overflow_add-i
-overflow_add-i c =
-    let p = c.requires in let t = c.loop-i-test.true in omega (arith, c.well_formed.1.0.0)
-
-pub loop-i-smaller : goal.loop-i-smaller
-loop-i-smaller c = let t = c.loop-i-test.true in omega arith
 
 pub loop-i-preserved : goal.loop-i-preserved
 unfolding centroid_in

@@ -10,6 +10,3 @@ use Rattle.bvh.proofs.put_keys.Given as goal
 abbrev pub invariant-loop-i : goal.invariant-loop-i
 invariant-loop-i l =
     (l.i ≤ l.count) × (length l.keys ≡ length l.initial.keys) × law.KeysTo (λ j. axis_of (centroid_in l.triangles l.handles l.n j) l.k) l.keys l.i
-
-abbrev pub decreases-loop-i : goal.decreases-loop-i
-decreases-loop-i l = l.count - l.i

@@ -7,6 +7,3 @@ use Rattle.bvh.proofs.put_rows.Given as goal
 
 abbrev pub invariant-loop-k : goal.invariant-loop-k
 invariant-loop-k l = (l.k ≤ length l.leaf_order) × (length l.leaves ≡ length l.initial.leaves) × law.RowsTo l.triangles l.n l.leaf_order l.leaves l.k
-
-abbrev pub decreases-loop-k : goal.decreases-loop-k
-decreases-loop-k l = length l.leaf_order - l.k

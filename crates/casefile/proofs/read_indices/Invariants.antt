@@ -6,6 +6,3 @@ use Rattle.casefile.proofs.read_indices.Given as goal
 
 abbrev pub invariant-loop-j : goal.invariant-loop-j
 invariant-loop-j l = length l.indices ≡ length l.initial.indices
-
-abbrev pub decreases-loop-j : goal.decreases-loop-j
-decreases-loop-j l = l.n - l.j

@@ -6,6 +6,3 @@ use Rattle.casefile.proofs.read_meshes.Given as goal
 
 abbrev pub invariant-loop-j : goal.invariant-loop-j
 invariant-loop-j l = (length l.w ≡ length l.initial.w) × (length l.meshes ≡ length l.initial.meshes) × (length l.transforms ≡ length l.initial.transforms) × (length l.positions ≡ length l.initial.positions) × (length l.indices ≡ length l.initial.indices)
-
-abbrev pub decreases-loop-j : goal.decreases-loop-j
-decreases-loop-j l = l.n - l.j

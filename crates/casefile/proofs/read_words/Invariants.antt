@@ -6,6 +6,3 @@ use Rattle.casefile.proofs.read_words.Given as goal
 
 abbrev pub invariant-loop-j : goal.invariant-loop-j
 invariant-loop-j l = length l.w ≡ length l.initial.w
-
-abbrev pub decreases-loop-j : goal.decreases-loop-j
-decreases-loop-j l = l.n - l.j

@@ -9,6 +9,3 @@ use Rattle.clearing.proofs.blank_f32.Given as goal
 
 abbrev pub invariant-loop-i : goal.invariant-loop-i
 invariant-loop-i l = (l.i ≤ l.to) × (length l.area ≡ length l.initial.area) × Wiped zero32 nan l.initial.area l.area l.from l.i
-
-abbrev pub decreases-loop-i : goal.decreases-loop-i
-decreases-loop-i l = l.to - l.i

@@ -7,6 +7,3 @@ use Rattle.clearing.proofs.blank_u32.Given as goal
 
 abbrev pub invariant-loop-i : goal.invariant-loop-i
 invariant-loop-i l = (l.i ≤ l.to) × (length l.area ≡ length l.initial.area) × Wiped 0 0 l.initial.area l.area l.from l.i
-
-abbrev pub decreases-loop-i : goal.decreases-loop-i
-decreases-loop-i l = l.to - l.i

@@ -8,6 +8,3 @@ use Rattle.clearing.proofs.marks_f32.Given as goal
 
 abbrev pub invariant-loop-k : goal.invariant-loop-k
 invariant-loop-k l = (l.k ≤ 16) × (l.marks ≡ 0 → Quarters zero32 nan l.area l.near l.k × Quarters zero32 nan l.area l.far l.k)
-
-abbrev pub decreases-loop-k : goal.decreases-loop-k
-decreases-loop-k l = 16 - l.k

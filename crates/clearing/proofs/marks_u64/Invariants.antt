@@ -6,6 +6,3 @@ use Rattle.clearing.proofs.marks_u64.Given as goal
 
 abbrev pub invariant-loop-k : goal.invariant-loop-k
 invariant-loop-k l = (l.k ≤ 64) × (l.marks ≡ 0 → Run 0 0 l.area l.near l.k × Run 0 0 l.area l.far l.k)
-
-abbrev pub decreases-loop-k : goal.decreases-loop-k
-decreases-loop-k l = 64 - l.k

@@ -5,6 +5,3 @@ use Rattle.clearing.proofs.wipe_u32.Given as goal
 
 abbrev pub invariant-loop-k : goal.invariant-loop-k
 invariant-loop-k l = Halves 0 0 l.initial.area l.area l.m l.k
-
-abbrev pub decreases-loop-k : goal.decreases-loop-k
-decreases-loop-k l = l.m - l.k

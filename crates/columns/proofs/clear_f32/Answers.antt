@@ -9,8 +9,6 @@ use Rattle.columns.proofs.clear_f32.Goals as goal
 pub loop-i-init : goal.loop-i-init
 loop-i-init c = record { within = omega arith; len = refl; done = refl }
 
-pub loop-i-smaller : goal.loop-i-smaller
-loop-i-smaller c = simp length-set (omega arith)
 
 pub loop-i-preserved : goal.loop-i-preserved
 loop-i-preserved c = clearing_more zero32 _ _ _ c.loop-i-test.true c.loop-i.invariant

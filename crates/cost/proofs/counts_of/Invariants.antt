@@ -5,6 +5,3 @@ use Rattle.cost.proofs.counts_of.Given as goal
 
 abbrev pub invariant-loop-k : goal.invariant-loop-k
 invariant-loop-k l = Turned l.m l.order l.images l.counts l.k l.full l.under
-
-abbrev pub decreases-loop-k : goal.decreases-loop-k
-decreases-loop-k l = l.order - l.k

@@ -5,6 +5,3 @@ use Rattle.cost.proofs.rays_of.Given as goal
 
 abbrev pub invariant-loop-k : goal.invariant-loop-k
 invariant-loop-k l = Rays l.limit l.counts l.rays l.k
-
-abbrev pub decreases-loop-k : goal.decreases-loop-k
-decreases-loop-k l = 8 - l.k

@@ -4,6 +4,3 @@ use Rattle.cost_cases.proofs.compare_firsts.Given as goal
 
 abbrev pub invariant-loop-first : goal.invariant-loop-first
 invariant-loop-first l = (l.first ≤ suc l.planes) × (length l.records ≡ length l.initial.records)
-
-abbrev pub decreases-loop-first : goal.decreases-loop-first
-decreases-loop-first l = suc l.planes - l.first

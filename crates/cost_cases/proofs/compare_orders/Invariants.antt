@@ -4,6 +4,3 @@ use Rattle.cost_cases.proofs.compare_orders.Given as goal
 
 abbrev pub invariant-loop-order : goal.invariant-loop-order
 invariant-loop-order l = (l.order ≤ 9) × (length l.records ≡ length l.initial.records)
-
-abbrev pub decreases-loop-order : goal.decreases-loop-order
-decreases-loop-order l = 9 - l.order

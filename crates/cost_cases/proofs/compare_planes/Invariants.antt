@@ -4,6 +4,3 @@ use Rattle.cost_cases.proofs.compare_planes.Given as goal
 
 abbrev pub invariant-loop-planes : goal.invariant-loop-planes
 invariant-loop-planes l = (l.planes ≤ 7) × (length l.records ≡ length l.initial.records)
-
-abbrev pub decreases-loop-planes : goal.decreases-loop-planes
-decreases-loop-planes l = 7 - l.planes

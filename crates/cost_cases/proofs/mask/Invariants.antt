@@ -4,6 +4,3 @@ use Rattle.cost_cases.proofs.mask.Given as goal
 
 abbrev pub invariant-loop-p : goal.invariant-loop-p
 invariant-loop-p l = (l.p ≤ 6) × (length l.on ≡ 6)
-
-abbrev pub decreases-loop-p : goal.decreases-loop-p
-decreases-loop-p l = 6 - l.p

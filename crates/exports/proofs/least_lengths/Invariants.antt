@@ -7,6 +7,3 @@ use Rattle.exports.proofs.least_lengths.Given as goal
 
 abbrev pub invariant-loop-i : goal.invariant-loop-i
 invariant-loop-i l = (l.i ≤ 20) × (length l.lens ≡ 20) × (take l.i l.lens ≡ take l.i (least_lengths_of l.t l.room))
-
-abbrev pub decreases-loop-i : goal.decreases-loop-i
-decreases-loop-i l = 20 - l.i

@@ -7,6 +7,3 @@ use Rattle.listing.proofs.is_decimal.Given as goal
 
 abbrev pub invariant-loop-i : goal.invariant-loop-i
 invariant-loop-i l = all is_digit_byte (drop l.i l.word) ≡ all is_digit_byte l.word
-
-abbrev pub decreases-loop-i : goal.decreases-loop-i
-decreases-loop-i l = length l.word - l.i

@@ -9,6 +9,3 @@ use Rattle.listing.proofs.put_on.Given as goal
 abbrev pub invariant-loop-p : goal.invariant-loop-p
 invariant-loop-p l =
     (l.p ≤ length l.initial.on) × (length l.on ≡ length l.initial.on) × (sets l.on l.p (on_bytes (length l.initial.on - l.p) l.m) ≡ on_bytes (length l.initial.on) l.mask)
-
-abbrev pub decreases-loop-p : goal.decreases-loop-p
-decreases-loop-p l = length l.initial.on - l.p

@@ -8,6 +8,3 @@ use Rattle.listing.proofs.put_planes.Given as goal
 abbrev pub invariant-loop-i : goal.invariant-loop-i
 invariant-loop-i l =
     (l.i ≤ length l.planes) × (length l.out ≡ length l.initial.out) × (l.p ≤ l.at + (1 + most_digits) * l.i) × Wrote (planes_of (take l.i l.planes)) l.initial.out l.at l.out l.p
-
-abbrev pub decreases-loop-i : goal.decreases-loop-i
-decreases-loop-i l = length l.planes - l.i

@@ -7,6 +7,3 @@ use Rattle.listing.proofs.value.Given as goal
 
 abbrev pub invariant-loop-i : goal.invariant-loop-i
 invariant-loop-i l = (l.i ≤ length l.word) × (l.n ≡ min (value_of (take l.i l.word)) cap)
-
-abbrev pub decreases-loop-i : goal.decreases-loop-i
-decreases-loop-i l = length l.word - l.i

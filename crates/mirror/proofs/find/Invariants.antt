@@ -10,6 +10,3 @@ use Rattle.mirror.proofs.find.Given as goal
 abbrev pub invariant-loop-k : goal.invariant-loop-k
 invariant-loop-k l =
     (tri : ℕ → Triangle) → AllRead tri l.triangles l.n l.plane_triangles → find_of tri l.p (drop l.k l.plane_triangles) ≡ find_of tri l.p l.plane_triangles
-
-abbrev pub decreases-loop-k : goal.decreases-loop-k
-decreases-loop-k l = length l.plane_triangles - l.k

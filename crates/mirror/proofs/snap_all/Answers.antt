@@ -23,8 +23,6 @@ pub edges_at-requires : goal.edges_at-requires
 unfolding Below
 edges_at-requires c = (c.requires.0, c.requires.1 _ c.loop-k-test.true)
 
-pub overflow_add-k : goal.overflow_add-k
-overflow_add-k c = omega (arith, c.well_formed, c.loop-k-test.true)
 
 pub loop-k-preserved : goal.loop-k-preserved
 unfolding AllRead

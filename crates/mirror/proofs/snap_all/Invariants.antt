@@ -10,6 +10,3 @@ use Rattle.mirror.proofs.snap_all.Given as goal
 abbrev pub invariant-loop-k : goal.invariant-loop-k
 invariant-loop-k l =
     (tri : ℕ → Triangle) → AllRead tri l.triangles l.n l.plane_triangles → snap_all_of tri l.ray (drop l.k l.plane_triangles) l.best ≡ snap_all_of tri l.ray l.plane_triangles l.initial.best
-
-abbrev pub decreases-loop-k : goal.decreases-loop-k
-decreases-loop-k l = length l.plane_triangles - l.k

@@ -7,6 +7,3 @@ use Rattle.numbering.proofs.are_flags.Given as goal
 
 abbrev pub invariant-loop-i : goal.invariant-loop-i
 invariant-loop-i l = (l.i ≤ length l.on) × (flags (drop l.i l.on) ≡ flags l.on)
-
-abbrev pub decreases-loop-i : goal.decreases-loop-i
-decreases-loop-i l = length l.on - l.i

@@ -9,6 +9,3 @@ use Rattle.numbering.proofs.first_plane.Given as goal
 
 abbrev pub invariant-loop-p : goal.invariant-loop-p
 invariant-loop-p l = (l.p ≤ length l.on) × (l.left + count (may l.on []) l.p ≡ l.q)
-
-abbrev pub decreases-loop-p : goal.decreases-loop-p
-decreases-loop-p l = length l.on - l.p

@@ -4,6 +4,3 @@ use Rattle.numbering_cases.proofs.compare_all.Given as goal
 
 abbrev pub invariant-loop-n : goal.invariant-loop-n
 invariant-loop-n l = l.n ≤ l.images
-
-abbrev pub decreases-loop-n : goal.decreases-loop-n
-decreases-loop-n l = l.images - l.n

@@ -6,6 +6,3 @@ use Rattle.numbering_cases.proofs.compare_rooms.Given as goal
 
 abbrev pub invariant-loop-k : goal.invariant-loop-k
 invariant-loop-k l = length l.records ≡ length l.initial.records
-
-abbrev pub decreases-loop-k : goal.decreases-loop-k
-decreases-loop-k l = 640 - l.k

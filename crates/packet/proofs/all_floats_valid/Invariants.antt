@@ -8,6 +8,3 @@ use Rattle.packet.proofs.all_floats_valid.Given as goal
 
 abbrev pub invariant-loop-i : goal.invariant-loop-i
 invariant-loop-i l = (l.i ≤ l.count) × (all valid_floats (taps_of l.count l.taps) ≡ all valid_floats (taps_from l.count l.i l.taps))
-
-abbrev pub decreases-loop-i : goal.decreases-loop-i
-decreases-loop-i l = l.count - l.i

@@ -13,6 +13,3 @@ use Rattle.packet.proofs.all_floats_valid_by.Given as goal
 
 abbrev pub invariant-loop-i : goal.invariant-loop-i
 invariant-loop-i l = (l.i ≤ l.count) × (l.at ≤ length l.b) × (has_only_taps (l.count - l.i) (drop l.at l.b) ≡ true) × (taps_from l.count l.i l.taps ≡ map in_area (taps_in (l.count - l.i) (drop l.at l.b))) × (all valid_floats (taps_in l.count (drop head_bytes l.b)) ≡ all valid_floats (taps_in (l.count - l.i) (drop l.at l.b)))
-
-abbrev pub decreases-loop-i : goal.decreases-loop-i
-decreases-loop-i l = l.count - l.i

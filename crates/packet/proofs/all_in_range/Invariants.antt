@@ -8,6 +8,3 @@ use Rattle.packet.proofs.all_in_range.Given as goal
 
 abbrev pub invariant-loop-i : goal.invariant-loop-i
 invariant-loop-i l = (l.i ≤ l.count) × (all (in_range l.images) (taps_of l.count l.taps) ≡ all (in_range l.images) (taps_from l.count l.i l.taps))
-
-abbrev pub decreases-loop-i : goal.decreases-loop-i
-decreases-loop-i l = l.count - l.i

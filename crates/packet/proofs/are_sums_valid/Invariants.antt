@@ -12,6 +12,3 @@ use Rattle.packet.proofs.are_sums_valid.Given as goal
 
 abbrev pub invariant-loop-i : goal.invariant-loop-i
 invariant-loop-i l = (l.i ≤ l.count) × (all finite_gains (taps_from l.count l.i l.taps) ≡ true) × (falling infinity (map sum_of_squared_gains (taps_of l.count l.taps)) ≡ falling l.last (map sum_of_squared_gains (taps_from l.count l.i l.taps)))
-
-abbrev pub decreases-loop-i : goal.decreases-loop-i
-decreases-loop-i l = l.count - l.i

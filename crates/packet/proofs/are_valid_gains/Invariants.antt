@@ -7,6 +7,3 @@ use Rattle.packet.proofs.are_valid_gains.Given as goal
 
 abbrev pub invariant-loop-k : goal.invariant-loop-k
 invariant-loop-k l = (l.k ≤ 8) × (valid_gains l.bits (window l.at 0 l.taps) ≡ valid_gains l.m (window l.at l.k l.taps))
-
-abbrev pub decreases-loop-k : goal.decreases-loop-k
-decreases-loop-k l = 8 - l.k

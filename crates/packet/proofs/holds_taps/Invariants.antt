@@ -8,6 +8,3 @@ use Rattle.packet.proofs.holds_taps.Given as goal
 
 abbrev pub invariant-loop-i : goal.invariant-loop-i
 invariant-loop-i l = (l.i ≤ l.count) × (l.at ≤ length l.b) × (has_only_taps l.count (drop head_bytes l.b) ≡ has_only_taps (l.count - l.i) (drop l.at l.b))
-
-abbrev pub decreases-loop-i : goal.decreases-loop-i
-decreases-loop-i l = l.count - l.i

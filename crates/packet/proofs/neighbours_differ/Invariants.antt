@@ -7,6 +7,3 @@ use Rattle.packet.proofs.neighbours_differ.Given as goal
 
 abbrev pub invariant-loop-i : goal.invariant-loop-i
 invariant-loop-i l = (1 ≤ l.i) × (none_repeats l.keys ≡ none_repeats (drop (l.i - 1) l.keys))
-
-abbrev pub decreases-loop-i : goal.decreases-loop-i
-decreases-loop-i l = length l.keys - l.i

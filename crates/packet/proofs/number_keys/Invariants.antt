@@ -12,6 +12,3 @@ use Rattle.packet.proofs.number_keys.Given as goal
 
 abbrev pub invariant-loop-i : goal.invariant-loop-i
 invariant-loop-i l = (l.i ≤ length l.initial.keys) × (length l.keys ≡ length l.initial.keys) × (sets l.keys l.i (keys_of (map number_of (taps_from (length l.initial.keys) l.i l.taps))) ≡ sets l.initial.keys 0 (keys_of (map number_of (taps_of (length l.initial.keys) l.taps))))
-
-abbrev pub decreases-loop-i : goal.decreases-loop-i
-decreases-loop-i l = length l.initial.keys - l.i

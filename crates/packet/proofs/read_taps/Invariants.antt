@@ -11,6 +11,3 @@ use Rattle.packet.proofs.read_taps.Given as goal
 
 abbrev pub invariant-loop-i : goal.invariant-loop-i
 invariant-loop-i l = (l.i ≤ l.count) × (length l.area ≡ length l.initial.area) × (l.at ≤ length l.b) × (has_only_taps (l.count - l.i) (drop l.at l.b) ≡ true) × (sets l.area (l.i * tap_words) (all_words (taps_in (l.count - l.i) (drop l.at l.b))) ≡ sets l.initial.area 0 (all_words (taps_in l.count (drop head_bytes l.b))))
-
-abbrev pub decreases-loop-i : goal.decreases-loop-i
-decreases-loop-i l = l.count - l.i

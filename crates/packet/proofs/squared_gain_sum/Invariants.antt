@@ -10,6 +10,3 @@ use Rattle.packet.proofs.squared_gain_sum.Given as goal
 
 abbrev pub invariant-loop-k : goal.invariant-loop-k
 invariant-loop-k l = (l.k ≤ 8) × (all finite_bits (window l.at l.k l.taps) ≡ true) × (squared_sum (window l.at 0 l.taps) ≡ foldl plus_square l.s (window l.at l.k l.taps))
-
-abbrev pub decreases-loop-k : goal.decreases-loop-k
-decreases-loop-k l = 8 - l.k

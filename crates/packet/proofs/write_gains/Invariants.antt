@@ -9,6 +9,3 @@ use Rattle.packet.proofs.write_gains.Given as goal
 
 abbrev pub invariant-loop-k : goal.invariant-loop-k
 invariant-loop-k l = (l.k ≤ 8) × (length l.out ≡ length l.initial.out) × (l.p ≤ l.from + 4 * l.k) × (sets l.out l.p (gain_bytes l.m (window l.at l.k l.taps)) ≡ sets l.initial.out l.from (gain_bytes l.bits (window l.at 0 l.taps))) × (l.p + length (gain_bytes l.m (window l.at l.k l.taps)) ≡ l.from + length (gain_bytes l.bits (window l.at 0 l.taps)))
-
-abbrev pub decreases-loop-k : goal.decreases-loop-k
-decreases-loop-k l = 8 - l.k

@@ -13,6 +13,3 @@ use Rattle.packet.proofs.write_taps.Given as goal
 
 abbrev pub invariant-loop-i : goal.invariant-loop-i
 invariant-loop-i l = (l.i ≤ l.count) × (length l.out ≡ length l.initial.out) × (l.p ≤ head_bytes + l.i * longest_tap) × (all (in_range l.images) (taps_from l.count l.i l.taps) ≡ true) × (sets l.out l.p (taps_bytes (taps_from l.count l.i l.taps)) ≡ sets l.initial.out head_bytes (taps_bytes (taps_of l.count l.taps))) × (l.p + length (taps_bytes (taps_from l.count l.i l.taps)) ≡ head_bytes + length (taps_bytes (taps_of l.count l.taps)))
-
-abbrev pub decreases-loop-i : goal.decreases-loop-i
-decreases-loop-i l = l.count - l.i

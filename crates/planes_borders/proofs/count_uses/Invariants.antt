@@ -6,6 +6,3 @@ use Rattle.planes_borders.proofs.count_uses.Given as goal
 
 abbrev pub invariant-loop-e : goal.invariant-loop-e
 invariant-loop-e l = Counted l.first l.uses l.e
-
-abbrev pub decreases-loop-e : goal.decreases-loop-e
-decreases-loop-e l = length l.first - l.e

@@ -16,8 +16,6 @@ put_key-requires c =
 pub overflow_mul-t-in-loop-t : goal.overflow_mul-t-in-loop-t
 overflow_mul-t-in-loop-t c = let h = c.loop-t-test.true in let p = c.requires.keys_len in omega arith
 
-pub overflow_add-t : goal.overflow_add-t
-overflow_add-t c = let h = c.loop-t-test.true in let p = c.requires.keys_len in omega arith
 
 pub put_key-requires-in-loop-t : goal.put_key-requires-in-loop-t
 put_key-requires-in-loop-t c =
@@ -36,8 +34,6 @@ put_key-requires-in-loop-t-2 c =
 pub overflow_add-t-in-loop-t-2 : goal.overflow_add-t-in-loop-t-2
 overflow_add-t-in-loop-t-2 c = let h = c.loop-t-test.true in let p = c.requires.keys_len in omega arith
 
-pub loop-t-smaller : goal.loop-t-smaller
-loop-t-smaller c = let h = c.loop-t-test.true in omega arith
 
 pub loop-t-preserved : goal.loop-t-preserved
 loop-t-preserved c =

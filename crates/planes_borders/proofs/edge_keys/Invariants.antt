@@ -5,6 +5,3 @@ use Rattle.planes_borders.proofs.edge_keys.Given as goal
 
 abbrev pub invariant-loop-t : goal.invariant-loop-t
 invariant-loop-t l = (l.t ≤ l.m) × Keyed l.numbers l.n l.of l.initial.keys l.initial.low_keys l.keys l.low_keys l.t
-
-abbrev pub decreases-loop-t : goal.decreases-loop-t
-decreases-loop-t l = l.m - l.t

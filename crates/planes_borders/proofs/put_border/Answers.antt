@@ -22,11 +22,6 @@ put_sides-r-requires c =
       k_in_bounds = omega arith;
     }
 
-pub overflow_add-k : goal.overflow_add-k
-overflow_add-k c = let h = c.loop-k-test.true in omega arith
-
-pub loop-k-smaller : goal.loop-k-smaller
-loop-k-smaller c = let h = c.loop-k-test.true in omega arith
 
 pub loop-k-preserved : goal.loop-k-preserved
 loop-k-preserved c = let a = c.args in let h = c.loop-k-test.true in let i = c.loop-k.invariant.1 in let s = c.put_sides-r.ensures.upper_bound in

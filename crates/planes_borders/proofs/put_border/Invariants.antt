@@ -7,6 +7,3 @@ use Rattle.planes_borders.proofs.put_border.Given as goal
 
 abbrev pub invariant-loop-k : goal.invariant-loop-k
 invariant-loop-k l = (l.k ≤ length l.tris) × (l.r ≤ l.at + 3 * l.k) × (length l.plane_edges ≡ length l.initial.plane_edges) × Appended l.initial.plane_edges l.plane_edges l.at l.r (border_in l.triangles l.n l.first l.uses (take l.k l.tris))
-
-abbrev pub decreases-loop-k : goal.decreases-loop-k
-decreases-loop-k l = length l.tris - l.k

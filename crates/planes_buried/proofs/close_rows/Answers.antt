@@ -18,11 +18,6 @@ close_row-w-requires c =
     let le : c.loop-p.w ≤ c.loop-p.p = rw i.count (open_le c.args.flags.now c.loop-p.p) in
     (omega arith, le, omega arith, omega arith, omega arith)
 
-pub overflow_add-p : goal.overflow_add-p
-overflow_add-p c = let h = c.loop-p-test.true in let p = c.requires in omega arith
-
-pub loop-p-smaller : goal.loop-p-smaller
-loop-p-smaller c = let h = c.loop-p-test.true in omega arith
 
 pub loop-p-preserved : goal.loop-p-preserved
 loop-p-preserved c =

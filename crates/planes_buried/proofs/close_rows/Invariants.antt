@@ -5,6 +5,3 @@ use Rattle.planes_buried.proofs.close_rows.Given as goal
 
 abbrev pub invariant-loop-p : goal.invariant-loop-p
 invariant-loop-p l = (l.p ≤ l.np) × Closing l.flags l.initial.rows l.initial.numbers l.rows l.numbers l.w l.p
-
-abbrev pub decreases-loop-p : goal.decreases-loop-p
-decreases-loop-p l = l.np - l.p

@@ -26,11 +26,6 @@ meet-requires c =
       plane_or_none = numbered_at c.args.of.now c.args.m c.args.np c.loop-t.t c.requires.numbered h p.4;
     }
 
-pub overflow_add-t : goal.overflow_add-t
-overflow_add-t c = let h = c.loop-t-test.true in let p = c.requires.n_in_bounds in omega arith
-
-pub loop-t-smaller : goal.loop-t-smaller
-loop-t-smaller c = let h = c.loop-t-test.true in omega arith
 
 pub loop-t-preserved : goal.loop-t-preserved
 loop-t-preserved c =

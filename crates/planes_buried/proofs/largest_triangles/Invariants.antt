@@ -6,6 +6,3 @@ use Rattle.planes_buried.proofs.largest_triangles.Given as goal
 
 abbrev pub invariant-loop-t : goal.invariant-loop-t
 invariant-loop-t l = Meeting (triangles_in l.triangles l.handles l.n l.m) l.of l.m l.np l.initial.areas l.initial.largest l.areas l.largest l.t
-
-abbrev pub decreases-loop-t : goal.decreases-loop-t
-decreases-loop-t l = l.m - l.t

@@ -35,11 +35,6 @@ offset_bounds-flags-p c = let h = c.loop-p-test.true in let p = c.requires.n_in_
 pub bounds-flags-p : goal.bounds-flags-p
 bounds-flags-p c = let h = c.loop-p-test.true in let p = c.requires.n_in_bounds.3 in let l = c.loop-p.invariant.1 in omega arith
 
-pub overflow_add-p : goal.overflow_add-p
-overflow_add-p c = let h = c.loop-p-test.true in let p = c.requires.n_in_bounds.4 in omega arith
-
-pub loop-p-smaller : goal.loop-p-smaller
-loop-p-smaller c = let h = c.loop-p-test.true in omega arith
 
 pub loop-p-preserved : goal.loop-p-preserved
 loop-p-preserved c = let a = c.args in let room : c.loop-p.p < length c.loop-p.flags = omega (arith, c.loop-p-test.true, c.requires.n_in_bounds.3, c.loop-p.invariant.1) in (

@@ -10,6 +10,3 @@ use Rattle.planes_buried.proofs.mark_open.Given as goal
 abbrev pub invariant-loop-p : goal.invariant-loop-p
 invariant-loop-p l =
     (l.p ≤ l.np) × (length l.flags ≡ length l.initial.flags) × ((q : ℕ) → q < l.p → Tells l.padded l.nodes l.leaf_order l.leaves l.handles (triangle_at_of l.triangles l.handles l.n (or_zero (get_or l.largest q 0))) l.reach (get_or l.flags q 0))
-
-abbrev pub decreases-loop-p : goal.decreases-loop-p
-decreases-loop-p l = l.np - l.p

@@ -19,11 +19,6 @@ renumbered-requires c = let h = c.loop-i-test.true in
 pub bounds-of-i-in-loop-i : goal.bounds-of-i-in-loop-i
 bounds-of-i-in-loop-i c = let h = c.loop-i-test.true in let l = c.loop-i.invariant.1.len in let p = c.requires.m_in_bounds in omega arith
 
-pub overflow_add-i : goal.overflow_add-i
-overflow_add-i c = let h = c.loop-i-test.true in let p = c.requires.m_in_bounds in omega arith
-
-pub loop-i-smaller : goal.loop-i-smaller
-loop-i-smaller c = let h = c.loop-i-test.true in omega arith
 
 pub loop-i-preserved : goal.loop-i-preserved
 loop-i-preserved c = let h = c.loop-i-test.true in let p = c.requires.m_in_bounds in

@@ -11,6 +11,3 @@ use Rattle.planes_buried.proofs.reset.Given as goal
 abbrev pub invariant-loop-p : goal.invariant-loop-p
 invariant-loop-p l =
     (l.p ≤ l.np) × (length l.areas ≡ length l.initial.areas) × (length l.largest ≡ length l.initial.largest) × ((q : ℕ) → q < l.p → best_at l.areas l.largest q ≡ (neg one32, none_of))
-
-abbrev pub decreases-loop-p : goal.decreases-loop-p
-decreases-loop-p l = l.np - l.p

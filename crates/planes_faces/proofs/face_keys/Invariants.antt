@@ -5,6 +5,3 @@ use Rattle.planes_faces.proofs.face_keys.Given as goal
 
 abbrev pub invariant-loop-i : goal.invariant-loop-i
 invariant-loop-i l = (l.i ≤ l.n) × Keys l.numbers l.n l.i l.initial.keys l.initial.low_keys l.keys l.low_keys
-
-abbrev pub decreases-loop-i : goal.decreases-loop-i
-decreases-loop-i l = l.n - l.i

@@ -53,13 +53,6 @@ pub bounds-first-x : goal.bounds-first-x
 unfolding Below
 bounds-first-x c = omega (arith, c.requires.below_2 c.loop-p.p c.loop-p-test.true, c.requires.keys_in_bounds, c.loop-p.invariant.2)
 
-pub overflow_add-p : goal.overflow_add-p
-unfolding Below
-overflow_add-p c = search rules
-
-pub loop-p-smaller : goal.loop-p-smaller
-unfolding Below
-loop-p-smaller c = search rules
 
 pub loop-p-preserved : goal.loop-p-preserved
 unfolding Below

@@ -8,6 +8,3 @@ use Rattle.planes_faces.proofs.mark_run_starts.Given as goal
 
 abbrev pub invariant-loop-p : goal.invariant-loop-p
 invariant-loop-p l = (l.p ≤ length l.index) × (l.start < length l.keys) × (length l.first ≡ length l.initial.first) × (run_starts (key_at l.keys l.low_keys) l.start (drop l.p l.index) l.first ≡ run_starts (key_at l.keys l.low_keys) (head_or 0 l.index) l.index l.initial.first)
-
-abbrev pub decreases-loop-p : goal.decreases-loop-p
-decreases-loop-p l = length l.index - l.p

@@ -5,6 +5,3 @@ use Rattle.planes_faces.proofs.point_keys.Given as goal
 
 abbrev pub invariant-loop-i : goal.invariant-loop-i
 invariant-loop-i l = (l.i ≤ l.n) × Made l.triangles l.n l.at l.put l.scale l.i l.initial.keys l.initial.low_keys l.keys l.low_keys
-
-abbrev pub decreases-loop-i : goal.decreases-loop-i
-decreases-loop-i l = l.n - l.i

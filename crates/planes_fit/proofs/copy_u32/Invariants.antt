@@ -6,6 +6,3 @@ use Rattle.planes_fit.proofs.copy_u32.Given as goal
 
 abbrev pub invariant-loop-k : goal.invariant-loop-k
 invariant-loop-k l = Copied 0 l.values l.initial.area l.area l.at l.k
-
-abbrev pub decreases-loop-k : goal.decreases-loop-k
-decreases-loop-k l = length l.values - l.k

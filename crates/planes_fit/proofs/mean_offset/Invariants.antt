@@ -10,6 +10,3 @@ use Rattle.planes_fit.proofs.mean_offset.Given as goal
 abbrev pub invariant-loop-k : goal.invariant-loop-k
 invariant-loop-k l =
     foldl (λ r i. heights_of l.normal r (triangle_at_of l.triangles l.handles l.n i)) l.s (drop l.k l.tris) ≡ foldl (λ r i. heights_of l.normal r (triangle_at_of l.triangles l.handles l.n i)) l.initial.s l.tris
-
-abbrev pub decreases-loop-k : goal.decreases-loop-k
-decreases-loop-k l = length l.tris - l.k

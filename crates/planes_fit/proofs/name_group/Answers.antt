@@ -18,11 +18,6 @@ pub bounds-group_of-p : goal.bounds-group_of-p
 unfolding Below
 bounds-group_of-p c = omega (arith, c.requires _ c.loop-k-test.true, c.loop-k.invariant.len)
 
-pub overflow_add-k : goal.overflow_add-k
-overflow_add-k c = omega (arith, c.well_formed, c.loop-k-test.true)
-
-pub loop-k-smaller : goal.loop-k-smaller
-loop-k-smaller c = omega (arith, c.loop-k-test.true)
 
 pub loop-k-preserved : goal.loop-k-preserved
 loop-k-preserved c = named_more _ _ _ _ _ c.loop-k.invariant c.loop-k-test.true c.requires

@@ -6,6 +6,3 @@ use Rattle.planes_fit.proofs.name_group.Given as goal
 
 abbrev pub invariant-loop-k : goal.invariant-loop-k
 invariant-loop-k l = Named l.group l.number l.initial.group_of l.group_of l.k
-
-abbrev pub decreases-loop-k : goal.decreases-loop-k
-decreases-loop-k l = length l.group - l.k

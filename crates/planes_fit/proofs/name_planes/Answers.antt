@@ -19,12 +19,6 @@ offset_bounds-plane_of-t c =
 pub bounds-plane_of-t : goal.bounds-plane_of-t
 bounds-plane_of-t c = omega (arith, c.requires.m_in_bounds, c.requires.m_in_bounds_2, c.loop-t-test.true, c.loop-t.invariant.len)
 
-pub overflow_add-t : goal.overflow_add-t
-overflow_add-t c =
-    omega (arith, c.well_formed, c.requires.m_in_bounds, c.requires.m_in_bounds_2, c.loop-t-test.true)
-
-pub loop-t-smaller : goal.loop-t-smaller
-loop-t-smaller c = omega (arith, c.loop-t-test.true)
 
 pub loop-t-preserved : goal.loop-t-preserved
 loop-t-preserved c =

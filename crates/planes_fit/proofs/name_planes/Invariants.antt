@@ -5,6 +5,3 @@ use Rattle.planes_fit.proofs.name_planes.Given as goal
 
 abbrev pub invariant-loop-t : goal.invariant-loop-t
 invariant-loop-t l = Planed l.of l.group_of l.initial.plane_of l.plane_of l.m l.t
-
-abbrev pub decreases-loop-t : goal.decreases-loop-t
-decreases-loop-t l = l.m - l.t

@@ -129,17 +129,6 @@ put_plane-requires c =
           c.plane_row-r.ensures (omega arith) (omega arith);
     }
 
-pub overflow_add-g : goal.overflow_add-g
-overflow_add-g c =
-    omega (
-      arith,
-      c.well_formed,
-      c.requires.grouped.long,
-      c.loop-g-test.true,
-    )
-
-pub loop-g-smaller : goal.loop-g-smaller
-loop-g-smaller c = omega (arith, c.loop-g-test.true)
 
 pub loop-g-preserved : goal.loop-g-preserved
 unfolding plane_row_in

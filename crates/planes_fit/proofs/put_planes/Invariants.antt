@@ -8,6 +8,3 @@ use Rattle.planes_fit.proofs.put_planes.Given as goal
 abbrev pub invariant-loop-g : goal.invariant-loop-g
 invariant-loop-g l =
     Placed l.initial.group_floats l.initial.group_words (plane_row_in (triangle_at_of l.triangles l.handles l.n) l.rows l.queue l.offsets l.plane_triangles l.mstarts) l.ng l.group_floats l.group_words l.g
-
-abbrev pub decreases-loop-g : goal.decreases-loop-g
-decreases-loop-g l = l.ng - l.g

@@ -10,6 +10,3 @@ use Rattle.planes_fit.proofs.sums_of.Given as goal
 abbrev pub invariant-loop-k : goal.invariant-loop-k
 invariant-loop-k l =
     foldl (λ r p. summed_of l.normal r (row_in l.rows p)) l.s (drop l.k l.group) ≡ foldl (λ r p. summed_of l.normal r (row_in l.rows p)) l.initial.s l.group
-
-abbrev pub decreases-loop-k : goal.decreases-loop-k
-decreases-loop-k l = length l.group - l.k

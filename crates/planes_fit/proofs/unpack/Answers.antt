@@ -6,11 +6,6 @@ use Rattle.planes_fit.proofs.unpack.Goals as goal
 pub loop-i-init : goal.loop-i-init
 loop-i-init c = unpacked_none _
 
-pub overflow_add-i : goal.overflow_add-i
-overflow_add-i c = omega (arith, c.well_formed, c.loop-i-test.true, c.loop-i.invariant.len)
-
-pub loop-i-smaller : goal.loop-i-smaller
-loop-i-smaller c = omega (arith, c.loop-i-test.true, c.loop-i.invariant.len)
 
 pub loop-i-preserved : goal.loop-i-preserved
 loop-i-preserved c = unpacked_more _ _ _ c.loop-i.invariant c.loop-i-test.true

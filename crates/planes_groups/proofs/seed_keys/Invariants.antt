@@ -10,6 +10,3 @@ use Rattle.planes_groups.proofs.seed_keys.Given as goal
 
 abbrev pub invariant-loop-p : goal.invariant-loop-p
 invariant-loop-p l = (l.p ≤ l.np) × (length l.keys ≡ length l.initial.keys) × (length l.order ≡ length l.initial.order) × (take l.p l.order ≡ up_to l.p) × ((q : ℕ) → q < l.p → get_or l.keys q 0 ≡ key_for_falling (get_or l.rows (11 * q + 4) nan) (head_or 0 (row_in l.tsorted l.tstarts q)))
-
-abbrev pub decreases-loop-p : goal.decreases-loop-p
-decreases-loop-p l = l.np - l.p

@@ -25,6 +25,3 @@ overflow_cast-i c = omega (arith, c.shared_slice_known-in-loop-k-1.given c.loop-
 
 pub add_moment-s-requires : goal.add_moment-s-requires
 add_moment-s-requires c = tt
-
-pub overflow_add-k : goal.overflow_add-k
-overflow_add-k c = omega (arith, c.well_formed, c.loop-k-test.true)

@@ -15,6 +15,3 @@ abbrev pub invariant-loop-g : goal.invariant-loop-g
 invariant-loop-g l =
     Keyed (length l.initial.index) l.index l.keys l.g
     × ((b : Aabb) → l.centre ≡ centre_of b → l.half_diag ≡ half_diag_of b → take l.g l.keys ≡ map (λ p. row_key_in (triangle_at_of l.triangles l.handles l.n) b (row_of l.group_floats l.group_words p) l.plane_triangles) (up_to l.g))
-
-abbrev pub decreases-loop-g : goal.decreases-loop-g
-decreases-loop-g l = length l.initial.index - l.g

@@ -7,6 +7,3 @@ use Rattle.planes_importance.proofs.scene_box.Given as goal
 
 abbrev pub invariant-loop-i : goal.invariant-loop-i
 invariant-loop-i l = (l.b ≡ scene_box_of (triangles_in l.triangles l.handles l.n l.i)) × (l.i ≤ l.m)
-
-abbrev pub decreases-loop-i : goal.decreases-loop-i
-decreases-loop-i l = l.m - l.i

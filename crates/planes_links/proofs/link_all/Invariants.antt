@@ -8,6 +8,3 @@ use Rattle.planes_links.proofs.link_all.Given as goal
 
 abbrev pub invariant-loop-i : goal.invariant-loop-i
 invariant-loop-i l = (l.i ≤ length l.row) × (l.k ≤ l.from + 8 * l.i) × (length l.words ≡ length l.initial.words) × Added (links_some (take l.i (lows l.row)) (lows l.row)) l.initial.words l.from l.words l.k
-
-abbrev pub decreases-loop-i : goal.decreases-loop-i
-decreases-loop-i l = length l.row - l.i

@@ -9,6 +9,3 @@ use Rattle.planes_links.proofs.link_rows.Given as goal
 
 abbrev pub invariant-loop-v : goal.invariant-loop-v
 invariant-loop-v l = (l.v ≤ l.rows) × (l.k ≤ 8 * get_or l.offsets l.v 0) × (length l.words ≡ length l.initial.words) × Told (λ a b r. is_linked (row_in l.sorted l.offsets r) a b) l.words l.k l.v
-
-abbrev pub decreases-loop-v : goal.decreases-loop-v
-decreases-loop-v l = l.rows - l.v

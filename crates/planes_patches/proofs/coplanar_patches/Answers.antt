@@ -20,11 +20,6 @@ turn-np-requires c =
       standing = f.standing;
     }
 
-pub overflow_add-t : goal.overflow_add-t
-overflow_add-t c = let h = c.loop-t-test.true in let p = c.requires.n_in_bounds in omega arith
-
-pub loop-t-smaller : goal.loop-t-smaller
-loop-t-smaller c = let h = c.loop-t-test.true in omega arith
 
 pub loop-t-preserved : goal.loop-t-preserved
 loop-t-preserved c =

@@ -7,6 +7,3 @@ use Rattle.planes_patches.proofs.coplanar_patches.Given as goal
 abbrev pub invariant-loop-t : goal.invariant-loop-t
 invariant-loop-t l =
     Filling (triangles_in l.triangles l.handles l.n l.m) l.first l.m l.initial.rows l.initial.of l.initial.cells l.initial.next l.rows l.of l.cells l.heads l.next l.t l.np
-
-abbrev pub decreases-loop-t : goal.decreases-loop-t
-decreases-loop-t l = l.m - l.t

@@ -7,6 +7,3 @@ use Rattle.scene.proofs.areas_short.Given as goal
 
 abbrev pub invariant-loop-i : goal.invariant-loop-i
 invariant-loop-i l = (l.i ≤ 20) × (short_in (drop l.i area_table) l.t l.c (drop l.i l.lens) ≡ short_of l.t l.c l.lens)
-
-abbrev pub decreases-loop-i : goal.decreases-loop-i
-decreases-loop-i l = 20 - l.i

@@ -9,6 +9,3 @@ use Rattle.sequences.proofs.visit_by_value.Given as goal
 abbrev pub invariant-loop-k : goal.invariant-loop-k
 invariant-loop-k l =
     (l.k ≤ 9) × (length l.area ≡ length l.initial.area) × (l.area ≡ sets l.initial.area (l.s.nodes * 9) (take l.k (record_of (take l.len l.seq))))
-
-abbrev pub decreases-loop-k : goal.decreases-loop-k
-decreases-loop-k l = 9 - l.k

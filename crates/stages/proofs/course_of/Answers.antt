@@ -39,8 +39,6 @@ bounds-images-k-in-loop-k c =
       c.requires.count_in_bounds.2,
     )
 
-pub loop-k-smaller : goal.loop-k-smaller
-loop-k-smaller c = omega (arith, c.loop-k-test.true)
 
 pub loop-k-preserved : goal.loop-k-preserved
 loop-k-preserved c =

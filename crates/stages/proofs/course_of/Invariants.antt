@@ -10,6 +10,3 @@ abbrev pub invariant-loop-k : goal.invariant-loop-k
 invariant-loop-k l =
     (l.k ≤ length l.seq)
     × ((source : Vec3) → Coursed l.plane_floats l.plane_words l.count source l.seq 0 (course l.initial.planes l.initial.images) → Coursed l.plane_floats l.plane_words l.count source l.seq l.k (course l.planes l.images))
-
-abbrev pub decreases-loop-k : goal.decreases-loop-k
-decreases-loop-k l = length l.seq - l.k

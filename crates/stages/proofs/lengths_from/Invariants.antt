@@ -6,6 +6,3 @@ use Rattle.stages.proofs.lengths_from.Given as goal
 
 abbrev pub invariant-loop-k : goal.invariant-loop-k
 invariant-loop-k l = (l.k ≤ length l.lens) × (length l.all ≡ 20) × (take l.k l.all ≡ take l.k l.lens)
-
-abbrev pub decreases-loop-k : goal.decreases-loop-k
-decreases-loop-k l = length l.lens - l.k

@@ -11,6 +11,3 @@ invariant-loop-k l =
     (l.k ≤ max_order)
     × (length l.points ≡ length l.initial.points)
     × ((j : ℕ) → j < l.k → point_in l.points j ≡ get_or l.all j no_point)
-
-abbrev pub decreases-loop-k : goal.decreases-loop-k
-decreases-loop-k l = max_order - l.k

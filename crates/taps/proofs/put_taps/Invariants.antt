@@ -13,6 +13,3 @@ abbrev pub invariant-loop-k : goal.invariant-loop-k
 invariant-loop-k l =
     (l.k ≤ l.count) × (length l.taps ≡ length l.initial.taps)
     × (sets l.taps (l.k * tap_words) (all_words (taps_from l.candidate_floats l.candidate_words l.count l.positions l.k)) ≡ sets l.initial.taps 0 (all_words (taps_at l.candidate_floats l.candidate_words l.count l.positions)))
-
-abbrev pub decreases-loop-k : goal.decreases-loop-k
-decreases-loop-k l = l.count - l.k

@@ -6,6 +6,3 @@ use Rattle.text.proofs.hex_value.Given as goal
 
 abbrev pub invariant-loop-i : goal.invariant-loop-i
 invariant-loop-i l = l.n ≡ foldl push_hex_digit 0 (take l.i l.word)
-
-abbrev pub decreases-loop-i : goal.decreases-loop-i
-decreases-loop-i l = length l.word - l.i

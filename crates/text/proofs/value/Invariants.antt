@@ -6,6 +6,3 @@ use Rattle.text.proofs.value.Given as goal
 
 abbrev pub invariant-loop-i : goal.invariant-loop-i
 invariant-loop-i l = (l.i ≤ length l.word) × (l.v ≤ word_end) × (l.v ≡ foldl push l.n (take l.i l.word))
-
-abbrev pub decreases-loop-i : goal.decreases-loop-i
-decreases-loop-i l = length l.word - l.i

@@ -7,6 +7,3 @@ use Rattle.tree_split.proofs.bounds.Given as goal
 
 abbrev pub invariant-loop-i : goal.invariant-loop-i
 invariant-loop-i l = (l.i ≤ length l.part) × (l.acc ≡ bounds_of (aabb_at_of l.extents) (take l.i l.part))
-
-abbrev pub decreases-loop-i : goal.decreases-loop-i
-decreases-loop-i l = length l.part - l.i

@@ -8,6 +8,3 @@ use Rattle.tree_split.proofs.centroid_aabb.Given as goal
 
 abbrev pub invariant-loop-i : goal.invariant-loop-i
 invariant-loop-i l = (l.i ≤ length l.part) × (l.acc ≡ bounds_of (λ j. from_point_of (centroid_at_of l.extents j)) (take l.i l.part))
-
-abbrev pub decreases-loop-i : goal.decreases-loop-i
-decreases-loop-i l = length l.part - l.i

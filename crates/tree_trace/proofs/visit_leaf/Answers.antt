@@ -26,8 +26,6 @@ corner_at-requires c = let p = c.requires in let t = c.loop-k-test.true in omega
 pub edges_at-requires : goal.edges_at-requires
 edges_at-requires c = let p = c.requires in let t = c.loop-k-test.true in omega arith
 
-pub overflow_add-k : goal.overflow_add-k
-overflow_add-k c = let p = c.requires in let t = c.loop-k-test.true in omega (arith, c.well_formed.0.0)
 
 pub loop-k-preserved : goal.loop-k-preserved
 unfolding LeafRows

@@ -10,6 +10,3 @@ abbrev pub invariant-loop-k : goal.invariant-loop-k
 invariant-loop-k l =
     (l.start ≤ l.k) × ((tri : ℕ → Triangle) → LeafRows tri l.leaf_order l.leaves →
     visit_all_of tri l.ray (take (l.end - l.k) (drop l.k l.leaf_order)) l.closest ≡ visit_all_of tri l.ray (take (l.end - l.start) (drop l.start l.leaf_order)) l.initial.closest)
-
-abbrev pub decreases-loop-k : goal.decreases-loop-k
-decreases-loop-k l = l.end - l.k

@@ -11,6 +11,3 @@ use Rattle.walls.proofs.mark_planes.Given as goal
 abbrev pub invariant-loop-p : goal.invariant-loop-p
 invariant-loop-p l =
     (l.p ≤ length l.initial.on) × (length l.on ≡ length l.initial.on) × ((members : List ℕ) (edges : List Float) (i : ℕ) → i < l.p → get_or l.on i 0 ≡ get_or (on_bytes (planes_in l.floats l.words members edges (length l.initial.on)) l.source) i 0)
-
-abbrev pub decreases-loop-p : goal.decreases-loop-p
-decreases-loop-p l = length l.initial.on - l.p

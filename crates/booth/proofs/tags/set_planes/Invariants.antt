@@ -6,6 +6,3 @@ use Rattle.booth.proofs.tags.set_planes.Given as goal
 
 abbrev pub invariant-loop-p : goal.invariant-loop-p
 invariant-loop-p l = length l.on ≡ length l.initial.on
-
-abbrev pub decreases-loop-p : goal.decreases-loop-p
-decreases-loop-p l = l.planes - l.p
