@@ -1,6 +1,6 @@
 -- A ray and a triangle: `Triangle::intersect_max`. `edges_of_corners` is what it works out of the triangle alone; `crossing_of` is the rest. Beside
 -- the distance stand the weights u and v of the two edges, which the Rust works out too.
-use Rattle.std.specs.Prelude.{Float, Bool, cond, not, ◌||◌, ◌&&◌}
+use Rattle.std.specs.Prelude.{Float, Bool, cond, not, ◌||◌, ◌&&◌, Option, None, Some}
 use Rattle.std.specs.Float.{binary32}
 use Rattle.std.specs.Float.Ieee.{add, mul, div, neg, lt, le, of_bits}
 use Rattle.float.specs.Literals.{one32}
@@ -11,8 +11,10 @@ use Rattle.vector.specs.declared.Ray.{Ray}
 use Rattle.vector.specs.Vector.{dot3_of, sub3_of, cross3_of}
 use Rattle.geometry.specs.declared.Triangle.{Triangle}
 use Rattle.geometry.specs.declared.Edges.{Edges}
-use Rattle.geometry.specs.declared.Crossing.{Crossing}
-use Rattle.geometry.specs.declared.Crossing.TheVariants.{At, Miss}
+
+-- a crossing: the distance, and the weights u and v
+abbrev pub Crossing : Type 0
+Crossing = Option (Float × Float × Float)
 
 -- `BARY_EPS`, 1e-5
 abbrev pub bary_eps : Float
@@ -39,7 +41,7 @@ outside_of a b = lt a (neg bary_eps) || lt (add binary32 one32 bary_eps) b
 
 -- a distance within the ray's span is a crossing
 unfoldable pub within_of : Float → Float → Float → Float → Float → Crossing
-within_of t u v tmin tmax = cond (le tmin t && le t tmax) (At t u v) Miss
+within_of t u v tmin tmax = cond (le tmin t && le t tmax) (Some (t, u, v)) None
 
 -- from u on: h is the direction's product with the second edge, s the way from the first corner to the ray's origin
 unfoldable pub solve_of : Edges → Vec3 → Vec3 → Float → Ray → Float → Crossing
@@ -47,15 +49,15 @@ solve_of e h s inv ray tmax =
     let u = mul binary32 (dot3_of s h) inv in
     let q = cross3_of s e.edge1 in
     let v = mul binary32 (dot3_of ray.direction q) inv in
-    cond (outside_of u u) Miss
-    (cond (outside_of v (add binary32 u v)) Miss (within_of (mul binary32 (dot3_of e.edge2 q) inv) u v ray.min_distance tmax))
+    cond (outside_of u u) None
+    (cond (outside_of v (add binary32 u v)) None (within_of (mul binary32 (dot3_of e.edge2 q) inv) u v ray.min_distance tmax))
 
 -- the test, for a triangle by its first corner and its edges
 unfoldable pub crossing_of : Vec3 → Edges → Ray → Float → Crossing
 crossing_of a e ray tmax =
     let h = cross3_of ray.direction e.edge2 in
     let det = dot3_of e.edge1 h in
-    cond (parallel_of det e.least_det) Miss (solve_of e h (sub3_of ray.origin a) (div binary32 one32 det) ray tmax)
+    cond (parallel_of det e.least_det) None (solve_of e h (sub3_of ray.origin a) (div binary32 one32 det) ray tmax)
 
 -- `Triangle::intersect_max`
 unfoldable pub intersect_max_of : Triangle → Ray → Float → Crossing

@@ -1,6 +1,6 @@
 -- A ray and a box: `Aabb::intersect_t`, in two steps. The box is padded (what the Rust does axis by axis in each test), then the ray's
 -- span from its least distance to `t_max` is cut axis by axis.
-use Rattle.std.specs.Prelude.{Float, cond, ◌||◌}
+use Rattle.std.specs.Prelude.{Float, cond, ◌||◌, Option, None, Some, option_map, option_and_then}
 use Rattle.std.specs.Float.{binary32}
 use Rattle.std.specs.Float.Ieee.{add, sub, mul, div, lt, of_bits}
 use Rattle.float.specs.Literals.{one32}
@@ -8,11 +8,11 @@ use Rattle.float.specs.Compare.{min_of, max_of, abs_of}
 use Rattle.vector.specs.declared.Ray.{Ray}
 use Rattle.vector.specs.Vector.{vec}
 use Rattle.geometry.specs.declared.Aabb.{Aabb}
-use Rattle.geometry.specs.declared.Span.{Span}
-use Rattle.geometry.specs.declared.Span.TheVariants.{Open, Closed}
-use Rattle.geometry.specs.declared.Entry.{Entry}
-use Rattle.geometry.specs.declared.Entry.TheVariants.{At, Miss}
 use Rattle.geometry.specs.Aabb.{box}
+
+-- a part of a ray, by its two distances, or nothing
+abbrev pub Span : Type 0
+Span = Option (Float × Float)
 
 -- `AABB_PAD`, 1e-6
 abbrev pub aabb_pad : Float
@@ -38,7 +38,7 @@ unfoldable pub narrow_of : Float → Float → Float → Float → Span
 narrow_of t1 t2 tmin tmax =
     let near = max_of tmin (min_of t1 t2) in
     let far = min_of tmax (max_of t1 t2) in
-    cond (lt far near) Closed (Open near far)
+    cond (lt far near) None (Some (near, far))
 
 -- one axis: the ends of the box, and the ray's origin and direction on this axis. A ray along the others is inside for its whole length
 -- or misses.
@@ -46,29 +46,17 @@ unfoldable pub axis_of : Float → Float → Float → Float → Float → Float
 axis_of low high o d tmin tmax =
     let inv = div binary32 one32 d in
     cond (lt (abs_of d) along_axis)
-    (cond (lt o low || lt high o) Closed (Open tmin tmax))
+    (cond (lt o low || lt high o) None (Some (tmin, tmax)))
     (narrow_of (mul binary32 (sub binary32 low o) inv) (mul binary32 (sub binary32 high o) inv) tmin tmax)
 
--- go on with a span, if there is one
-abbrev pub and_then : Span → (Float → Float → Span) → Span
-and_then Closed f = Closed
-and_then (Open a b) f = f a b
-
--- where the span begins
-abbrev pub entry_of : Span → Entry
-entry_of Closed = Miss
-entry_of (Open a b) = At a
-
--- the test against a padded box
-unfoldable pub slab_of : Aabb → Ray → Float → Entry
+-- the test against a padded box: where the span that is left begins
+unfoldable pub slab_of : Aabb → Ray → Float → Option Float
 slab_of b ray tmax =
-    entry_of
-    (and_then
-    (and_then
-    (axis_of b.min.x b.max.x ray.origin.x ray.direction.x ray.min_distance tmax)
-    (λ s t. axis_of b.min.y b.max.y ray.origin.y ray.direction.y s t))
-    (λ s t. axis_of b.min.z b.max.z ray.origin.z ray.direction.z s t))
+    option_map (λ s. s.0)
+    (option_and_then (λ s. axis_of b.min.z b.max.z ray.origin.z ray.direction.z s.0 s.1)
+    (option_and_then (λ s. axis_of b.min.y b.max.y ray.origin.y ray.direction.y s.0 s.1)
+    (axis_of b.min.x b.max.x ray.origin.x ray.direction.x ray.min_distance tmax)))
 
 -- `Aabb::intersect_t`
-unfoldable pub intersect_tof : Aabb → Ray → Float → Entry
+unfoldable pub intersect_tof : Aabb → Ray → Float → Option Float
 intersect_tof b ray tmax = slab_of (padded_of b) ray tmax

@@ -1,13 +1,11 @@
 -- Triangles: `Triangle::new`, `is_degenerate`, `centroid` and `triangle_area` of cpu_simd.rs.
-use Rattle.std.specs.Prelude.{ℕ, Float, Bool, cond, not}
+use Rattle.std.specs.Prelude.{ℕ, Float, Bool, cond, not, Option, None, Some}
 use Rattle.std.specs.Float.{binary32}
 use Rattle.std.specs.Float.Ieee.{add, mul, div, lt, of_bits}
 use Rattle.float.specs.Literals.{zero32, one32}
 use Rattle.vector.specs.declared.Vec3.{Vec3}
 use Rattle.vector.specs.Vector.{vec, sub3_of, cross3_of, length3_of, tiny}
 use Rattle.geometry.specs.declared.Triangle.{Triangle}
-use Rattle.geometry.specs.declared.Shape.{Shape}
-use Rattle.geometry.specs.declared.Shape.TheVariants.{Degenerate, Proper}
 
 abbrev pub half : Float
 half = of_bits binary32 0x3f00_0000
@@ -34,8 +32,8 @@ unfoldable pub triangle_of_corners : Vec3 → Vec3 → Vec3 → ℕ → Triangle
 triangle_of_corners p q r h = record { a = p; b = q; c = r; normal = normal_of (cross_of p q r); material_handle = h }
 
 -- three corners: degenerate, or a triangle
-abbrev pub shape_of : Vec3 → Vec3 → Vec3 → ℕ → Shape
-shape_of p q r h = cond (is_degenerate_of p q r) Degenerate (Proper (triangle_of_corners p q r h))
+abbrev pub shape_of : Vec3 → Vec3 → Vec3 → ℕ → Option Triangle
+shape_of p q r h = cond (is_degenerate_of p q r) None (Some (triangle_of_corners p q r h))
 
 -- `triangle_area`
 unfoldable pub triangle_area_of : Triangle → Float

@@ -29,13 +29,6 @@ pub struct Triangle {
     pub material_handle: u32,
 }
 
-// Three corners: next to no area, which has no normal and cannot be hit, or a triangle.
-#[derive(Clone, Copy)]
-pub enum Shape {
-    Degenerate,
-    Proper(Triangle),
-}
-
 // What the test of a ray needs of a triangle beside its first corner: the edges from that corner, and the least determinant of a ray
 // that does not run along the triangle.
 #[derive(Clone, Copy)]
@@ -52,27 +45,6 @@ pub struct Dots {
     pub d01: f32,
     pub d11: f32,
     pub denom: f32,
-}
-
-// A part of a ray, by its two distances: what the definition of the test of a box goes by.
-#[derive(Clone, Copy)]
-pub enum Span {
-    Open(f32, f32),
-    Closed,
-}
-
-// Where a ray enters a box.
-#[derive(Clone, Copy)]
-pub enum Entry {
-    At(f32),
-    Miss,
-}
-
-// Where a ray crosses a triangle: the distance, and the two weights of the edges.
-#[derive(Clone, Copy)]
-pub enum Crossing {
-    At(f32, f32, f32),
-    Miss,
 }
 
 // ---- boxes
@@ -201,14 +173,15 @@ fn cross(a: Vec3, b: Vec3, c: Vec3) -> Vec3
     vector::cross3(vector::sub3(b, a), vector::sub3(c, a))
 }
 
-// `Triangle::is_degenerate` and `Triangle::new` in one, since both take the root of the same product.
-pub fn triangle_of(a: Vec3, b: Vec3, c: Vec3, material_handle: u32) -> Shape
+// `Triangle::is_degenerate` and `Triangle::new` in one, since both take the root of the same product. Three corners with next to no area have no
+// normal and cannot be hit: they are no triangle.
+pub fn triangle_of(a: Vec3, b: Vec3, c: Vec3, material_handle: u32) -> Option<Triangle>
     ensures { result ≡ shape_of a b c material_handle }
 {
     let n = cross(a, b, c);
     let len = vector::length3(n);
     if len > 1e-12 {
-        return Shape::Proper(Triangle {
+        return Some(Triangle {
             a,
             b,
             c,
@@ -220,7 +193,7 @@ pub fn triangle_of(a: Vec3, b: Vec3, c: Vec3, material_handle: u32) -> Shape
             material_handle,
         });
     }
-    Shape::Degenerate
+    None
 }
 
 pub fn triangle_area(t: Triangle) -> f32
@@ -274,30 +247,30 @@ fn outside(a: f32, b: f32) -> bool
     a < -BARY_EPS || b > 1.0 + BARY_EPS
 }
 
-fn within(t: f32, u: f32, v: f32, tmin: f32, tmax: f32) -> Crossing
+fn within(t: f32, u: f32, v: f32, tmin: f32, tmax: f32) -> Option<(f32, f32, f32)>
     ensures { result ≡ within_of t u v tmin tmax }
 {
     if tmin <= t {
         if t <= tmax {
-            return Crossing::At(t, u, v);
+            return Some((t, u, v));
         }
     }
-    Crossing::Miss
+    None
 }
 
 // The crossing of a ray that does not run along the triangle: h is the direction's product with the second edge, s the way from the
 // first corner to the ray's origin.
-pub fn solve(e: Edges, h: Vec3, s: Vec3, inv_det: f32, ray: Ray, t_max: f32) -> Crossing
+pub fn solve(e: Edges, h: Vec3, s: Vec3, inv_det: f32, ray: Ray, t_max: f32) -> Option<(f32, f32, f32)>
     ensures { result ≡ solve_of e h s inv_det ray t_max }
 {
     let u = vector::dot3(s, h) * inv_det;
     if outside(u, u) {
-        return Crossing::Miss;
+        return None;
     }
     let q = vector::cross3(s, e.edge1);
     let v = vector::dot3(ray.direction, q) * inv_det;
     if outside(v, u + v) {
-        return Crossing::Miss;
+        return None;
     }
     within(
         vector::dot3(e.edge2, q) * inv_det,
@@ -308,14 +281,14 @@ pub fn solve(e: Edges, h: Vec3, s: Vec3, inv_det: f32, ray: Ray, t_max: f32) -> 
     )
 }
 
-// The Möller-Trumbore test, with what depends on the triangle alone at hand.
-pub fn intersect_edges(a: Vec3, e: Edges, ray: Ray, t_max: f32) -> Crossing
+// The Möller-Trumbore test, with what depends on the triangle alone at hand: the distance, and the two weights of the edges.
+pub fn intersect_edges(a: Vec3, e: Edges, ray: Ray, t_max: f32) -> Option<(f32, f32, f32)>
     ensures { result ≡ crossing_of a e ray t_max }
 {
     let h = vector::cross3(ray.direction, e.edge2);
     let det = vector::dot3(e.edge1, h);
     if parallel(det, e.least_det) {
-        return Crossing::Miss;
+        return None;
     }
     solve(e, h, vector::sub3(ray.origin, a), 1.0 / det, ray, t_max)
 }
