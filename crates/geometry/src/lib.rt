@@ -260,7 +260,14 @@ fn within(t: f32, u: f32, v: f32, tmin: f32, tmax: f32) -> Option<(f32, f32, f32
 
 // The crossing of a ray that does not run along the triangle: h is the direction's product with the second edge, s the way from the
 // first corner to the ray's origin.
-pub fn solve(e: Edges, h: Vec3, s: Vec3, inv_det: f32, ray: Ray, t_max: f32) -> Option<(f32, f32, f32)>
+pub fn solve(
+    e: Edges,
+    h: Vec3,
+    s: Vec3,
+    inv_det: f32,
+    ray: Ray,
+    t_max: f32,
+) -> Option<(f32, f32, f32)>
     ensures { result ≡ solve_of e h s inv_det ray t_max }
 {
     let u = vector::dot3(s, h) * inv_det;

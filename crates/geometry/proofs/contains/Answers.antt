@@ -2,26 +2,6 @@
 use Rattle.geometry.specs.Contains.{contains_of}
 use Rattle.geometry.proofs.contains.Goals as goal
 
-pub sub3-v2-requires : goal.sub3-v2-requires
-unfolding contains_of
-sub3-v2-requires c = tt
-
-pub dot3-d20-requires : goal.dot3-d20-requires
-unfolding contains_of
-dot3-d20-requires c = tt
-
-pub dot3-d21-requires : goal.dot3-d21-requires
-unfolding contains_of
-dot3-d21-requires c = tt
-
-pub abs-requires : goal.abs-requires
-unfolding contains_of
-abs-requires c = tt
-
-pub inside-requires : goal.inside-requires
-unfolding contains_of
-inside-requires c = tt
-
 pub returns-then-abs : goal.returns-then-abs
 unfolding contains_of
 returns-then-abs c = rw (

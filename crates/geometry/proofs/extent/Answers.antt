@@ -2,10 +2,6 @@
 use Rattle.geometry.specs.Aabb.{extent_of}
 use Rattle.geometry.proofs.extent.Goals as goal
 
-pub max-requires : goal.max-requires
-unfolding extent_of
-max-requires c = tt
-
 pub returns : goal.returns
 unfolding extent_of
 returns c = rw (← c.max.ensures)

@@ -2,14 +2,6 @@
 use Rattle.geometry.specs.Aabb.{from_point_of}
 use Rattle.geometry.proofs.from_point.Goals as goal
 
-pub new_empty-requires : goal.new_empty-requires
-unfolding from_point_of
-new_empty-requires c = tt
-
-pub grow-requires : goal.grow-requires
-unfolding from_point_of
-grow-requires c = tt
-
 pub returns : goal.returns
 unfolding from_point_of
 returns c = rw (← c.new_empty.ensures, ← c.grow.ensures)

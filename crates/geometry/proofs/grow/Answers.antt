@@ -2,14 +2,6 @@
 use Rattle.geometry.specs.Aabb.{grow_of}
 use Rattle.geometry.proofs.grow.Goals as goal
 
-pub low-requires : goal.low-requires
-unfolding grow_of
-low-requires c = tt
-
-pub high-requires : goal.high-requires
-unfolding grow_of
-high-requires c = tt
-
 pub returns : goal.returns
 unfolding grow_of
 returns c = rw (← c.low.ensures, ← c.high.ensures)

@@ -2,18 +2,6 @@
 use Rattle.geometry.specs.Intersect.{crossing_of}
 use Rattle.geometry.proofs.intersect_edges.Goals as goal
 
-pub cross3-h-requires : goal.cross3-h-requires
-unfolding crossing_of
-cross3-h-requires c = tt
-
-pub dot3-det-requires : goal.dot3-det-requires
-unfolding crossing_of
-dot3-det-requires c = tt
-
-pub parallel-requires : goal.parallel-requires
-unfolding crossing_of
-parallel-requires c = tt
-
 pub returns-then-parallel : goal.returns-then-parallel
 unfolding crossing_of
 returns-then-parallel c = rw (
@@ -22,14 +10,6 @@ returns-then-parallel c = rw (
   ← c.parallel.ensures,
   c.if-parallel.true,
 )
-
-pub sub3-requires : goal.sub3-requires
-unfolding crossing_of
-sub3-requires c = tt
-
-pub solve-requires : goal.solve-requires
-unfolding crossing_of
-solve-requires c = tt
 
 pub returns : goal.returns
 unfolding crossing_of

@@ -2,10 +2,6 @@
 use Rattle.geometry.specs.Intersect.{parallel_of}
 use Rattle.geometry.proofs.parallel.Goals as goal
 
-pub abs-requires : goal.abs-requires
-unfolding parallel_of
-abs-requires c = tt
-
 pub returns : goal.returns
 unfolding parallel_of
 returns c = rw (← c.abs.ensures)

@@ -2,18 +2,6 @@
 use Rattle.geometry.specs.Aabb.{surface_area_of}
 use Rattle.geometry.proofs.surface_area.Goals as goal
 
-pub extent-dx-requires : goal.extent-dx-requires
-unfolding surface_area_of
-extent-dx-requires c = tt
-
-pub extent-dy-requires : goal.extent-dy-requires
-unfolding surface_area_of
-extent-dy-requires c = tt
-
-pub extent-dz-requires : goal.extent-dz-requires
-unfolding surface_area_of
-extent-dz-requires c = tt
-
 pub returns : goal.returns
 unfolding surface_area_of
 returns c = rw (← c.extent-dx.ensures, ← c.extent-dy.ensures, ← c.extent-dz.ensures)

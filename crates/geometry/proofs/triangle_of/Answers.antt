@@ -2,14 +2,6 @@
 use Rattle.geometry.specs.Triangle.{is_degenerate_of, normal_of, triangle_of_corners}
 use Rattle.geometry.proofs.triangle_of.Goals as goal
 
-pub cross-n-requires : goal.cross-n-requires
-unfolding is_degenerate_of normal_of triangle_of_corners
-cross-n-requires c = tt
-
-pub length3-len-requires : goal.length3-len-requires
-unfolding is_degenerate_of normal_of triangle_of_corners
-length3-len-requires c = tt
-
 pub returns-then-len : goal.returns-then-len
 unfolding is_degenerate_of normal_of triangle_of_corners
 returns-then-len c = rw (← c.cross-n.ensures, ← c.length3-len.ensures, c.if-len.true)
