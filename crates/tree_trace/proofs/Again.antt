@@ -10,12 +10,8 @@ use Rattle.float.specs.Literals.{one32}
 use Rattle.float.specs.Compare.{min_of, max_of, abs_of}
 use Rattle.vector.specs.declared.Ray.{Ray}
 use Rattle.geometry.specs.declared.Aabb.{Aabb}
-use Rattle.geometry.specs.declared.Span.{Span}
-use Rattle.geometry.specs.declared.Span.TheVariants.{Open, Closed}
-use Rattle.geometry.specs.declared.Entry.{Entry}
-use Rattle.geometry.specs.declared.Entry.TheVariants.{At, Miss}
-use Rattle.geometry.specs.Slab.{along_axis, narrow_of, axis_of, and_then, entry_of, slab_of}
-use Rattle.tree_trace.specs.Trace.{entered}
+use Rattle.std.specs.Prelude.{Option, None, Some, is_some, option_map, option_and_then}
+use Rattle.geometry.specs.Slab.{along_axis, narrow_of, Span, axis_of, slab_of}
 use Rattle.tree_trace.proofs.Floats.{Number, lt_left, lt_right, lt_trans, lt_between, min_case, max_case}
 
 -- x is y, or nearer
@@ -31,12 +27,12 @@ record Ends (t g f : Float) : Type 0 where
   nearer : Nearer g f
 
 -- where an entry is
-begin : {s n : Float} → At s ≡ At n → s ≡ n
+begin : {s n : Float} → Some s ≡ Some n → s ≡ n
 begin e = ap place e
   where
-    place : Entry → Float
-    place Miss = nan
-    place (At x) = x
+    place : Option Float → Float
+    place None = nan
+    place (Some x) = x
 
 module _ (t : Float) where
   alike : (m : Float) → ((x : Float) → T (lt t x) → T (lt m x)) → Ends t m m
@@ -70,19 +66,19 @@ module _ (t : Float) where
     ahead : T (not (lt t s))
 
   abbrev Both : Span → Span → Type 0
-  Both Closed Y = T true
-  Both (Open s f) Closed = T (lt t s)
-  Both (Open s f) (Open r g) = Kept s f r g
+  Both None Y = T true
+  Both (Some (s, f)) None = T (lt t s)
+  Both (Some (s, f)) (Some (r, g)) = Kept s f r g
 
   later : (s q : Float) → T (lt t s) → T (lt t (max_of s q))
   later s q h = max_case (λ (x : Float). T (lt t x)) s q (λ n. absurd (T_not (is_nan s) (lt_right t s h) n)) (λ p l. lt_trans t s q h l) (λ p l. h)
 
   module _ (t1 t2 s f : Float) where
-    narrow_closed : T (lt t s) → Both (narrow_of t1 t2 s f) Closed
+    narrow_closed : T (lt t s) → Both (narrow_of t1 t2 s f) None
     unfolding narrow_of
     narrow_closed h = go (lt (min_of f (max_of t1 t2)) (max_of s (min_of t1 t2)))
       where
-        go : (b : Bool) → Both (cond b Closed (Open (max_of s (min_of t1 t2)) (min_of f (max_of t1 t2)))) Closed
+        go : (b : Bool) → Both (cond b None (Some (max_of s (min_of t1 t2), min_of f (max_of t1 t2)))) None
         go true = tt
         go false = later s (min_of t1 t2) h
 
@@ -100,7 +96,7 @@ module _ (t : Float) where
         next = ends_step g f m e
 
         go : (b c : Bool) → (T (not b) → T (not (lt (min_of f m) near))) → (T c → T (lt (min_of g m) near)) → (T (not c) → T (not (lt (min_of g m) near))) →
-            Both (cond b Closed (Open near (min_of f m))) (cond c Closed (Open near (min_of g m)))
+            Both (cond b None (Some (near, min_of f m))) (cond c None (Some (near, min_of g m)))
         go true c p q r = tt
         go false true p q r = ⊎_elim (λ a. absurd (T_not (lt (min_of f m) near) (p tt) a)) (λ a. a) (next.split near (q tt))
         go false false p q r =
@@ -111,11 +107,11 @@ module _ (t : Float) where
     abbrev meets : Float → Float
     meets x = mul binary32 (sub binary32 x o) (div binary32 one32 d)
 
-    axis_closed : (s f : Float) → T (lt t s) → Both (axis_of low high o d s f) Closed
+    axis_closed : (s f : Float) → T (lt t s) → Both (axis_of low high o d s f) None
     unfolding axis_of
     axis_closed s f h = go (lt (abs_of d) along_axis) (lt o low || lt high o)
       where
-        go : (b c : Bool) → Both (cond b (cond c Closed (Open s f)) (narrow_of (meets low) (meets high) s f)) Closed
+        go : (b c : Bool) → Both (cond b (cond c None (Some (s, f))) (narrow_of (meets low) (meets high) s f)) None
         go true true = tt
         go true false = h
         go false c = narrow_closed (meets low) (meets high) s f h
@@ -124,24 +120,24 @@ module _ (t : Float) where
     unfolding axis_of
     axis_open s f g e a = go (lt (abs_of d) along_axis) (lt o low || lt high o)
       where
-        go : (b c : Bool) → Both (cond b (cond c Closed (Open s f)) (narrow_of (meets low) (meets high) s f)) (cond b (cond c Closed (Open s g)) (narrow_of (meets low) (meets high) s g))
+        go : (b c : Bool) → Both (cond b (cond c None (Some (s, f))) (narrow_of (meets low) (meets high) s f)) (cond b (cond c None (Some (s, g))) (narrow_of (meets low) (meets high) s g))
         go true true = tt
         go true false = record { same = refl; ends = e; ahead = a }
         go false c = narrow_open (meets low) (meets high) s f g e
 
-    axis_both : (X Y : Span) → Both X Y → Both (and_then X (λ s f. axis_of low high o d s f)) (and_then Y (λ s f. axis_of low high o d s f))
-    axis_both Closed Y h = tt
-    axis_both (Open s f) Closed h = axis_closed s f h
-    axis_both (Open s f) (Open r g) h = rw h.same (axis_open s f g h.ends h.ahead)
+    axis_both : (X Y : Span) → Both X Y → Both (option_and_then (λ s. axis_of low high o d s.0 s.1) X) (option_and_then (λ s. axis_of low high o d s.0 s.1) Y)
+    axis_both None Y h = tt
+    axis_both (Some (s, f)) None h = axis_closed s f h
+    axis_both (Some (s, f)) (Some (r, g)) h = rw h.same (axis_open s f g h.ends h.ahead)
 
-  entry_both : (X Y : Span) (n : Float) → Both X Y → entry_of X ≡ At n → entered (entry_of Y) ≡ not (lt t n)
-  entry_both Closed Y n h e = absurd (subst T (ap entered (sym e)) tt)
-  entry_both (Open s f) Closed n h e = go (lt t n) (subst (λ (x : Float). T (lt t x)) (begin e) h)
+  entry_both : (X Y : Span) (n : Float) → Both X Y → option_map (λ s. s.0) X ≡ Some n → is_some (option_map (λ s. s.0) Y) ≡ not (lt t n)
+  entry_both None Y n h e = absurd (subst T (ap is_some (sym e)) tt)
+  entry_both (Some (s, f)) None n h e = go (lt t n) (subst (λ (x : Float). T (lt t x)) (begin e) h)
     where
       go : (b : Bool) → T b → false ≡ not b
       go true k = refl
       go false k = absurd k
-  entry_both (Open s f) (Open r g) n h e = go (lt t n) (subst (λ (x : Float). T (not (lt t x))) (begin e) h.ahead)
+  entry_both (Some (s, f)) (Some (r, g)) n h e = go (lt t n) (subst (λ (x : Float). T (not (lt t x))) (begin e) h.ahead)
     where
       go : (b : Bool) → T (not b) → true ≡ not b
       go true k = absurd k
@@ -152,13 +148,13 @@ abbrev pub cut_x : Aabb → Ray → Float → Span
 cut_x b ray t = axis_of b.min.x b.max.x ray.origin.x ray.direction.x ray.min_distance t
 
 abbrev pub cut_y : Aabb → Ray → Float → Span
-cut_y b ray t = and_then (cut_x b ray t) (λ s f. axis_of b.min.y b.max.y ray.origin.y ray.direction.y s f)
+cut_y b ray t = option_and_then (λ s. axis_of b.min.y b.max.y ray.origin.y ray.direction.y s.0 s.1) (cut_x b ray t)
 
 abbrev cut_z : Aabb → Ray → Float → Span
-cut_z b ray t = and_then (cut_y b ray t) (λ s f. axis_of b.min.z b.max.z ray.origin.z ray.direction.z s f)
+cut_z b ray t = option_and_then (λ s. axis_of b.min.z b.max.z ray.origin.z ray.direction.z s.0 s.1) (cut_y b ray t)
 
 -- THE SECOND TEST
-pub again : (b : Aabb) (ray : Ray) (far t n : Float) → Nearer t far → T (not (lt t ray.min_distance)) → slab_of b ray far ≡ At n → entered (slab_of b ray t) ≡ not (lt t n)
+pub again : (b : Aabb) (ray : Ray) (far t n : Float) → Nearer t far → T (not (lt t ray.min_distance)) → slab_of b ray far ≡ Some n → is_some (slab_of b ray t) ≡ not (lt t n)
 unfolding slab_of
 again b ray far t n h a =
     let ends : Ends t t far = record { within = λ x l. l; split = λ x l. inr l; nearer = h } in

@@ -11,29 +11,26 @@ use Rattle.vector.specs.declared.Vec3.{Vec3}
 use Rattle.vector.specs.declared.Ray.{Ray}
 use Rattle.geometry.specs.declared.Triangle.{Triangle}
 use Rattle.geometry.specs.declared.Edges.{Edges}
-use Rattle.geometry.specs.declared.Crossing.{Crossing}
-use Rattle.geometry.specs.declared.Crossing.TheVariants as crossing
-use Rattle.geometry.specs.declared.Entry.{Entry}
-use Rattle.geometry.specs.declared.Entry.TheVariants.{At, Miss}
+use Rattle.std.specs.Prelude.{Option, None, Some, is_some}
 use Rattle.vector.specs.Vector.{dot3_of, sub3_of, cross3_of}
-use Rattle.geometry.specs.Intersect.{edges_of_corners, parallel_of, outside_of, within_of, solve_of, crossing_of, intersect_max_of}
+use Rattle.geometry.specs.Intersect.{Crossing, edges_of_corners, parallel_of, outside_of, within_of, solve_of, crossing_of, intersect_max_of}
 use Rattle.geometry.specs.declared.Aabb.{Aabb}
 use Rattle.geometry.specs.Slab.{slab_of}
 use Rattle.tree_build.specs.Tree.{Tree, leaf, node, box_of}
 use Rattle.tree_trace.specs.declared.Closest.{Closest}
 use Rattle.tree_trace.specs.Leaf.{takes_of, keep_of, visit_of, visit_all_of}
-use Rattle.tree_trace.specs.Trace.{Test, entered, near_first, trace_tree}
+use Rattle.tree_trace.specs.Trace.{Test, near_first, trace_tree}
 use Rattle.float.proofs.Beyond.{float_turn}
 use Rattle.tree_trace.proofs.Floats.{le_left, le_right, le_not_lt, lt_le_trans}
 use Rattle.tree_trace.proofs.Again.{Nearer, again}
 
 -- ---- a crossing lies on the ray, up to `far`
 abbrev On : Ray → Float → Crossing → Type 0
-On ray far crossing.Miss = T true
-On ray far (crossing.At t u v) = T (le ray.min_distance t) × T (le t far)
+On ray far None = T true
+On ray far (Some (t, u, v)) = T (le ray.min_distance t) × T (le t far)
 
 module _ (ray : Ray) (far : Float) where
-  or_miss : (b : Bool) (x : Crossing) → On ray far x → On ray far (cond b crossing.Miss x)
+  or_miss : (b : Bool) (x : Crossing) → On ray far x → On ray far (cond b None x)
   or_miss true x h = tt
   or_miss false x h = h
 
@@ -41,7 +38,7 @@ module _ (ray : Ray) (far : Float) where
   unfolding within_of
   within_on t u v = go (le ray.min_distance t) (le t far) (λ h. h) (λ h. h)
     where
-      go : (b c : Bool) → (T b → T (le ray.min_distance t)) → (T c → T (le t far)) → On ray far (cond (b && c) (crossing.At t u v) crossing.Miss)
+      go : (b c : Bool) → (T b → T (le ray.min_distance t)) → (T c → T (le t far)) → On ray far (cond (b && c) (Some (t, u, v)) None)
       go true true f g = (f tt, g tt)
       go true false f g = tt
       go false c f g = tt
@@ -55,7 +52,7 @@ module _ (ray : Ray) (far : Float) where
       let t = mul binary32 (dot3_of e.edge2 q) inv in
       let x = within_of t u v ray.min_distance far in
       let out = outside_of v (add binary32 u v) in
-      or_miss (outside_of u u) (cond out crossing.Miss x) (or_miss out x (within_on t u v))
+      or_miss (outside_of u u) (cond out None x) (or_miss out x (within_on t u v))
 
   crossing_on : (a : Vec3) (e : Edges) → On ray far (crossing_of a e ray far)
   unfolding crossing_of
@@ -94,8 +91,8 @@ module _ (ray : Ray) where
       }
 
   keep_since : (x : Crossing) (i : ℕ) (best : Closest) → Ahead best → On ray best.distance x → Since ray best (keep_of x i best)
-  keep_since crossing.Miss i best a h = still best a
-  keep_since (crossing.At t u v) i best a h = go (takes_of t i best)
+  keep_since None i best a h = still best a
+  keep_since (Some (t, u, v)) i best a h = go (takes_of t i best)
     where
       go : (b : Bool) → Since ray best (cond b (record { distance = t; index = i; found = 1 }) best)
       go true =
@@ -105,12 +102,12 @@ module _ (ray : Ray) where
           }
       go false = still best a
 
-  turns_since : (a b : Entry) (f g : Closest → Closest) → ((x : Closest) → Ahead x → Since ray x (f x)) → ((x : Closest) → Ahead x → Since ray x (g x)) → (best : Closest) → Ahead best →
+  turns_since : (a b : Option Float) (f g : Closest → Closest) → ((x : Closest) → Ahead x → Since ray x (f x)) → ((x : Closest) → Ahead x → Since ray x (g x)) → (best : Closest) → Ahead best →
       Since ray best (foldl (λ (x : Closest) (h : Closest → Closest). h x) best (near_first a b f g))
-  turns_since Miss Miss f g p q best h = still best h
-  turns_since Miss (At y) f g p q best h = q best h
-  turns_since (At x) Miss f g p q best h = p best h
-  turns_since (At x) (At y) f g p q best h = go (le x y)
+  turns_since None None f g p q best h = still best h
+  turns_since None (Some y) f g p q best h = q best h
+  turns_since (Some x) None f g p q best h = p best h
+  turns_since (Some x) (Some y) f g p q best h = go (le x y)
     where
       go : (t : Bool) → Since ray best (foldl (λ (x : Closest) (h : Closest → Closest). h x) best (cond t (f ∷ g ∷ []) (g ∷ f ∷ [])))
       go true = then best (f best) (g (f best)) (p best h) (q (f best) (p best h).ahead)
@@ -131,9 +128,9 @@ module _ (test : Test) (tri : ℕ → Triangle) (ray : Ray) where
 
   pub trace_since : (t : Tree) (best : Closest) → T (not (lt best.distance ray.min_distance)) → Since ray best (trace_tree test tri ray t best)
   unfolding trace_tree
-  trace_since (leaf b xs) best a = or_still ray (entered (test b ray best.distance)) best _ a (all_since xs best a)
+  trace_since (leaf b xs) best a = or_still ray (is_some (test b ray best.distance)) best _ a (all_since xs best a)
   trace_since (node b l r) best a =
-      or_still ray (entered (test b ray best.distance)) best _ a
+      or_still ray (is_some (test b ray best.distance)) best _ a
       (turns_since ray (test (box_of l) ray best.distance) (test (box_of r) ray best.distance) (trace_tree test tri ray l) (trace_tree test tri ray r)
       (trace_since l) (trace_since r) best a)
 
@@ -149,14 +146,14 @@ module _ (tri : ℕ → Triangle) (ray : Ray) (t : Tree) (best one : Closest) (e
       go true h = absurd h
       go false h = refl
 
-  pub test_since : (b : Aabb) (n : Float) → slab_of b ray best.distance ≡ At n → entered (slab_of b ray one.distance) ≡ not (lt one.distance n)
+  pub test_since : (b : Aabb) (n : Float) → slab_of b ray best.distance ≡ Some n → is_some (slab_of b ray one.distance) ≡ not (lt one.distance n)
   test_since b n h = again b ray best.distance one.distance n since.nearer since.ahead h
 
 -- ---- a ray that ends before it begins
 module _ (test : Test) (tri : ℕ → Triangle) (ray : Ray) (best : Closest) (h : T (lt best.distance ray.min_distance)) where
   keep_lost : (x : Crossing) (i : ℕ) → On ray best.distance x → keep_of x i best ≡ best
-  keep_lost crossing.Miss i k = refl
-  keep_lost (crossing.At t u v) i k = absurd (float_turn best.distance ray.min_distance t h k.0 k.1)
+  keep_lost None i k = refl
+  keep_lost (Some (t, u, v)) i k = absurd (float_turn best.distance ray.min_distance t h k.0 k.1)
 
   all_lost : (xs : List ℕ) → visit_all_of tri ray xs best ≡ best
   unfolding visit_all_of visit_of
@@ -165,12 +162,12 @@ module _ (test : Test) (tri : ℕ → Triangle) (ray : Ray) (best : Closest) (h 
       ap (λ (x : Closest). visit_all_of tri ray is x) (keep_lost (intersect_max_of (tri i) ray best.distance) i (triangle_on ray best.distance (tri i)))
       ∙ all_lost is
 
-  turns_lost : (a b : Entry) (f g : Closest → Closest) → f best ≡ best → g best ≡ best →
+  turns_lost : (a b : Option Float) (f g : Closest → Closest) → f best ≡ best → g best ≡ best →
       foldl (λ (x : Closest) (h : Closest → Closest). h x) best (near_first a b f g) ≡ best
-  turns_lost Miss Miss f g p q = refl
-  turns_lost Miss (At y) f g p q = q
-  turns_lost (At x) Miss f g p q = p
-  turns_lost (At x) (At y) f g p q = go (le x y)
+  turns_lost None None f g p q = refl
+  turns_lost None (Some y) f g p q = q
+  turns_lost (Some x) None f g p q = p
+  turns_lost (Some x) (Some y) f g p q = go (le x y)
     where
       go : (t : Bool) → foldl (λ (x : Closest) (h : Closest → Closest). h x) best (cond t (f ∷ g ∷ []) (g ∷ f ∷ [])) ≡ best
       go true = ap g p ∙ q
@@ -182,8 +179,8 @@ module _ (test : Test) (tri : ℕ → Triangle) (ray : Ray) (best : Closest) (h 
 
   pub trace_lost : (t : Tree) → trace_tree test tri ray t best ≡ best
   unfolding trace_tree
-  trace_lost (leaf b xs) = or_best (entered (test b ray best.distance)) _ (all_lost xs)
+  trace_lost (leaf b xs) = or_best (is_some (test b ray best.distance)) _ (all_lost xs)
   trace_lost (node b l r) =
-      or_best (entered (test b ray best.distance)) _
+      or_best (is_some (test b ray best.distance)) _
       (turns_lost (test (box_of l) ray best.distance) (test (box_of r) ray best.distance) (trace_tree test tri ray l) (trace_tree test tri ray r)
       (trace_lost l) (trace_lost r))

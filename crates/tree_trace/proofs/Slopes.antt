@@ -8,11 +8,8 @@ use Rattle.float.specs.Literals.{one32}
 use Rattle.float.specs.Compare.{min_of, max_of, abs_of}
 use Rattle.vector.specs.declared.Ray.{Ray}
 use Rattle.geometry.specs.declared.Aabb.{Aabb}
-use Rattle.geometry.specs.declared.Span.{Span}
-use Rattle.geometry.specs.declared.Span.TheVariants.{Open, Closed}
-use Rattle.geometry.specs.declared.Entry.{Entry}
-use Rattle.geometry.specs.declared.Entry.TheVariants.{At, Miss}
-use Rattle.geometry.specs.Slab.{along_axis, narrow_of, axis_of, and_then, entry_of, slab_of}
+use Rattle.std.specs.Prelude.{Option, None, Some, option_map, option_and_then}
+use Rattle.geometry.specs.Slab.{along_axis, narrow_of, Span, axis_of, slab_of}
 use Rattle.tree_trace.specs.declared.Way.{Way}
 use Rattle.tree_trace.specs.Slopes.{along_of, any_along_of, slope_of, slopes_of_direction, near_of, far_of, cut_of, beside_of, past_of, way_of}
 use Rattle.tree_trace.proofs.Floats.{lt_left, lt_right, lt_trans, min_case, max_case}
@@ -50,40 +47,46 @@ closes n f a b h =
     lower : T (lt (min_of f b) n)
     lower = min_case (λ (x : Float). T (lt x n)) f b (λ k. absurd (T_not (is_nan f) (lt_left f n h) k)) (λ p l. lt_trans b f n l h) (λ p l. h)
 
-is_closed : (b : Bool) (n f : Float) → T b → Closed ≡ cond b Closed (Open n f)
+is_closed : (b : Bool) (n f : Float) → T b → ◌≡◌ {A = Span} None (cond b None (Some (n, f)))
 is_closed true n f h = refl
 is_closed false n f h = absurd h
 
 -- ---- a span by its ends, whether it is beside the box, and whether it has closed
-abbrev Ends : Span → Bool → Float → Float → Type 0
-Ends X o n f = X ≡ cond (o || lt f n) Closed (Open n f)
+abbrev begins : Span → Option Float
+begins s = option_map {T = Float × Float} (λ x. x.0) s
 
-narrow_ends : (X : Span) (o : Bool) (n f t1 t2 : Float) → Ends X o n f → Ends (and_then X (λ s u. narrow_of t1 t2 s u)) (o || false) (max_of n (min_of t1 t2)) (min_of f (max_of t1 t2))
+abbrev then : (Float → Float → Span) → Span → Span
+then f s = option_and_then {T = Float × Float} (λ x. f x.0 x.1) s
+
+abbrev Ends : Span → Bool → Float → Float → Type 0
+Ends X o n f = X ≡ cond (o || lt f n) None (Some (n, f))
+
+narrow_ends : (X : Span) (o : Bool) (n f t1 t2 : Float) → Ends X o n f → Ends (then (λ s u. narrow_of t1 t2 s u) X) (o || false) (max_of n (min_of t1 t2)) (min_of f (max_of t1 t2))
 unfolding narrow_of
 narrow_ends X true n f t1 t2 h = rw h
 narrow_ends X false n f t1 t2 h = rw h (go (lt f n) (closes n f (min_of t1 t2) (max_of t1 t2)))
   where
     go : (b : Bool) → (T b → T (lt (min_of f (max_of t1 t2)) (max_of n (min_of t1 t2)))) →
-        and_then (cond b Closed (Open n f)) (λ s u. cond (lt (min_of u (max_of t1 t2)) (max_of s (min_of t1 t2))) Closed (Open (max_of s (min_of t1 t2)) (min_of u (max_of t1 t2))))
-        ≡ cond (lt (min_of f (max_of t1 t2)) (max_of n (min_of t1 t2))) Closed (Open (max_of n (min_of t1 t2)) (min_of f (max_of t1 t2)))
+        then (λ s u. cond (lt (min_of u (max_of t1 t2)) (max_of s (min_of t1 t2))) None (Some (max_of s (min_of t1 t2), min_of u (max_of t1 t2)))) (cond b None (Some (n, f)))
+        ≡ cond (lt (min_of f (max_of t1 t2)) (max_of n (min_of t1 t2))) None (Some (max_of n (min_of t1 t2), min_of f (max_of t1 t2)))
     go true k = is_closed (lt (min_of f (max_of t1 t2)) (max_of n (min_of t1 t2))) (max_of n (min_of t1 t2)) (min_of f (max_of t1 t2)) (k tt)
     go false k = refl
 
-still_ends : (X : Span) (o out : Bool) (n f : Float) → Ends X o n f → Ends (and_then X (λ s u. cond out Closed (Open s u))) (o || out) n f
+still_ends : (X : Span) (o out : Bool) (n f : Float) → Ends X o n f → Ends (then (λ s u. cond out None (Some (s, u))) X) (o || out) n f
 still_ends X true out n f h = rw h
 still_ends X false true n f h = rw h (go (lt f n))
   where
-    go : (b : Bool) → and_then (cond b Closed (Open n f)) (λ s u. Closed) ≡ Closed
+    go : (b : Bool) → then (λ s u. None) (cond b None (Some (n, f))) ≡ None
     go true = refl
     go false = refl
 still_ends X false false n f h = rw h (go (lt f n))
   where
-    go : (b : Bool) → and_then (cond b Closed (Open n f)) (λ s u. Open s u) ≡ cond b Closed (Open n f)
+    go : (b : Bool) → then (λ s u. Some (s, u)) (cond b None (Some (n, f))) ≡ cond b None (Some (n, f))
     go true = refl
     go false = refl
 
 axis_ends : (X : Span) (o : Bool) (n f low high from d : Float) → Ends X o n f →
-    Ends (and_then X (λ s u. axis_of low high from d s u)) (o || beside_of low high from d) (near_of n low high from (slope_of d)) (far_of f low high from (slope_of d))
+    Ends (then (λ s u. axis_of low high from d s u) X) (o || beside_of low high from d) (near_of n low high from (slope_of d)) (far_of f low high from (slope_of d))
 unfolding axis_of beside_of slope_of along_of
 axis_ends X o n f low high from d h = go (lt (abs_of d) along_axis)
   where
@@ -93,13 +96,13 @@ axis_ends X o n f low high from d h = go (lt (abs_of d) along_axis)
     out : Bool
     out = lt from low || lt high from
 
-    go : (b : Bool) → Ends (and_then X (λ s u. cond b (cond out Closed (Open s u)) (narrow_of (mul binary32 (sub binary32 low from) inv) (mul binary32 (sub binary32 high from) inv) s u)))
+    go : (b : Bool) → Ends (then (λ s u. cond b (cond out None (Some (s, u))) (narrow_of (mul binary32 (sub binary32 low from) inv) (mul binary32 (sub binary32 high from) inv) s u)) X)
         (o || cond b out false) (near_of n low high from (cond b nan inv)) (far_of f low high from (cond b nan inv))
     go true = rw (mul_nan (sub binary32 low from), mul_nan (sub binary32 high from), both_nan.0, both_nan.1, max_nan n, min_nan f) (still_ends X o out n f h)
     go false = narrow_ends X o n f (mul binary32 (sub binary32 low from) inv) (mul binary32 (sub binary32 high from) inv) h
 
 entry_ends : (x y z c : Bool) (n f : Float) →
-    entry_of (cond ((((false || x) || y) || z) || c) Closed (Open n f)) ≡ cond x Miss (cond y Miss (cond z Miss (cond c Miss (At n))))
+    begins (cond ((((false || x) || y) || z) || c) None (Some (n, f))) ≡ cond x None (cond y None (cond z None (cond c None (Some n))))
 entry_ends true y z c n f = refl
 entry_ends false true z c n f = refl
 entry_ends false false true c n f = refl
@@ -122,14 +125,14 @@ slab_is b ray t ahead =
     let fy = far_of fx b.min.y b.max.y o.y (slope_of d.y) in
     let nz = near_of ny b.min.z b.max.z o.z (slope_of d.z) in
     let fz = far_of fy b.min.z b.max.z o.z (slope_of d.z) in
-    let begun : Ends (Open n t) false n t = rw ahead in
-    let by_x = axis_ends (Open n t) false n t b.min.x b.max.x o.x d.x begun in
+    let begun : Ends (Some (n, t)) false n t = rw ahead in
+    let by_x = axis_ends (Some (n, t)) false n t b.min.x b.max.x o.x d.x begun in
     let by_y = axis_ends (cut_x b ray t) x nx fx b.min.y b.max.y o.y d.y by_x in
     let by_z = axis_ends (cut_y b ray t) (x || y) ny fy b.min.z b.max.z o.z d.z by_y in
-    sym (ap entry_of by_z ∙ entry_ends x y z (lt fz nz) nz fz)
+    sym (ap begins by_z ∙ entry_ends x y z (lt fz nz) nz fz)
 
 -- a ray that moves on every axis runs beside no box
-none_beside : (e : Entry) (b : Aabb) (ray : Ray) → any_along_of ray.direction ≡ false → past_of e b ray ≡ e
+none_beside : (e : Option Float) (b : Aabb) (ray : Ray) → any_along_of ray.direction ≡ false → past_of e b ray ≡ e
 unfolding past_of beside_of any_along_of
 none_beside e b ray h = go (along_of ray.direction.x) (along_of ray.direction.y) (along_of ray.direction.z) h
   where
@@ -137,8 +140,8 @@ none_beside e b ray h = go (along_of ray.direction.x) (along_of ray.direction.y)
     out low high o = lt o low || lt high o
 
     go : (x y z : Bool) → cond x true (cond y true z) ≡ false →
-        cond (cond x (out b.min.x b.max.x ray.origin.x) false) Miss
-        (cond (cond y (out b.min.y b.max.y ray.origin.y) false) Miss (cond (cond z (out b.min.z b.max.z ray.origin.z) false) Miss e))
+        cond (cond x (out b.min.x b.max.x ray.origin.x) false) None
+        (cond (cond y (out b.min.y b.max.y ray.origin.y) false) None (cond (cond z (out b.min.z b.max.z ray.origin.z) false) None e))
         ≡ e
     go true y z k = absurd (subst T k tt)
     go false true z k = absurd (subst T k tt)
@@ -147,12 +150,12 @@ none_beside e b ray h = go (along_of ray.direction.x) (along_of ray.direction.y)
 
 -- THE TEST IS `slab_of`: for a ray that may run beside the box, and for one that moves on every axis
 module _ (b : Aabb) (way : Way) (t : Float) (h : way ≡ way_of way.ray) (ahead : lt t way.ray.min_distance ≡ false) where
-  pub past_is : (e : Entry) → e ≡ cut_of b way.ray way.slopes t → past_of e b way.ray ≡ slab_of b way.ray t
+  pub past_is : (e : Option Float) → e ≡ cut_of b way.ray way.slopes t → past_of e b way.ray ≡ slab_of b way.ray t
   unfolding way_of
   past_is e k =
-      ap (λ (x : Entry). past_of x b way.ray) (k ∙ ap (λ (w : Way). cut_of b way.ray w.slopes t) h)
+      ap (λ (x : Option Float). past_of x b way.ray) (k ∙ ap (λ (w : Way). cut_of b way.ray w.slopes t) h)
       ∙ slab_is b way.ray t ahead
 
-  pub cut_is : (e : Entry) → e ≡ cut_of b way.ray way.slopes t → way.along ≡ false → e ≡ slab_of b way.ray t
+  pub cut_is : (e : Option Float) → e ≡ cut_of b way.ray way.slopes t → way.along ≡ false → e ≡ slab_of b way.ray t
   unfolding way_of
   cut_is e k none = sym (none_beside e b way.ray (sym (ap (λ (w : Way). w.along) h) ∙ none)) ∙ past_is e k

@@ -5,34 +5,33 @@ use mathlib.Core.Bool.{Bool, true, false, cond}
 use mathlib.Core.List.{List, [], ◌∷◌, ◌++◌, foldl, foldl-append}
 use Prim.Native.Nat.{ℕ, zero, suc, ◌+◌, ◌≤◌}
 use native.Mathlib.Omega.{arith}
-use lib.Ieee.{le}
+use lib.Ieee.{Float, le}
 use Rattle.vector.specs.declared.Ray.{Ray}
 use Rattle.geometry.specs.declared.Triangle.{Triangle}
-use Rattle.geometry.specs.declared.Entry.{Entry}
-use Rattle.geometry.specs.declared.Entry.TheVariants.{At, Miss}
+use Rattle.std.specs.Prelude.{Option, None, Some, is_some}
 use Rattle.tree_build.specs.Tree.{Tree, leaf, node, box_of}
 use Rattle.tree_trace.specs.declared.Closest.{Closest}
 use Rattle.tree_trace.specs.Leaf.{visit_all_of}
-use Rattle.tree_trace.specs.Trace.{Test, entered, near_first, trace_tree}
+use Rattle.tree_trace.specs.Trace.{Test, near_first, trace_tree}
 use Rattle.tree_trace.specs.Stack.{stack_of, size_of, sizes}
 
 -- what is pushed has no more nodes than the two children
-pushed : (a b : Entry) (l r : Tree) (s : List Tree) → sizes (near_first a b l r ++ s) ≤ size_of l + size_of r + sizes s
-pushed Miss Miss l r s = omega arith
-pushed Miss (At y) l r s = omega arith
-pushed (At x) Miss l r s = omega arith
-pushed (At x) (At y) l r s = go (le x y)
+pushed : (a b : Option Float) (l r : Tree) (s : List Tree) → sizes (near_first a b l r ++ s) ≤ size_of l + size_of r + sizes s
+pushed None None l r s = omega arith
+pushed None (Some y) l r s = omega arith
+pushed (Some x) None l r s = omega arith
+pushed (Some x) (Some y) l r s = go (le x y)
   where
     go : (t : Bool) → sizes (cond t (l ∷ r ∷ []) (r ∷ l ∷ []) ++ s) ≤ size_of l + size_of r + sizes s
     go true = omega arith
     go false = omega arith
 
-ordered : (a b : Entry) (l r : Tree) (on : Tree → Closest → Closest) (best : Closest) →
+ordered : (a b : Option Float) (l r : Tree) (on : Tree → Closest → Closest) (best : Closest) →
     foldl (λ (x : Closest) (t : Tree). on t x) best (near_first a b l r) ≡ foldl (λ (x : Closest) (f : Closest → Closest). f x) best (near_first a b (on l) (on r))
-ordered Miss Miss l r on best = refl
-ordered Miss (At y) l r on best = refl
-ordered (At x) Miss l r on best = refl
-ordered (At x) (At y) l r on best = go (le x y)
+ordered None None l r on best = refl
+ordered None (Some y) l r on best = refl
+ordered (Some x) None l r on best = refl
+ordered (Some x) (Some y) l r on best = go (le x y)
   where
     go : (t : Bool) → foldl (λ (x : Closest) (t : Tree). on t x) best (cond t (l ∷ r ∷ []) (r ∷ l ∷ [])) ≡ foldl (λ (x : Closest) (f : Closest → Closest). f x) best (cond t (on l ∷ on r ∷ []) (on r ∷ on l ∷ []))
     go true = refl
@@ -62,7 +61,7 @@ module _ (test : Test) (tri : ℕ → Triangle) (ray : Ray) where
       none a c h = omega arith
   stack_all (suc turns) [] best h = refl
   stack_all (suc turns) (leaf b xs ∷ s) best h =
-      go (entered (test b ray best.distance)) (stack_all turns s (visit_all_of tri ray xs best) (omega arith)) (stack_all turns s best (omega arith))
+      go (is_some (test b ray best.distance)) (stack_all turns s (visit_all_of tri ray xs best) (omega arith)) (stack_all turns s best (omega arith))
     where
       v : Closest
       v = visit_all_of tri ray xs best
@@ -75,7 +74,7 @@ module _ (test : Test) (tri : ℕ → Triangle) (ray : Ray) where
       let a = test (box_of l) ray best.distance in
       let c = test (box_of r) ray best.distance in
       let few : sizes (near_first a c l r ++ s) ≤ turns = let p = pushed a c l r s in omega arith in
-      go (entered (test b ray best.distance))
+      go (is_some (test b ray best.distance))
       (stack_all turns (near_first a c l r ++ s) best few
       ∙ foldl-append (λ (x : Closest) (t : Tree). trace_tree test tri ray t x) best (near_first a c l r) s
       ∙ ap (λ (x : Closest). all x s) (ordered a c l r (trace_tree test tri ray) best))

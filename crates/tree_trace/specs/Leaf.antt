@@ -1,5 +1,5 @@
 -- The triangles of a leaf, tried in order: the inner loop of `FlatBvh::intersect`. A triangle is a function of its index.
-use Rattle.std.specs.Prelude.{ℕ, ◌+◌, ◌*◌, ◌<◌, eqb, Float, length, get_or, ◌≡◌, Bool, cond, ◌||◌, List, [], ◌∷◌}
+use Rattle.std.specs.Prelude.{ℕ, ◌+◌, ◌*◌, ◌<◌, eqb, Float, length, get_or, ◌≡◌, Bool, cond, ◌||◌, List, [], ◌∷◌, None, Some}
 use Rattle.std.specs.Float.{nan}
 use Rattle.std.specs.Float.Ieee.{lt}
 use Rattle.vector.specs.declared.Vec3.{Vec3}
@@ -7,9 +7,7 @@ use Rattle.vector.specs.declared.Ray.{Ray}
 use Rattle.vector.specs.Vector.{vec}
 use Rattle.geometry.specs.declared.Triangle.{Triangle}
 use Rattle.geometry.specs.declared.Edges.{Edges}
-use Rattle.geometry.specs.declared.Crossing.{Crossing}
-use Rattle.geometry.specs.declared.Crossing.TheVariants.{At, Miss}
-use Rattle.geometry.specs.Intersect.{edges_of_corners, crossing_of, intersect_max_of}
+use Rattle.geometry.specs.Intersect.{Crossing, edges_of_corners, crossing_of, intersect_max_of}
 use Rattle.tree_trace.specs.declared.Closest.{Closest}
 
 -- `t < best || closest.is_none()`: a nearer crossing, or the first one, takes the place of the closest
@@ -17,8 +15,8 @@ abbrev pub takes_of : Float → ℕ → Closest → Bool
 takes_of t i best = lt t best.distance || eqb best.found 0
 
 abbrev pub keep_of : Crossing → ℕ → Closest → Closest
-keep_of Miss i best = best
-keep_of (At t u v) i best = cond (takes_of t i best) (record { distance = t; index = i; found = 1 }) best
+keep_of None i best = best
+keep_of (Some (t, u, v)) i best = cond (takes_of t i best) (record { distance = t; index = i; found = 1 }) best
 
 -- with a triangle by its first corner and its edges
 unfoldable pub visit_edges_of : Vec3 → Edges → Ray → ℕ → Closest → Closest

@@ -1,6 +1,6 @@
 -- The test of a ray and a padded box with the reciprocals of the ray's direction at hand, and one comparison at its end: `slab_of` for a ray
 -- that ends no sooner than it begins (`past_is` of `proofs/Slopes.antt`).
-use Rattle.std.specs.Prelude.{Float, Bool, true, false, cond, ◌||◌}
+use Rattle.std.specs.Prelude.{Float, Bool, true, false, cond, ◌||◌, Option, None, Some}
 use Rattle.std.specs.Float.{nan, binary32}
 use Rattle.std.specs.Float.Ieee.{sub, mul, div, lt}
 use Rattle.float.specs.Literals.{one32}
@@ -9,8 +9,6 @@ use Rattle.vector.specs.declared.Vec3.{Vec3}
 use Rattle.vector.specs.declared.Ray.{Ray}
 use Rattle.vector.specs.Vector.{vec}
 use Rattle.geometry.specs.declared.Aabb.{Aabb}
-use Rattle.geometry.specs.declared.Entry.{Entry}
-use Rattle.geometry.specs.declared.Entry.TheVariants.{At, Miss}
 use Rattle.geometry.specs.Slab.{along_axis}
 use Rattle.tree_trace.specs.declared.Way.{Way}
 
@@ -42,11 +40,11 @@ near_of near low high o inv = max_of near (min_of (pass_of low o inv) (pass_of h
 abbrev pub far_of : Float → Float → Float → Float → Float → Float
 far_of far low high o inv = min_of far (max_of (pass_of low o inv) (pass_of high o inv))
 
-abbrev pub span_of : Float → Float → Entry
-span_of near far = cond (lt far near) Miss (At near)
+abbrev pub span_of : Float → Float → Option Float
+span_of near far = cond (lt far near) None (Some near)
 
 -- all three axes, and the comparison
-unfoldable pub cut_of : Aabb → Ray → Vec3 → Float → Entry
+unfoldable pub cut_of : Aabb → Ray → Vec3 → Float → Option Float
 cut_of b ray inv t =
     span_of
     (near_of
@@ -58,8 +56,8 @@ cut_of b ray inv t =
 unfoldable pub beside_of : Float → Float → Float → Float → Bool
 beside_of low high o d = cond (along_of d) (lt o low || lt high o) false
 
-unfoldable pub past_of : Entry → Aabb → Ray → Entry
+unfoldable pub past_of : Option Float → Aabb → Ray → Option Float
 past_of e b ray =
-    cond (beside_of b.min.x b.max.x ray.origin.x ray.direction.x) Miss
-    (cond (beside_of b.min.y b.max.y ray.origin.y ray.direction.y) Miss
-    (cond (beside_of b.min.z b.max.z ray.origin.z ray.direction.z) Miss e))
+    cond (beside_of b.min.x b.max.x ray.origin.x ray.direction.x) None
+    (cond (beside_of b.min.y b.max.y ray.origin.y ray.direction.y) None
+    (cond (beside_of b.min.z b.max.z ray.origin.z ray.direction.z) None e))

@@ -3,18 +3,17 @@
 // A crate of its own, as each step of its group is, so that it is checked alone.
 #![tactic(auto)]
 
-ghost use Rattle.std.specs.Prelude.{◌≡◌, true, false, ◌⊎◌, ℕ, ◌+◌, ◌*◌, ◌<◌, ◌≤◌, length, take, drop, get_or};
+ghost use Rattle.std.specs.Prelude.{◌≡◌, true, false, ℕ, ◌+◌, ◌*◌, ◌<◌, ◌≤◌, length, take, drop, get_or, Float, Option, is_some};
 ghost use Rattle.std.specs.Float.Ieee.{lt};
 ghost use Rattle.geometry.specs.declared.Triangle.{Triangle};
-ghost use Rattle.geometry.specs.declared.Entry.TheVariants.{At};
 ghost use Rattle.geometry.specs.Slab.{slab_of};
 ghost use Rattle.tree_build.specs.Tree.{Tree};
 ghost use Rattle.tree_build.specs.Areas.{box_at_of, tree_at_of};
 ghost use Rattle.tree_trace.specs.Leaf.{corner_at_of, edges_at_of, visit_edges_of, visit_all_of, LeafRows};
 ghost use Rattle.tree_trace.specs.Slopes.{along_of, any_along_of, slope_of, slopes_of_direction, near_of, far_of, cut_of, beside_of, past_of, way_of};
-ghost use Rattle.tree_trace.specs.Trace.{entered, near_first, only_of, trace_tree, none, intersect_of, padded_tree_of, list_of, Held};
+ghost use Rattle.tree_trace.specs.Trace.{near_first, trace_tree, none, intersect_of, padded_tree_of, list_of, Entered, Within, Held};
 
-use geometry::{Aabb, Edges, Entry};
+use geometry::{Aabb, Edges};
 use tree_build::Links;
 use vector::{Ray, Vec3};
 
@@ -35,12 +34,6 @@ pub struct RayHit {
     pub material_handle: u32,
 }
 
-#[derive(Clone, Copy)]
-pub enum Hit {
-    At(RayHit),
-    Nothing,
-}
-
 // A ray, and what the tests of boxes need of its direction: worked out once a ray, where the Rust divides in each test.
 #[derive(Clone, Copy)]
 pub struct Way {
@@ -49,13 +42,16 @@ pub struct Way {
     pub along: bool,
 }
 
-// How many children of a node are visited, and which. Where both are, the second one's box is entered at `far`.
+// Which children of a node are visited, and in which order. Where both are, the second one's box is entered at `far`.
 #[derive(Clone, Copy)]
-pub struct Turns {
-    pub count: usize,
-    pub first: usize,
-    pub second: usize,
-    pub far: f32,
+pub enum Turns {
+    Neither,
+    One(usize),
+    Both {
+        first: usize,
+        second: usize,
+        far: f32,
+    },
 }
 
 // ---- leaves
@@ -105,33 +101,24 @@ fn visit(a: Vec3, e: Edges, ray: Ray, i: usize, best: Closest) -> Closest
     if geometry::parallel(det, e.least_det) {
         return best;
     }
-    match geometry::solve(
+    let Some((t, _, _)) = geometry::solve(
         e,
         h,
         vector::sub3(ray.origin, a),
         1.0 / det,
         ray,
         best.distance,
-    ) {
-        geometry::Crossing::At(t, _, _) => {
-            if t < best.distance {
-                return Closest {
-                    distance: t,
-                    index: i,
-                    found: 1,
-                };
-            }
-            if best.found == 0 {
-                return Closest {
-                    distance: t,
-                    index: i,
-                    found: 1,
-                };
-            }
-            best
-        }
-        geometry::Crossing::Miss => best,
+    ) else {
+        return best;
+    };
+    if t < best.distance || best.found == 0 {
+        return Closest {
+            distance: t,
+            index: i,
+            found: 1,
+        };
     }
+    best
 }
 
 // Tries the triangles of a leaf.
@@ -213,7 +200,7 @@ fn far(to: f32, low: f32, high: f32, o: f32, slope: f32) -> f32
 
 // The slab test with the slopes at hand, but for the axes on which the ray does not move. All axes are worked out, with one test at the end: the
 // Rust tests after each, and which of these tests fails is hard to foretell. With no branch it is compiled in line wherever it is called.
-fn slab(b: Aabb, ray: Ray, slopes: Vec3, t: f32) -> Entry
+fn slab(b: Aabb, ray: Ray, slopes: Vec3, t: f32) -> Option<f32>
     ensures { result ≡ cut_of b ray slopes t }
 {
     let x = near(ray.min_distance, b.min.x, b.max.x, ray.origin.x, slopes.x);
@@ -223,9 +210,9 @@ fn slab(b: Aabb, ray: Ray, slopes: Vec3, t: f32) -> Entry
     let q = far(p, b.min.y, b.max.y, ray.origin.y, slopes.y);
     let to = far(q, b.min.z, b.max.z, ray.origin.z, slopes.z);
     if to < from {
-        return Entry::Miss;
+        return None;
     }
-    Entry::At(from)
+    Some(from)
 }
 
 // Whether a ray does not move on an axis and is outside the box on that axis.
@@ -239,28 +226,19 @@ fn beside(low: f32, high: f32, o: f32, d: f32) -> bool
 }
 
 // What `slab` says, but a miss for a ray that runs beside the box.
-fn past(e: Entry, b: Aabb, ray: Ray) -> Entry
+fn past(e: Option<f32>, b: Aabb, ray: Ray) -> Option<f32>
     ensures { result ≡ past_of e b ray }
 {
     if beside(b.min.x, b.max.x, ray.origin.x, ray.direction.x) {
-        return Entry::Miss;
+        return None;
     }
     if beside(b.min.y, b.max.y, ray.origin.y, ray.direction.y) {
-        return Entry::Miss;
+        return None;
     }
     if beside(b.min.z, b.max.z, ray.origin.z, ray.direction.z) {
-        return Entry::Miss;
+        return None;
     }
     e
-}
-
-fn is_some(e: Entry) -> bool
-    ensures { result ≡ entered e }
-{
-    match e {
-        Entry::At(_) => true,
-        Entry::Miss => false,
-    }
 }
 
 fn way_of(ray: Ray) -> Way
@@ -274,67 +252,39 @@ fn way_of(ray: Ray) -> Way
 // Whether the ray enters a box within the distance t.
 fn enters(b: Aabb, way: Way, t: f32) -> bool
     requires { way ≡ way_of way.ray }
-    ensures { lt t way.ray.min_distance ≡ false → result ≡ entered (slab_of b way.ray t) }
+    ensures { lt t way.ray.min_distance ≡ false → result ≡ is_some (slab_of b way.ray t) }
 {
     let e = slab(b, way.ray, way.slopes, t);
     if way.along {
-        return is_some(past(e, b, way.ray));
+        return past(e, b, way.ray).is_some();
     }
-    is_some(e)
-}
-
-// One child alone.
-fn only(i: usize) -> Turns
-    ensures { result ≡ only_of i }
-{
-    Turns {
-        count: 1,
-        first: i,
-        second: i,
-        far: 0.0,
-    }
+    e.is_some()
 }
 
 // Which of the children l and r are visited, and in which order.
-fn in_turn(a: Entry, b: Entry, l: usize, r: usize) -> Turns
+fn in_turn(a: Option<f32>, b: Option<f32>, l: usize, r: usize) -> Turns
     ensures list { list_of result ≡ near_first a b l r }
-    ensures first { (result.count ≡ 0 → ⊥) → ((result.first ≡ l) × (entered a ≡ true)) ⊎ ((result.first ≡ r) × (entered b ≡ true)) }
-    ensures second { (result.count ≡ 0 → ⊥) → (result.count ≡ 1 → ⊥) → ((result.second ≡ l) × (a ≡ At result.far)) ⊎ ((result.second ≡ r) × (b ≡ At result.far)) }
-    ensures both { (m : ℕ) → l < m → r < m → (result.first < m) × (result.second < m) }
+    ensures entered { (entry : ℕ → Option Float) → a ≡ entry l → b ≡ entry r → Entered entry result }
+    ensures within { (m : ℕ) → l < m → r < m → Within m result }
 {
-    match a {
-        Entry::At(ta) => {
-            match b {
-                Entry::At(tb) => {
-                    if ta <= tb {
-                        return Turns {
-                            count: 2,
-                            first: l,
-                            second: r,
-                            far: tb,
-                        };
-                    }
-                    Turns {
-                        count: 2,
-                        first: r,
-                        second: l,
-                        far: ta,
-                    }
-                }
-                Entry::Miss => only(l),
-            }
-        }
-        Entry::Miss => {
-            match b {
-                Entry::At(_) => only(r),
-                Entry::Miss => Turns {
-                    count: 0,
+    match (a, b) {
+        (Some(ta), Some(tb)) => {
+            if ta <= tb {
+                return Turns::Both {
                     first: l,
                     second: r,
-                    far: 0.0,
-                },
+                    far: tb,
+                };
+            }
+            Turns::Both {
+                first: r,
+                second: l,
+                far: ta,
             }
         }
+        (Some(_), None) => Turns::One(l),
+        (None, Some(_)) => Turns::One(r),
+        (None, None) => Turns::Neither,
     }
 }
 
@@ -344,10 +294,8 @@ fn order_at(padded: &[f32], way: Way, l: usize, r: usize, t: f32) -> Turns
     requires way_value { way ≡ way_of way.ray }
     ensures list { lt t way.ray.min_distance ≡ false →
         list_of result ≡ near_first (slab_of (box_at_of padded.now l) way.ray t) (slab_of (box_at_of padded.now r) way.ray t) l r }
-    ensures first { lt t way.ray.min_distance ≡ false → (result.count ≡ 0 → ⊥) → entered (slab_of (box_at_of padded.now result.first) way.ray t) ≡ true }
-    ensures second { lt t way.ray.min_distance ≡ false → (result.count ≡ 0 → ⊥) → (result.count ≡ 1 → ⊥) →
-        slab_of (box_at_of padded.now result.second) way.ray t ≡ At result.far }
-    ensures both { (m : ℕ) → l < m → r < m → (result.first < m) × (result.second < m) }
+    ensures entered { lt t way.ray.min_distance ≡ false → Entered (λ i. slab_of (box_at_of padded.now i) way.ray t) result }
+    ensures within { (m : ℕ) → l < m → r < m → Within m result }
 {
     let p = tree_build::box_at(padded, l);
     let q = tree_build::box_at(padded, r);
@@ -377,7 +325,7 @@ fn trace(
     requires i_lt_count { i < count }
     requires way_value { way ≡ way_of way.ray }
     ensures { (tri : ℕ → Triangle) → LeafRows tri leaf_order.now leaves.now → lt best.distance way.ray.min_distance ≡ false →
-        entered (slab_of (box_at_of padded.now i) way.ray best.distance) ≡ true →
+        is_some (slab_of (box_at_of padded.now i) way.ray best.distance) ≡ true →
         result ≡ trace_tree slab_of tri way.ray (tree_at_of padded.now nodes.now leaf_order.now fuel i) best }
 {
     if fuel == 0 {
@@ -386,22 +334,23 @@ fn trace(
     let left = fuel - 1;
     let k = tree_build::links_at(nodes, i);
     if k.len == 0 {
-        let w = order_at(padded, way, k.left, k.right, best.distance);
-        if w.count == 0 {
-            return best;
-        }
-        let one = trace(
-            padded, nodes, leaf_order, leaves, count, way, left, w.first, best,
-        );
-        if w.count == 1 {
-            return one;
-        }
-        if one.distance < w.far {
-            return one;
-        }
-        return trace(
-            padded, nodes, leaf_order, leaves, count, way, left, w.second, one,
-        );
+        return match order_at(padded, way, k.left, k.right, best.distance) {
+            Turns::Neither => best,
+            Turns::One(only) => trace(
+                padded, nodes, leaf_order, leaves, count, way, left, only, best,
+            ),
+            Turns::Both { first, second, far } => {
+                let one = trace(
+                    padded, nodes, leaf_order, leaves, count, way, left, first, best,
+                );
+                if one.distance < far {
+                    return one;
+                }
+                trace(
+                    padded, nodes, leaf_order, leaves, count, way, left, second, one,
+                )
+            }
+        };
     }
     visit_leaf(leaf_order, leaves, way.ray, k.start, k.len, best)
 }
@@ -456,7 +405,7 @@ pub fn intersect(
     handles: &[u32],
     count: usize,
     ray: Ray,
-) -> Hit
+) -> Option<RayHit>
     requires held { Held padded.now nodes.now leaf_order.now leaves.now count }
     requires count_nonzero { 0 < count }
     ensures { (tri : ℕ → Triangle) (t : Tree) → LeafRows tri leaf_order.now leaves.now →
@@ -465,10 +414,10 @@ pub fn intersect(
 {
     let c = closest_hit(padded, nodes, leaf_order, leaves, count, ray);
     if c.found == 0 {
-        return Hit::Nothing;
+        return None;
     }
     let material_handle = handle_at(handles, c.index);
-    Hit::At(RayHit {
+    Some(RayHit {
         distance: c.distance,
         point: vector::point_at(ray, c.distance),
         triangle: c.index,

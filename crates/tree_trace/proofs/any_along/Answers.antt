@@ -2,25 +2,13 @@
 use Rattle.tree_trace.specs.Slopes.{any_along_of}
 use Rattle.tree_trace.proofs.any_along.Goals as goal
 
-pub is_along-requires : goal.is_along-requires
-unfolding any_along_of
-is_along-requires c = tt
-
 pub returns-then-is_along : goal.returns-then-is_along
 unfolding any_along_of
 returns-then-is_along c = rw (← c.is_along.ensures, c.if-is_along.true)
 
-pub is_along-requires-2 : goal.is_along-requires-2
-unfolding any_along_of
-is_along-requires-2 c = tt
-
 pub returns-then-is_along-2 : goal.returns-then-is_along-2
 unfolding any_along_of
 returns-then-is_along-2 c = rw (← c.is_along.ensures, c.if-is_along.false, ← c.is_along-2.ensures, c.if-is_along-2.true)
-
-pub is_along-requires-3 : goal.is_along-requires-3
-unfolding any_along_of
-is_along-requires-3 c = tt
 
 pub returns : goal.returns
 unfolding any_along_of

@@ -2,10 +2,6 @@
 use Rattle.tree_trace.specs.Slopes.{beside_of}
 use Rattle.tree_trace.proofs.beside.Goals as goal
 
-pub is_along-requires : goal.is_along-requires
-unfolding beside_of
-is_along-requires c = tt
-
 pub returns-then-o-low : goal.returns-then-o-low
 unfolding beside_of
 returns-then-o-low c = rw (← c.is_along.ensures, c.if-is_along.true, c.if-o-low.true)

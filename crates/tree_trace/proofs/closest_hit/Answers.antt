@@ -1,13 +1,13 @@
 -- `tree_trace::closest_hit` meets its contract: a ray that ends before it begins, the root's box entered, or nothing hit.
 use mathlib.Core.Path.{◌≡◌, sym, ap, subst, ◌∙◌}
 use mathlib.Core.Bool.{true, false}
-use native.Mathlib.Omega.{arith}
 use lib.Dec.{T}
 use Rattle.geometry.specs.declared.Aabb.{Aabb}
 use Rattle.geometry.specs.Slab.{slab_of}
 use Rattle.tree_build.specs.Areas.{box_at_of, tree_at_of}
 use Rattle.tree_trace.specs.Slopes.{way_of}
-use Rattle.tree_trace.specs.Trace.{entered, none}
+use Rattle.std.specs.Prelude.{is_some}
+use Rattle.tree_trace.specs.Trace.{none}
 use Rattle.tree_trace.proofs.Laws as law
 use Rattle.tree_trace.proofs.Since.{trace_lost}
 use Rattle.tree_trace.proofs.closest_hit.Goals as goal
@@ -17,24 +17,13 @@ returns-then-ray c =
     let a = c.args in
     λ tri h. sym (trace_lost slab_of tri a.ray (none a.ray) (subst T (sym c.if-ray.true) tt) (tree_at_of a.padded.now a.nodes.now a.leaf_order.now 33 0))
 
-pub box_at-requires : goal.box_at-requires
-box_at-requires c =
-    let H = c.requires.held in
-    let b = H.boxes_room in
-    let z = c.requires.count_nonzero in
-    omega arith
-
 pub enters-requires : goal.enters-requires
 unfolding way_of
 enters-requires c = rw c.way_of-way.ensures
 
-pub trace-requires : goal.trace-requires
+pub trace-requires-clause-way_value : goal.trace-requires-clause-way_value
 unfolding way_of
-trace-requires c = record {
-  held = c.requires.held;
-  i_lt_count = c.requires.count_nonzero;
-  way_value = rw c.way_of-way.ensures;
-}
+trace-requires-clause-way_value c = rw c.way_of-way.ensures
 
 pub returns-then-enters : goal.returns-then-enters
 unfolding way_of
@@ -42,8 +31,8 @@ returns-then-enters c =
     let a = c.args in
     let ahead = c.if-ray.false in
     let way = c.way_of-way.ensures in
-    let e : entered (slab_of (box_at_of a.padded.now 0) a.ray a.ray.max_distance) ≡ true =
-    ap (λ (v : Aabb). entered (slab_of v a.ray a.ray.max_distance)) (sym c.box_at.ensures) ∙ sym (rw way at c.enters.ensures ahead) ∙ c.if-enters.true in
+    let e : is_some (slab_of (box_at_of a.padded.now 0) a.ray a.ray.max_distance) ≡ true =
+    ap (λ (v : Aabb). is_some (slab_of v a.ray a.ray.max_distance)) (sym c.box_at.ensures) ∙ sym (rw way at c.enters.ensures ahead) ∙ c.if-enters.true in
     λ tri h. rw way at (c.trace.ensures tri h) ahead e
 
 pub returns : goal.returns
@@ -51,9 +40,6 @@ unfolding way_of
 returns c =
     let a = c.args in
     let way = c.way_of-way.ensures in
-    let e : entered (slab_of (box_at_of a.padded.now 0) a.ray a.ray.max_distance) ≡ false =
-    ap (λ (v : Aabb). entered (slab_of v a.ray a.ray.max_distance)) (sym c.box_at.ensures) ∙ sym (rw way at c.enters.ensures c.if-ray.false) ∙ c.if-enters.false in
+    let e : is_some (slab_of (box_at_of a.padded.now 0) a.ray a.ray.max_distance) ≡ false =
+    ap (λ (v : Aabb). is_some (slab_of v a.ray a.ray.max_distance)) (sym c.box_at.ensures) ∙ sym (rw way at c.enters.ensures c.if-ray.false) ∙ c.if-enters.false in
     λ tri h. law.trace_miss slab_of tri a.ray a.padded.now a.nodes.now a.leaf_order.now 33 0 (none a.ray) e
-
-pub way_of-way-requires : goal.way_of-way-requires
-way_of-way-requires c = tt

@@ -3,12 +3,6 @@ use mathlib.Core.Path.{sym, ◌∙◌}
 use Rattle.tree_trace.proofs.Laws as law
 use Rattle.tree_trace.proofs.intersect.Goals as goal
 
-pub closest_hit-c-requires : goal.closest_hit-c-requires
-closest_hit-c-requires c = record {
-  held = c.requires.held;
-  count_nonzero = c.requires.count_nonzero;
-}
-
 pub returns-then-c-eq0 : goal.returns-then-c-eq0
 returns-then-c-eq0 c =
     let a = c.args in
@@ -19,9 +13,3 @@ returns c =
     let a = c.args in
     λ tri t h g e. law.hit_found tri a.ray t c.closest_hit-c.result (law.plain_trace tri a.ray t _ _ (c.closest_hit-c.ensures tri h) e) c.if-c-eq0.false
     c.point_at.result c.point_at.ensures c.handle_at-material_handle.result (c.handle_at-material_handle.ensures ∙ sym (g c.closest_hit-c.result.index))
-
-pub handle_at-material_handle-requires : goal.handle_at-material_handle-requires
-handle_at-material_handle-requires c = tt
-
-pub point_at-requires : goal.point_at-requires
-point_at-requires c = tt

@@ -2,10 +2,6 @@
 use Rattle.tree_trace.specs.Slopes.{along_of}
 use Rattle.tree_trace.proofs.is_along.Goals as goal
 
-pub abs-requires : goal.abs-requires
-unfolding along_of
-abs-requires c = tt
-
 pub returns : goal.returns
 unfolding along_of
 returns c = rw (← c.abs.ensures)

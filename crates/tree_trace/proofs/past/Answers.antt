@@ -2,25 +2,13 @@
 use Rattle.tree_trace.specs.Slopes.{past_of}
 use Rattle.tree_trace.proofs.past.Goals as goal
 
-pub beside-requires : goal.beside-requires
-unfolding past_of
-beside-requires c = tt
-
 pub returns-then-beside : goal.returns-then-beside
 unfolding past_of
 returns-then-beside c = rw (← c.beside.ensures, c.if-beside.true)
 
-pub beside-requires-2 : goal.beside-requires-2
-unfolding past_of
-beside-requires-2 c = tt
-
 pub returns-then-beside-2 : goal.returns-then-beside-2
 unfolding past_of
 returns-then-beside-2 c = rw (← c.beside.ensures, c.if-beside.false, ← c.beside-2.ensures, c.if-beside-2.true)
-
-pub beside-requires-3 : goal.beside-requires-3
-unfolding past_of
-beside-requires-3 c = tt
 
 pub returns-then-beside-3 : goal.returns-then-beside-3
 unfolding past_of

@@ -27,21 +27,3 @@ returns c =
       ← c.far-to.ensures,
       c.if-to-from.false,
     )
-
-pub near-x-requires : goal.near-x-requires
-near-x-requires c = tt
-
-pub near-y-requires : goal.near-y-requires
-near-y-requires c = tt
-
-pub near-from-requires : goal.near-from-requires
-near-from-requires c = tt
-
-pub far-p-requires : goal.far-p-requires
-far-p-requires c = tt
-
-pub far-q-requires : goal.far-q-requires
-far-q-requires c = tt
-
-pub far-to-requires : goal.far-to-requires
-far-to-requires c = tt

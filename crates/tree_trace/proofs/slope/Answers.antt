@@ -3,10 +3,6 @@ use Rattle.float.proofs.Patterns.{made_nan}
 use Rattle.tree_trace.specs.Slopes.{slope_of}
 use Rattle.tree_trace.proofs.slope.Goals as goal
 
-pub is_along-requires : goal.is_along-requires
-unfolding slope_of
-is_along-requires c = tt
-
 pub returns-then-is_along : goal.returns-then-is_along
 unfolding slope_of
 returns-then-is_along c = rw (← c.is_along.ensures, c.if-is_along.true) made_nan

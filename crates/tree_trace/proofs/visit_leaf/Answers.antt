@@ -1,31 +1,11 @@
 -- `tree_trace::visit_leaf` meets its contract: the rest of the leaf from here gives what the whole gives.
-use mathlib.Core.Path.{◌≡◌, refl, sym, ap, ◌∙◌}
+use mathlib.Core.Path.{◌≡◌, sym, ap, ◌∙◌}
 use Prim.Native.Nat.{ℕ, ◌+◌, ◌-◌}
 use native.Mathlib.Omega.{arith}
-use borrow.Author.Rules.{rules}
 use lib.ListN.{take, drop, get_or}
 use Rattle.tree_trace.specs.Leaf.{visit_of, visit_all_of, LeafRows}
 use Rattle.tree_trace.proofs.Laws as law
 use Rattle.tree_trace.proofs.visit_leaf.Goals as goal
-
-pub loop-k-init : goal.loop-k-init
-loop-k-init c = (omega arith, λ tri h. refl)
-
-pub offset_bounds-leaf_order-k : goal.offset_bounds-leaf_order-k
-offset_bounds-leaf_order-k c = let p = c.requires in search rules
-
-pub bounds-leaf_order-k : goal.bounds-leaf_order-k
-bounds-leaf_order-k c = let p = c.requires in let t = c.loop-k-test.true in omega arith
-
-pub overflow_cast-i : goal.overflow_cast-i
-overflow_cast-i c = omega (arith, c.shared_slice_known-in-loop-k-1.given c.loop-k.k)
-
-pub corner_at-requires : goal.corner_at-requires
-corner_at-requires c = let p = c.requires in let t = c.loop-k-test.true in omega arith
-
-pub edges_at-requires : goal.edges_at-requires
-edges_at-requires c = let p = c.requires in let t = c.loop-k-test.true in omega arith
-
 
 pub loop-k-preserved : goal.loop-k-preserved
 unfolding LeafRows
@@ -51,6 +31,3 @@ returns c =
     sym (law.visit_done tri a.ray a.leaf_order.now c.loop-k.k (a.start + a.len) c.loop-k.closest c.loop-k-test.false)
     ∙ c.loop-k.invariant.1 tri h
     ∙ ap (λ (j : ℕ). visit_all_of tri a.ray (take j (drop a.start a.leaf_order.now)) a.best) {x = a.start + a.len - a.start} {y = a.len} (omega arith)
-
-pub visit-closest-requires : goal.visit-closest-requires
-visit-closest-requires c = tt
