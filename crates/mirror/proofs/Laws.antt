@@ -5,6 +5,7 @@ use mathlib.Core.List.{List, foldl}
 use Prim.Native.Nat.{ℕ, suc, ◌+◌, ◌-◌, ◌<◌, ◌≤◌}
 use native.Mathlib.Numerals.{add-one}
 use native.Mathlib.Omega.{arith}
+use Rattle.std.specs.Prelude.{None, Some}
 use lib.Ieee.{Float}
 use lib.ListN.{length, get_or, drop, drop_of_length-le}
 use lib.Seq.{drop-cons}
@@ -17,11 +18,8 @@ use Rattle.geometry.specs.Contains.{contains_of, contains_point_of}
 use Rattle.columns.specs.Columns.{vec_at_of, edges_at_of, dots_at_of}
 use Rattle.mirror.specs.Plane.{Plane, no_plane, nth_plane}
 use Rattle.mirror.specs.Border.{nearer_of, weight_of}
-use Rattle.mirror.specs.Locate.{snap_of, snap_edges_of, snap_all_of, find_of, contains_in_box_of, spot_of, surface_of, weighed_of, locate_on_plane_of}
+use Rattle.mirror.specs.Locate.{Snap, snap_of, snap_edges_of, snap_all_of, find_of, contains_in_box_of, spot_of, surface_of, weighed_of, locate_on_plane_of}
 use Rattle.mirror.specs.Rows.{edge_in, edges_in, plane_in, planes_in, ReadsAs}
-use Rattle.mirror.specs.declared.Snap.{Snap}
-use Rattle.mirror.specs.declared.Spot.TheVariants.{Outside, Inside}
-use Rattle.mirror.specs.declared.Located.TheVariants.{Off}
 
 -- ---- the plane at an index
 
@@ -70,11 +68,11 @@ module _ (tri : ℕ → Triangle) (members : List ℕ) (k : ℕ) where
   snap_done ray best h = rw (drop_of_length-le members h)
 
   pub find_step : (p : Vec3) → k < length members →
-      find_of tri p (drop k members) ≡ cond (contains_point_of (tri (get_or members k 0)) p) (Inside (get_or members k 0) p) (find_of tri p (drop (k + 1) members))
+      find_of tri p (drop k members) ≡ cond (contains_point_of (tri (get_or members k 0)) p) (Some (get_or members k 0, p)) (find_of tri p (drop (k + 1) members))
   unfolding find_of
   find_step p h = rw (add-one, drop-cons members k 0)
 
-  pub find_done : (p : Vec3) → length members ≤ k → find_of tri p (drop k members) ≡ Outside
+  pub find_done : (p : Vec3) → length members ≤ k → find_of tri p (drop k members) ≡ None
   unfolding find_of
   find_done p h = rw (drop_of_length-le members h)
 
@@ -86,6 +84,6 @@ pub locate_surface :
     locate_on_plane_of tri fade plane p ≡ weighed_of (weight_of plane.border fade) (surface_of tri plane p)
 unfolding locate_on_plane_of surface_of
 locate_surface tri fade plane p = by (contains_in_box_of plane p) where
-  by : (b : Bool) → cond b (weighed_of (weight_of plane.border fade) (spot_of tri plane p)) Off ≡ weighed_of (weight_of plane.border fade) (cond b (spot_of tri plane p) Outside)
+  by : (b : Bool) → cond b (weighed_of (weight_of plane.border fade) (spot_of tri plane p)) None ≡ weighed_of (weight_of plane.border fade) (cond b (spot_of tri plane p) None)
   by true = refl
   by false = refl

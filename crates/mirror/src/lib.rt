@@ -40,34 +40,6 @@ pub struct PlaneRow {
     pub fitted: bool,
 }
 
-// Where a segment crosses a plane, if its ends lie off the plane and on two sides of it.
-#[derive(Clone, Copy)]
-pub enum PlaneCrossing {
-    Nowhere,
-    At(Vec3),
-}
-
-// The triangle that a fitted plane's point is moved onto, and how far along the normal.
-#[derive(Clone, Copy)]
-pub enum Snap {
-    Missed,
-    Met(usize, f32),
-}
-
-// The triangle that a point lies on, and the point there.
-#[derive(Clone, Copy)]
-pub enum Spot {
-    Outside,
-    Inside(usize, Vec3),
-}
-
-// What locating a point answers: the triangle, the edge weight and the point.
-#[derive(Clone, Copy)]
-pub enum Located {
-    Off,
-    On(usize, f32, Vec3),
-}
-
 // ---- rows
 
 fn wide(x: u32) -> usize
@@ -142,22 +114,22 @@ fn along(origin: Vec3, direction: Vec3, t: f32) -> Vec3
     }
 }
 
-// Where the segment from `prev` to `target` crosses the plane.
-pub fn crossing(plane: PlaneRow, prev: Vec3, target: Vec3) -> PlaneCrossing
+// Where the segment from `prev` to `target` crosses the plane, if its ends lie off the plane and on two sides of it.
+pub fn crossing(plane: PlaneRow, prev: Vec3, target: Vec3) -> Option<Vec3>
     ensures { (is : List ℕ) (es : List Edge) → result ≡ crossing_of (row_plane plane is es) prev target }
 {
     let da = signed_distance(plane, prev);
     let db = signed_distance(plane, target);
     if da * db < 0.0 {
         if float::abs(da) < PLANE_SIDE_EPS {
-            return PlaneCrossing::Nowhere;
+            return None;
         }
         if float::abs(db) < PLANE_SIDE_EPS {
-            return PlaneCrossing::Nowhere;
+            return None;
         }
-        return PlaneCrossing::At(along(prev, vector::sub3(target, prev), da / (da - db)));
+        return Some(along(prev, vector::sub3(target, prev), da / (da - db)));
     }
-    PlaneCrossing::Nowhere
+    None
 }
 
 // ---- the border
@@ -240,30 +212,35 @@ fn contains_in_box(plane: PlaneRow, p: Vec3) -> bool
     false
 }
 
-// Tries one triangle, given by its first corner and its edges.
-fn snap_on(a: Vec3, e: Edges, ray: Ray, i: usize, best: Snap) -> Snap
+// Tries one triangle, given by its first corner and its edges. What a fitted plane's point is moved onto is a triangle, so far along the normal.
+fn snap_on(
+    a: Vec3,
+    e: Edges,
+    ray: Ray,
+    i: usize,
+    best: Option<(usize, f32)>,
+) -> Option<(usize, f32)>
     ensures { result ≡ snap_edges_of a e ray i best }
 {
-    let geometry::Crossing::At(t, _, _) = geometry::intersect_edges(a, e, ray, ray.max_distance)
-    else {
+    let Some((t, _, _)) = geometry::intersect_edges(a, e, ray, ray.max_distance) else {
         return best;
     };
-    let Snap::Met(_, s) = best else {
-        return Snap::Met(i, t);
+    let Some((_, s)) = best else {
+        return Some((i, t));
     };
     if float::abs(t) < float::abs(s) {
-        return Snap::Met(i, t);
+        return Some((i, t));
     }
     best
 }
 
 // Of the triangles that the ray meets the nearest, on either side of its origin.
-fn snap_all(triangles: &[f32], n: usize, ray: Ray, plane_triangles: &[u32]) -> Snap
+fn snap_all(triangles: &[f32], n: usize, ray: Ray, plane_triangles: &[u32]) -> Option<(usize, f32)>
     requires { (column_count * n ≤ length triangles.now) × Below n plane_triangles.now }
     ensures { (tri : ℕ → Triangle) → AllRead tri triangles.now n plane_triangles.now →
-        result ≡ snap_all_of tri ray plane_triangles.now Snap.Missed }
+        result ≡ snap_all_of tri ray plane_triangles.now None }
 {
-    let mut best = Snap::Missed;
+    let mut best: Option<(usize, f32)> = None;
     for k in 0..plane_triangles.len() {
         let i = plane_triangles[k] as usize;
         best = snap_on(
@@ -291,8 +268,8 @@ fn normal_ray(plane: PlaneRow, p: Vec3) -> Ray
     }
 }
 
-// The first triangle that p lies on.
-fn find(triangles: &[f32], n: usize, p: Vec3, plane_triangles: &[u32]) -> Spot
+// The first triangle that p lies on, and the point there.
+fn find(triangles: &[f32], n: usize, p: Vec3, plane_triangles: &[u32]) -> Option<(usize, Vec3)>
     requires { (column_count * n ≤ length triangles.now) × Below n plane_triangles.now }
     ensures { (tri : ℕ → Triangle) → AllRead tri triangles.now n plane_triangles.now →
         result ≡ find_of tri p plane_triangles.now }
@@ -305,22 +282,26 @@ fn find(triangles: &[f32], n: usize, p: Vec3, plane_triangles: &[u32]) -> Spot
             columns::dots_at(triangles, n, i),
             p,
         ) {
-            return Spot::Inside(i, p);
+            return Some((i, p));
         }
     }
-    Spot::Outside
+    None
 }
 
-fn spot_on(triangles: &[f32], n: usize, plane: PlaneRow, plane_triangles: &[u32], p: Vec3) -> Spot
+fn spot_on(
+    triangles: &[f32],
+    n: usize,
+    plane: PlaneRow,
+    plane_triangles: &[u32],
+    p: Vec3,
+) -> Option<(usize, Vec3)>
     requires { (column_count * n ≤ length triangles.now) × Below n plane_triangles.now }
     ensures { (tri : ℕ → Triangle) (es : List Edge) → AllRead tri triangles.now n plane_triangles.now →
         result ≡ spot_of tri (row_plane plane plane_triangles.now es) p }
 {
     if plane.fitted {
-        let Snap::Met(i, t) = snap_all(triangles, n, normal_ray(plane, p), plane_triangles) else {
-            return Spot::Outside;
-        };
-        return Spot::Inside(i, along(p, plane.normal, t));
+        let (i, t) = snap_all(triangles, n, normal_ray(plane, p), plane_triangles)?;
+        return Some((i, along(p, plane.normal, t)));
     }
     find(triangles, n, p, plane_triangles)
 }
@@ -332,7 +313,7 @@ pub fn surface(
     plane: PlaneRow,
     plane_triangles: &[u32],
     p: Vec3,
-) -> Spot
+) -> Option<(usize, Vec3)>
     requires n_in_bounds { column_count * n ≤ length triangles.now }
     requires count_in_bounds { (plane.first + plane.count ≤ length plane_triangles.now) × Below n (tris_of plane plane_triangles.now) }
     ensures { (tri : ℕ → Triangle) (es : List Edge) → AllRead tri triangles.now n (tris_of plane plane_triangles.now) →
@@ -343,9 +324,10 @@ pub fn surface(
         let end = first + plane.count;
         return spot_on(triangles, n, plane, &plane_triangles[first..end], p);
     }
-    Spot::Outside
+    None
 }
 
+// The triangle that a point of the plane is located on, the edge weight there and the point.
 pub fn locate_on_plane(
     triangles: &[f32],
     n: usize,
@@ -354,14 +336,12 @@ pub fn locate_on_plane(
     plane_edges: &[f32],
     fade: f32,
     p: Vec3,
-) -> Located
+) -> Option<(usize, f32, Vec3)>
     requires n_in_bounds { column_count * n ≤ length triangles.now }
     requires runs_in { RunsIn plane n plane_triangles.now plane_edges.now }
     ensures { (tri : ℕ → Triangle) → AllRead tri triangles.now n (tris_of plane plane_triangles.now) →
         result ≡ locate_on_plane_of tri fade (row_plane plane (tris_of plane plane_triangles.now) (border_of plane plane_edges.now)) p }
 {
-    let Spot::Inside(i, q) = surface(triangles, n, plane, plane_triangles, p) else {
-        return Located::Off;
-    };
-    Located::On(i, weight(plane_edges, plane.edge, plane.edges, fade, q), q)
+    let (i, q) = surface(triangles, n, plane, plane_triangles, p)?;
+    Some((i, weight(plane_edges, plane.edge, plane.edges, fade, q), q))
 }

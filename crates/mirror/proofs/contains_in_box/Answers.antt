@@ -2,18 +2,6 @@
 use Rattle.mirror.specs.Locate.{contains_in_box_of}
 use Rattle.mirror.proofs.contains_in_box.Goals as goal
 
-pub within-requires : goal.within-requires
-unfolding contains_in_box_of
-within-requires c = tt
-
-pub within-requires-then-within : goal.within-requires-then-within
-unfolding contains_in_box_of
-within-requires-then-within c = tt
-
-pub within-requires-then-within-2 : goal.within-requires-then-within-2
-unfolding contains_in_box_of
-within-requires-then-within-2 c = tt
-
 pub returns-then-within-2 : goal.returns-then-within-2
 unfolding contains_in_box_of
 returns-then-within-2 c is es = rw (

@@ -1,18 +1,11 @@
 -- `mirror::find` meets its contract: the triangles from here on give what all give.
-use mathlib.Core.Path.{◌≡◌, refl, sym, ◌∙◌}
-use native.Mathlib.Omega.{arith}
+use mathlib.Core.Path.{◌≡◌, sym, ◌∙◌}
 use lib.ListN.{get_or}
 use Rattle.order.specs.Sort.{Below}
 use Rattle.geometry.specs.Contains.{contains_point_of}
 use Rattle.mirror.specs.Rows.{AllRead}
 use Rattle.mirror.proofs.Laws.{contains_read, find_step, find_done}
 use Rattle.mirror.proofs.find.Goals as goal
-
-pub loop-k-init : goal.loop-k-init
-loop-k-init c = λ tri h. refl
-
-pub overflow_cast-i : goal.overflow_cast-i
-overflow_cast-i c = omega (arith, c.shared_slice_known-in-loop-k-1.given c.loop-k.k)
 
 pub corner_at-requires : goal.corner_at-requires
 unfolding Below
@@ -37,7 +30,6 @@ returns-then-contains c =
     c.contains.ensures ∙ rw (c.corner_at.ensures, c.edges_at.ensures, c.dots_at.ensures) (contains_read a.triangles.now a.n i (tri i) a.p (h k c.loop-k-test.true)) in
     rw (← c.loop-k.invariant tri h, find_step tri a.plane_triangles.now k a.p c.loop-k-test.true, ← e, c.if-contains.true)
 
-
 pub loop-k-preserved : goal.loop-k-preserved
 unfolding AllRead
 loop-k-preserved c =
@@ -53,6 +45,3 @@ pub returns : goal.returns
 returns c =
     let a = c.args in
     λ tri h. sym (find_done tri a.plane_triangles.now c.loop-k.k a.p c.loop-k-test.false) ∙ c.loop-k.invariant tri h
-
-pub contains-requires : goal.contains-requires
-contains-requires c = tt

@@ -2,10 +2,6 @@
 use Rattle.mirror.specs.Mirror.{mirror_of}
 use Rattle.mirror.proofs.mirror.Goals as goal
 
-pub signed_distance-d-requires : goal.signed_distance-d-requires
-unfolding mirror_of
-signed_distance-d-requires c = tt
-
 pub returns : goal.returns
 unfolding mirror_of
 returns c is es = rw (← c.signed_distance-d.ensures is es)

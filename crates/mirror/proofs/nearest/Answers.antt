@@ -2,22 +2,6 @@
 use Rattle.mirror.specs.Border.{nearest_of}
 use Rattle.mirror.proofs.nearest.Goals as goal
 
-pub dot3-len2-requires : goal.dot3-len2-requires
-unfolding nearest_of
-dot3-len2-requires c = tt
-
-pub sub3-requires : goal.sub3-requires
-unfolding nearest_of
-sub3-requires c = tt
-
-pub dot3-requires : goal.dot3-requires
-unfolding nearest_of
-dot3-requires c = tt
-
-pub clamp-requires : goal.clamp-requires
-unfolding nearest_of
-clamp-requires c = tt
-
 pub returns-then-len2 : goal.returns-then-len2
 unfolding nearest_of
 returns-then-len2 c = rw (

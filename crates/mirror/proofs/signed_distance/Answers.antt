@@ -2,10 +2,6 @@
 use Rattle.mirror.specs.Mirror.{signed_distance_of}
 use Rattle.mirror.proofs.signed_distance.Goals as goal
 
-pub dot3-requires : goal.dot3-requires
-unfolding signed_distance_of
-dot3-requires c = tt
-
 pub returns : goal.returns
 unfolding signed_distance_of
 returns c is es = rw (← c.dot3.ensures)

@@ -1,19 +1,12 @@
 -- `mirror::snap_all` meets its contract: the triangles from here on give what all give.
-use mathlib.Core.Path.{◌≡◌, refl, sym, ap, ◌∙◌}
+use mathlib.Core.Path.{◌≡◌, sym, ap, ◌∙◌}
 use Prim.Native.Nat.{◌+◌}
-use native.Mathlib.Omega.{arith}
 use lib.ListN.{drop, get_or}
 use Rattle.order.specs.Sort.{Below}
 use Rattle.mirror.specs.Locate.{snap_of, snap_all_of}
 use Rattle.mirror.specs.Rows.{AllRead}
 use Rattle.mirror.proofs.Laws.{snap_read, snap_step, snap_done}
 use Rattle.mirror.proofs.snap_all.Goals as goal
-
-pub loop-k-init : goal.loop-k-init
-loop-k-init c = λ tri h. refl
-
-pub overflow_cast-i : goal.overflow_cast-i
-overflow_cast-i c = omega (arith, c.shared_slice_known-in-loop-k-1.given c.loop-k.k)
 
 pub corner_at-requires : goal.corner_at-requires
 unfolding Below
@@ -22,7 +15,6 @@ corner_at-requires c = (c.requires.0, c.requires.1 _ c.loop-k-test.true)
 pub edges_at-requires : goal.edges_at-requires
 unfolding Below
 edges_at-requires c = (c.requires.0, c.requires.1 _ c.loop-k-test.true)
-
 
 pub loop-k-preserved : goal.loop-k-preserved
 unfolding AllRead
@@ -41,6 +33,3 @@ pub returns : goal.returns
 returns c =
     let a = c.args in
     λ tri h. sym (snap_done tri a.plane_triangles.now c.loop-k.k a.ray c.loop-k.best c.loop-k-test.false) ∙ c.loop-k.invariant tri h
-
-pub snap_on-best-requires : goal.snap_on-best-requires
-snap_on-best-requires c = tt

@@ -10,15 +10,6 @@ use Rattle.mirror.proofs.surface.Goals as goal
 run : (first count : ℕ) → first + count - first ≡ count
 run first count = omega arith
 
-pub overflow_add-end : goal.overflow_add-end
-overflow_add-end c = omega (arith, c.requires.count_in_bounds.0, c.well_formed)
-
-pub offset_bounds-plane_triangles-first : goal.offset_bounds-plane_triangles-first
-offset_bounds-plane_triangles-first c = omega (arith, c.requires.count_in_bounds.0, c.well_formed)
-
-pub slice_bounds-spot_on-end : goal.slice_bounds-spot_on-end
-slice_bounds-spot_on-end c = omega (arith, c.requires.count_in_bounds.0)
-
 pub spot_on-requires : goal.spot_on-requires
 unfolding tris_of
 spot_on-requires c = (c.requires.n_in_bounds, rw (run c.args.plane.first c.args.plane.count) c.requires.count_in_bounds.1)
@@ -35,6 +26,3 @@ returns-then-contains_in_box c = λ tri es h.
 pub returns : goal.returns
 unfolding surface_of
 returns c = λ tri es h. rw (← c.contains_in_box.ensures (tris_of c.args.plane c.args.plane_triangles.now) es, c.if-contains_in_box.false)
-
-pub contains_in_box-requires : goal.contains_in_box-requires
-contains_in_box-requires c = tt
