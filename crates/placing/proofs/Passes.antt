@@ -11,8 +11,7 @@ use lib.Seq.{drop-drop, length-take-le}
 use Rattle.scene.specs.Scene.{Header, headers, vertex_sum, index_sum, triple_sum, cut}
 use Rattle.scene.proofs.Cuts.{header_at, no_header, drop_one, vertex_step, index_step, triple_step}
 use Rattle.geometry.specs.declared.Triangle.{Triangle}
-use Rattle.geometry.specs.declared.Shape.{Shape}
-use Rattle.geometry.specs.declared.Shape.TheVariants.{Degenerate, Proper}
+use Rattle.std.specs.Prelude.{Option, None, Some}
 use Rattle.placing.specs.Corners.{triple, triples, whole_triples, Corners, corners_in, corners_of, corners_all}
 use Rattle.placing.specs.Passing.{World, world, state, placing, step_of, run}
 use Rattle.placing.specs.declared.State.{State}
@@ -31,11 +30,11 @@ pub record Proper-as (b : Bool) (t u : Triangle) : Type 0 where
   pub proper : b ≡ false
   pub same : u ≡ t
 
-pub told_degenerate : (b : Bool) (t : Triangle) (r : Shape) → r ≡ cond b Degenerate (Proper t) → r ≡ Degenerate → b ≡ true
+pub told_degenerate : (b : Bool) (t : Triangle) (r : Option Triangle) → r ≡ cond b None (Some t) → r ≡ None → b ≡ true
 told_degenerate true t r e f = refl
 told_degenerate false t r e f = absurd (let z : ◌≡◌ {A = ℕ} 0 1 = cc in omega arith)
 
-pub told_proper : (b : Bool) (t u : Triangle) (r : Shape) → r ≡ cond b Degenerate (Proper t) → r ≡ Proper u → Proper-as b t u
+pub told_proper : (b : Bool) (t u : Triangle) (r : Option Triangle) → r ≡ cond b None (Some t) → r ≡ Some u → Proper-as b t u
 told_proper true t u r e f = absurd (let z : ◌≡◌ {A = ℕ} 0 1 = cc in omega arith)
 told_proper false t u r e f = record { proper = refl; same = cc }
 

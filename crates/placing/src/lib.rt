@@ -10,7 +10,6 @@ ghost use Rattle.scene.specs.Limits.{most_triples};
 ghost use Rattle.placing.specs.Loading.{first_refusal, Loading};
 ghost use Rattle.placing.specs.Passing.{world, state, placing, step_of, run, Room, Did, Fits, PassedOver};
 
-use geometry::Shape;
 use scene::{Checked, Settings};
 use vector::Vec3;
 
@@ -107,7 +106,7 @@ fn keep(
             far: true,
         };
     }
-    let Shape::Proper(t) = geometry::triangle_of(a, b, c, handle) else {
+    let Some(t) = geometry::triangle_of(a, b, c, handle) else {
         return State {
             kept: st.kept,
             placings: made,

@@ -1,25 +1,18 @@
 -- The probe of the buried patches: a ray's nearest hit in the tree of the scene.
-use Rattle.std.specs.Prelude.{ℕ, ◌≡◌, Bool, true, false, ◌&&◌, List, Float, get_or}
+use Rattle.std.specs.Prelude.{ℕ, ◌≡◌, Bool, ◌&&◌, List, Float, get_or, is_some}
 use Rattle.std.specs.Float.Ieee.{neg}
 use Rattle.float.specs.Literals.{one32}
 use Rattle.vector.specs.declared.Ray.{Ray}
 use Rattle.geometry.specs.declared.Triangle.{Triangle}
 use Rattle.tree_build.specs.Tree.{Tree}
 use Rattle.tree_build.specs.Areas.{tree_at_of}
-use Rattle.tree_trace.specs.declared.Hit.{Hit}
-use Rattle.tree_trace.specs.declared.Hit.TheVariants.{At, Nothing}
 use Rattle.tree_trace.specs.Leaf.{LeafRows}
 use Rattle.tree_trace.specs.Trace.{intersect_of, padded_tree_of}
 use Rattle.planes_buried.specs.Buried.{probe_ray_of}
 
--- `is_some`
-abbrev pub is_hit : Hit → Bool
-is_hit (At h) = true
-is_hit Nothing = false
-
 -- `probe`
 unfoldable pub probe_of : (ℕ → Triangle) → Tree → Ray → Bool
-probe_of tri t ray = is_hit (intersect_of tri ray t)
+probe_of tri t ray = is_some (intersect_of tri ray t)
 
 -- the areas hold the tree of these triangles
 pub record TreeHeld (tri : ℕ → Triangle) (t : Tree) (padded : List Float) (nodes perm : List ℕ) (leaves : List Float) (handles : List ℕ) : Type 0 where

@@ -76,10 +76,7 @@ fn probe(
         TreeHeld tri t padded.now nodes.now leaf_order.now leaves.now handles.now →
         result ≡ probe_of tri t ray }
 {
-    match tree_trace::intersect(padded, nodes, leaf_order, leaves, handles, count, ray) {
-        tree_trace::Hit::At(_) => true,
-        tree_trace::Hit::Nothing => false,
-    }
+    tree_trace::intersect(padded, nodes, leaf_order, leaves, handles, count, ray).is_some()
 }
 
 // Whether rays from both sides of a triangle hit something.

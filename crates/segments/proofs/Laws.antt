@@ -21,8 +21,7 @@ use Rattle.bands.specs.Band8.{splat_of, zeros_of, mul_of}
 use Rattle.tree_build.specs.Tree.{Tree}
 use Rattle.tree_trace.specs.declared.Closest.{Closest}
 use Rattle.tree_trace.specs.declared.RayHit.{RayHit}
-use Rattle.tree_trace.specs.declared.Hit.{Hit}
-use Rattle.tree_trace.specs.declared.Hit.TheVariants.{Nothing, At}
+use Rattle.std.specs.Prelude.{Option, None, Some}
 use Rattle.geometry.specs.Slab.{intersect_tof}
 use Rattle.tree_trace.specs.Trace.{trace_tree, none, intersect_of}
 use Rattle.segments.specs.declared.Transmission.{Transmission}
@@ -30,23 +29,23 @@ use Rattle.segments.specs.Segment.{occlusion_eps, probe_count, transmission, seg
 
 -- ---- a hit's handle
 
-abbrev handle_or : ℕ → Hit → ℕ
-handle_or d Nothing = d
-handle_or d (At h) = h.material_handle
+abbrev handle_or : ℕ → Option RayHit → ℕ
+handle_or d None = d
+handle_or d (Some h) = h.material_handle
 
 -- what holds of each triangle's handle holds of a hit's
 pub hit_handle :
     (tri : ℕ → Triangle) (t : Tree) (ray : Ray) (h : RayHit) (P : ℕ → Type 0) →
-    ((i : ℕ) → P (tri i).material_handle) → intersect_of tri ray t ≡ At h → P h.material_handle
+    ((i : ℕ) → P (tri i).material_handle) → intersect_of tri ray t ≡ Some h → P h.material_handle
 unfolding intersect_of
 hit_handle tri t ray h P all e = rw e at (found (trace_tree intersect_tof tri ray t (none ray)) (eqb (trace_tree intersect_tof tri ray t (none ray)).found 0)) where
   found : (c : Closest) (b : Bool) →
       P (handle_or (tri 0).material_handle
-      (cond b Nothing (At (record { distance = c.distance; point = point_at_of ray c.distance; triangle = c.index; material_handle = (tri c.index).material_handle }))))
+      (cond b None (Some (record { distance = c.distance; point = point_at_of ray c.distance; triangle = c.index; material_handle = (tri c.index).material_handle }))))
   found c true = all 0
   found c false = all c.index
 
-module _ (trace : Ray → Hit) (pass : ℕ → Band8) where
+module _ (trace : Ray → Option RayHit) (pass : ℕ → Band8) where
   -- ---- the four ways that a turn of the walk goes
 
   module _ (dir : Vec3) (left : ℕ) (o : Vec3) (r : Float) (g : Band8) (n : ℕ) where
@@ -54,19 +53,19 @@ module _ (trace : Ray → Hit) (pass : ℕ → Band8) where
     unfolding walk_of
     walk_end e = elim left as (λ m. transmission g n ≡ walk_of trace pass dir m o r g n) [ zero ↦ rw e | suc k ↦ rw e ]
 
-    pub walk_clear : lt (mul binary32 two occlusion_eps) r ≡ true → trace (segment_ray_of o dir r) ≡ Nothing → transmission g (n + 1) ≡ walk_of trace pass dir left o r g n
+    pub walk_clear : lt (mul binary32 two occlusion_eps) r ≡ true → trace (segment_ray_of o dir r) ≡ None → transmission g (n + 1) ≡ walk_of trace pass dir left o r g n
     unfolding walk_of
     walk_clear e h = elim left as (λ m. transmission g (n + 1) ≡ walk_of trace pass dir m o r g n) [ zero ↦ rw (e, h) | suc k ↦ rw (e, h) ]
 
     pub walk_over :
-        (x : RayHit) → left ≡ 0 → lt (mul binary32 two occlusion_eps) r ≡ true → trace (segment_ray_of o dir r) ≡ At x →
+        (x : RayHit) → left ≡ 0 → lt (mul binary32 two occlusion_eps) r ≡ true → trace (segment_ray_of o dir r) ≡ Some x →
         transmission zeros_of (n + 1) ≡ walk_of trace pass dir left o r g n
     unfolding walk_of
     walk_over x z e h = rw (z, e, h)
 
   pub walk_on :
       (dir : Vec3) (left : ℕ) (o : Vec3) (r : Float) (g : Band8) (n : ℕ) (x : RayHit) →
-      (left ≡ 0 → ⊥) → lt (mul binary32 two occlusion_eps) r ≡ true → trace (segment_ray_of o dir r) ≡ At x →
+      (left ≡ 0 → ⊥) → lt (mul binary32 two occlusion_eps) r ≡ true → trace (segment_ray_of o dir r) ≡ Some x →
       walk_of trace pass dir (left - 1) x.point (sub binary32 r x.distance) (mul_of g (pass x.material_handle)) (n + 1) ≡ walk_of trace pass dir left o r g n
   unfolding walk_of
   walk_on dir zero o r g n x ne e h = absurd (ne refl)
@@ -77,10 +76,10 @@ module _ (trace : Ray → Hit) (pass : ℕ → Band8) where
   turn_bound :
       (on : Vec3 → Float → Band8 → Transmission) (r : Float) (g : Band8) (n m : ℕ) →
       ((p : Vec3) (x : Float) (f : Band8) → (on p x f).rays ≤ m) → n + 1 ≤ m →
-      (b : Bool) (h : Hit) → (cond b (after_of pass on r g n h) (transmission g n)).rays ≤ m
+      (b : Bool) (h : Option RayHit) → (cond b (after_of pass on r g n h) (transmission g n)).rays ≤ m
   turn_bound on r g n m all fits false h = omega arith
-  turn_bound on r g n m all fits true Nothing = fits
-  turn_bound on r g n m all fits true (At h) = all h.point (sub binary32 r h.distance) (mul_of g (pass h.material_handle))
+  turn_bound on r g n m all fits true None = fits
+  turn_bound on r g n m all fits true (Some h) = all h.point (sub binary32 r h.distance) (mul_of g (pass h.material_handle))
 
   pub walk_bound : (dir : Vec3) (left : ℕ) (o : Vec3) (r : Float) (g : Band8) (n : ℕ) → (walk_of trace pass dir left o r g n).rays ≤ n + left + 1
   unfolding walk_of

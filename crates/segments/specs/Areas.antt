@@ -1,16 +1,16 @@
 -- What a trace asks of the areas that it is lent, and what they read as.
-use Rattle.std.specs.Prelude.{ℕ, ◌+◌, ◌*◌, ◌≤◌, ◌<◌, Float, length, get_or, ◌≡◌, List}
+use Rattle.std.specs.Prelude.{ℕ, ◌+◌, ◌*◌, ◌≤◌, ◌<◌, Float, length, get_or, ◌≡◌, List, Option}
 use Rattle.vector.specs.declared.Ray.{Ray}
 use Rattle.geometry.specs.declared.Triangle.{Triangle}
 use Rattle.tree_build.specs.Tree.{Tree}
 use Rattle.tree_build.specs.Areas.{tree_at_of}
-use Rattle.tree_trace.specs.declared.Hit.{Hit}
+use Rattle.tree_trace.specs.declared.RayHit.{RayHit}
 use Rattle.tree_trace.specs.Leaf.{LeafRows}
 use Rattle.tree_trace.specs.Trace.{intersect_of, padded_tree_of, Held}
 use Rattle.segments.specs.Materials.{material_floats}
 
 -- the trace of a tree over triangles
-abbrev pub trace_in : (ℕ → Triangle) → Tree → Ray → Hit
+abbrev pub trace_in : (ℕ → Triangle) → Tree → Ray → Option RayHit
 trace_in tri t ray = intersect_of tri ray t
 
 -- the areas read as the tree t over the triangles tri

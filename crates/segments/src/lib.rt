@@ -12,7 +12,6 @@ ghost use Rattle.segments.specs.Segment.{segment_transmission_of, offset_of, mid
 ghost use Rattle.segments.specs.Areas.{trace_in, TreeReads, Traceable};
 
 use bands::Band8;
-use tree_trace::Hit;
 use vector::{Angle, Basis, Ray, Vec3};
 
 const OCCLUSION_EPS: f32 = 1e-3;
@@ -148,7 +147,7 @@ fn walk(
         result ≡ walk_of (trace_in tri t) (transmission_of_handle materials.now) dir left origin remaining product rays }
 {
     if remaining > 2.0 * OCCLUSION_EPS {
-        let Hit::At(hit) = tree_trace::intersect(
+        let Some(hit) = tree_trace::intersect(
             padded,
             nodes,
             leaf_order,

@@ -6,12 +6,3 @@ use Rattle.placing.proofs.far_corner.Goals as goal
 pub returns : goal.returns
 unfolding is_far_corner
 returns c = rw (c.far.ensures, c.far-2.ensures, c.far-3.ensures) (or_assoc (far_of c.args.v.x) (far_of c.args.v.y) (far_of c.args.v.z))
-
-pub far-requires : goal.far-requires
-far-requires c = tt
-
-pub far-requires-2 : goal.far-requires-2
-far-requires-2 c = tt
-
-pub far-requires-3 : goal.far-requires-3
-far-requires-3 c = tt

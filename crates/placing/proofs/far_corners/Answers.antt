@@ -6,12 +6,3 @@ use Rattle.placing.proofs.far_corners.Goals as goal
 pub returns : goal.returns
 unfolding has_far_corner
 returns c = rw (c.far_corner.ensures, c.far_corner-2.ensures, c.far_corner-3.ensures) (or_assoc (is_far_corner c.args.a) (is_far_corner c.args.b) (is_far_corner c.args.c))
-
-pub far_corner-requires : goal.far_corner-requires
-far_corner-requires c = tt
-
-pub far_corner-requires-2 : goal.far_corner-requires-2
-far_corner-requires-2 c = tt
-
-pub far_corner-requires-3 : goal.far_corner-requires-3
-far_corner-requires-3 c = tt

@@ -19,9 +19,6 @@ triangles_from_scene-placed-requires c =
       n_in_bounds_2 = omega (arith, told.room.handles_room, asked.1);
     }
 
-pub check-checked-requires : goal.check-checked-requires
-check-checked-requires c = tt
-
 pub returns-in-Refused : goal.returns-in-Refused
 returns-in-Refused c = load_refused _ _ _ _ _ _ _ (sym c.check-checked.ensures ∙ c.in-Refused.is)
 

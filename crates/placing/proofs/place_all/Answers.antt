@@ -64,97 +64,8 @@ returns c =
       kept_le_n = omega arith;
     }
 
-pub loop-at-init : goal.loop-at-init
-loop-at-init c = let pre = c.requires in
-    record {
-      inside = omega arith;
-      wide = refl;
-      long = refl;
-      placed = omega arith;
-      points = omega arith;
-      listed = omega arith;
-      some = omega arith;
-      few = omega arith;
-      ran = refl;
-    }
-
-pub overflow_sub-meshes : goal.overflow_sub-meshes
-overflow_sub-meshes c = let inv = c.loop-at.invariant in omega arith
-
-pub bounds-meshes-at : goal.bounds-meshes-at
-bounds-meshes-at c = let test = c.loop-at-test.true in
-    let inv = c.loop-at.invariant in
-    let step = steps c.args.meshes.now c.loop-at.at (omega arith) in
-    omega arith
-
-pub wide-v-requires : goal.wide-v-requires
-wide-v-requires c = tt
-
-pub overflow_add-at : goal.overflow_add-at
-overflow_add-at c = let test = c.loop-at-test.true in
-    let inv = c.loop-at.invariant in
-    let step = steps c.args.meshes.now c.loop-at.at (omega arith) in
-    omega arith
-
-pub bounds-meshes-at-in-loop-at : goal.bounds-meshes-at-in-loop-at
-bounds-meshes-at-in-loop-at c = let test = c.loop-at-test.true in
-    let inv = c.loop-at.invariant in
-    let step = steps c.args.meshes.now c.loop-at.at (omega arith) in
-    omega arith
-
-pub wide-k-requires : goal.wide-k-requires
-wide-k-requires c = tt
-
-pub overflow_add-te : goal.overflow_add-te
-overflow_add-te c = let test = c.loop-at-test.true in
-    let inv = c.loop-at.invariant in
-    let step = steps c.args.meshes.now c.loop-at.at (omega arith) in
-    omega arith
-
-pub overflow_mul-pe : goal.overflow_mul-pe
-overflow_mul-pe c = let test = c.loop-at-test.true in
-    let inv = c.loop-at.invariant in
-    let step = steps c.args.meshes.now c.loop-at.at (omega arith) in
-    omega arith
-
-pub overflow_add-pe : goal.overflow_add-pe
-overflow_add-pe c = let test = c.loop-at-test.true in
-    let inv = c.loop-at.invariant in
-    let step = steps c.args.meshes.now c.loop-at.at (omega arith) in
-    omega arith
-
-pub overflow_add-xe : goal.overflow_add-xe
-overflow_add-xe c = let test = c.loop-at-test.true in
-    let inv = c.loop-at.invariant in
-    let step = steps c.args.meshes.now c.loop-at.at (omega arith) in
-    omega arith
-
-pub slice_bounds-place_mesh-count : goal.slice_bounds-place_mesh-count
-slice_bounds-place_mesh-count c = let test = c.loop-at-test.true in
-    let inv = c.loop-at.invariant in
-    let step = steps c.args.meshes.now c.loop-at.at (omega arith) in
-    omega arith
-
-pub slice_bounds-place_mesh-start : goal.slice_bounds-place_mesh-start
-slice_bounds-place_mesh-start c = let test = c.loop-at-test.true in
-    let inv = c.loop-at.invariant in
-    let step = steps c.args.meshes.now c.loop-at.at (omega arith) in
-    omega arith
-
 pub slice_bounds-place_mesh-end : goal.slice_bounds-place_mesh-end
 slice_bounds-place_mesh-end c = let test = c.loop-at-test.true in
-    let inv = c.loop-at.invariant in
-    let step = steps c.args.meshes.now c.loop-at.at (omega arith) in
-    omega arith
-
-pub slice_bounds-place_mesh-count-in-loop-at : goal.slice_bounds-place_mesh-count-in-loop-at
-slice_bounds-place_mesh-count-in-loop-at c = let test = c.loop-at-test.true in
-    let inv = c.loop-at.invariant in
-    let step = steps c.args.meshes.now c.loop-at.at (omega arith) in
-    omega arith
-
-pub slice_bounds-place_mesh-start-in-loop-at : goal.slice_bounds-place_mesh-start-in-loop-at
-slice_bounds-place_mesh-start-in-loop-at c = let test = c.loop-at-test.true in
     let inv = c.loop-at.invariant in
     let step = steps c.args.meshes.now c.loop-at.at (omega arith) in
     omega arith
@@ -165,50 +76,8 @@ slice_bounds-place_mesh-end-in-loop-at c = let test = c.loop-at-test.true in
     let step = steps c.args.meshes.now c.loop-at.at (omega arith) in
     omega arith
 
-pub slice_bounds-place_mesh-count-in-loop-at-2 : goal.slice_bounds-place_mesh-count-in-loop-at-2
-slice_bounds-place_mesh-count-in-loop-at-2 c = let test = c.loop-at-test.true in
-    let inv = c.loop-at.invariant in
-    let step = steps c.args.meshes.now c.loop-at.at (omega arith) in
-    omega arith
-
-pub slice_bounds-place_mesh-start-in-loop-at-2 : goal.slice_bounds-place_mesh-start-in-loop-at-2
-slice_bounds-place_mesh-start-in-loop-at-2 c = let test = c.loop-at-test.true in
-    let inv = c.loop-at.invariant in
-    let step = steps c.args.meshes.now c.loop-at.at (omega arith) in
-    omega arith
-
 pub slice_bounds-place_mesh-end-in-loop-at-2 : goal.slice_bounds-place_mesh-end-in-loop-at-2
 slice_bounds-place_mesh-end-in-loop-at-2 c = let test = c.loop-at-test.true in
     let inv = c.loop-at.invariant in
     let step = steps c.args.meshes.now c.loop-at.at (omega arith) in
     omega arith
-
-pub overflow_add-at-in-loop-at : goal.overflow_add-at-in-loop-at
-overflow_add-at-in-loop-at c = let test = c.loop-at-test.true in
-    let inv = c.loop-at.invariant in
-    let step = steps c.args.meshes.now c.loop-at.at (omega arith) in
-    omega arith
-
-pub bounds-meshes-at-in-loop-at-2 : goal.bounds-meshes-at-in-loop-at-2
-bounds-meshes-at-in-loop-at-2 c = let test = c.loop-at-test.true in
-    let inv = c.loop-at.invariant in
-    let step = steps c.args.meshes.now c.loop-at.at (omega arith) in
-    omega arith
-
-pub overflow_add-at-in-loop-at-2 : goal.overflow_add-at-in-loop-at-2
-overflow_add-at-in-loop-at-2 c = let test = c.loop-at-test.true in
-    let inv = c.loop-at.invariant in
-    let step = steps c.args.meshes.now c.loop-at.at (omega arith) in
-    omega arith
-
-pub loop-at-smaller : goal.loop-at-smaller
-loop-at-smaller c = let test = c.loop-at-test.true in
-    let inv = c.loop-at.invariant in
-    let step = steps c.args.meshes.now c.loop-at.at (omega arith) in
-    omega arith
-
-pub shape_of-triangles : goal.shape_of-triangles
-shape_of-triangles c = c.loop-at.invariant.wide
-
-pub shape_of-handles : goal.shape_of-handles
-shape_of-handles c = c.loop-at.invariant.long

@@ -33,21 +33,3 @@ returns c =
     let inv = c.loop-at.invariant in
     let l = c.args.indices.now in
     record { made = sym (mesh_done _ _ _ _ _ _ l c.loop-at.at (omega arith)) ∙ inv.5; kept = omega arith; placed = omega arith }
-
-pub loop-at-init : goal.loop-at-init
-loop-at-init c = (omega arith, refl, refl, omega arith, omega arith, refl)
-
-pub wide-i-requires : goal.wide-i-requires
-wide-i-requires c = tt
-
-pub wide-j-requires : goal.wide-j-requires
-wide-j-requires c = tt
-
-pub wide-k-requires : goal.wide-k-requires
-wide-k-requires c = tt
-
-pub shape_of-triangles : goal.shape_of-triangles
-shape_of-triangles c = c.loop-at.invariant.1
-
-pub shape_of-handles : goal.shape_of-handles
-shape_of-handles c = c.loop-at.invariant.2

@@ -11,42 +11,6 @@ pub returns-then-st : goal.returns-then-st
 unfolding corners_in
 returns-then-st c = record { made = sym (run_far _ _ _ c.if-st.true); kept = omega arith; placed = omega arith }
 
-pub corner-a-requires : goal.corner-a-requires
-unfolding corners_in
-corner-a-requires c = let room = c.requires.room in omega arith
-
-pub corner-b-requires : goal.corner-b-requires
-unfolding corners_in
-corner-b-requires c = let room = c.requires.room in record {
-  i_in_bounds = omega arith;
-  in_bounds = omega arith;
-  made_bound = rw c.corner-a.ensures (omega arith);
-}
-
-pub corner-c-requires : goal.corner-c-requires
-unfolding corners_in
-corner-c-requires c = let room = c.requires.room in record {
-  i_in_bounds = omega arith;
-  in_bounds = omega arith;
-  made_bound = rw (c.corner-b.ensures, c.corner-a.ensures) (omega arith);
-}
-
-pub keep-requires : goal.keep-requires
-unfolding corners_in
-keep-requires c = let room = c.requires.room in record {
-  room = room;
-  far_value = c.if-st.false;
-  made_value = rw (c.corner-c.ensures, c.corner-b.ensures, c.corner-a.ensures) (omega arith);
-}
-
-pub shape_of-triangles-then-k-vertices : goal.shape_of-triangles-then-k-vertices
-unfolding corners_in
-shape_of-triangles-then-k-vertices c = search rules
-
-pub shape_of-handles-then-k-vertices : goal.shape_of-handles-then-k-vertices
-unfolding corners_in
-shape_of-handles-then-k-vertices c = search rules
-
 pub returns-then-k-vertices : goal.returns-then-k-vertices
 unfolding corners_in
 returns-then-k-vertices c = let done = c.keep.ensures in

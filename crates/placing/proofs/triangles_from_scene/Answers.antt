@@ -3,20 +3,6 @@ use native.Mathlib.Omega.{arith}
 use Rattle.placing.proofs.Readback.{passed_far, passed_kept}
 use Rattle.placing.proofs.triangles_from_scene.Goals as goal
 
-pub place_all-st-requires : goal.place_all-st-requires
-place_all-st-requires c = record {
-  fits = c.requires.fits;
-  n_le_most_triples = c.requires.n_le_most_triples;
-  n_in_bounds = c.requires.n_in_bounds;
-  n_in_bounds_2 = c.requires.n_in_bounds_2;
-}
-
-pub clear_f32-requires : goal.clear_f32-requires
-clear_f32-requires c = tt
-
-pub clear_u32-requires : goal.clear_u32-requires
-clear_u32-requires c = tt
-
 pub returns-then-st : goal.returns-then-st
 returns-then-st c = passed_far _ _ _ _ _ _ _ c.place_all-st.ensures.result_after _ _ c.if-st.true (omega arith) (omega arith) c.clear_f32.ensures c.clear_u32.ensures
 

@@ -1,12 +1,8 @@
 -- `planes_buried::close_rows` meets its contract: the loop holds it for the patches before p (`Closing`).
-use mathlib.Core.Path.{◌∙◌, ◌≡◌, ap}
-use Prim.Native.Nat.{◌≤◌, ℕ}
+use Prim.Native.Nat.{◌≤◌}
 use native.Mathlib.Omega.{arith}
 use native.Mathlib.Numerals.{add-one}
-use lib.ListN.{get_or, length}
-use Rattle.planes_patches.specs.Rows.{row_in}
 use Rattle.planes_buried.proofs.Closing.{closing_more, closing_none, open_le}
-use Rattle.planes_buried.specs.Passes.{open_to}
 use Rattle.planes_buried.proofs.close_rows.Goals as goal
 
 pub loop-p-init : goal.loop-p-init
@@ -18,7 +14,6 @@ close_row-w-requires c =
     let le : c.loop-p.w ≤ c.loop-p.p = rw i.count (open_le c.args.flags.now c.loop-p.p) in
     (omega arith, le, omega arith, omega arith, omega arith)
 
-
 pub loop-p-preserved : goal.loop-p-preserved
 loop-p-preserved c =
     let a = c.args in let ln = c.loop-p.invariant.1.len_numbers in let h = c.loop-p-test.true in let p = c.requires in (
@@ -26,16 +21,3 @@ loop-p-preserved c =
       rw (add-one c.loop-p.p) (closing_more a.flags.now a.rows.now a.numbers.now c.loop-p.rows c.loop-p.numbers c.loop-p.w c.loop-p.p c.close_row-w.new.rows c.close_row-w.new.numbers c.close_row-w.result c.loop-p.invariant.1 (omega arith)
           c.close_row-w.auto.rows c.close_row-w.ensures.value c.close_row-w.ensures.numbers_after c.close_row-w.ensures.by_index),
     )
-
-pub shape_of-rows : goal.shape_of-rows
-shape_of-rows c = c.loop-p.invariant.1.len_rows
-
-pub shape_of-numbers : goal.shape_of-numbers
-shape_of-numbers c = c.loop-p.invariant.1.len_numbers
-
-pub returns : goal.returns
-returns c = let i = c.loop-p.invariant.1 in let e : c.loop-p.p ≡ c.args.np = omega (arith, c.loop-p.invariant.0, c.loop-p-test.false) in let f = c.args.flags.now in record {
-  value = i.count ∙ ap (λ (k : ℕ). length (open_to f k)) e;
-  by_index = λ p h. i.named p (omega arith);
-  by_index_2 = λ q h. i.moved q h ∙ ap (λ (k : ℕ). row_in c.args.rows.now (get_or (open_to f k) q 0)) e;
-}

@@ -3,18 +3,6 @@ use mathlib.Core.Path.{sym}
 use Rattle.planes_buried.specs.Probe.{lies_between}
 use Rattle.planes_buried.proofs.is_between.Goals as goal
 
-pub probe-requires : goal.probe-requires
-probe-requires c = record {
-  held = c.requires.held;
-  count_nonzero = c.requires.count_nonzero;
-}
-
-pub probe-requires-then-probe : goal.probe-requires-then-probe
-probe-requires-then-probe c = record {
-  held = c.requires.held;
-  count_nonzero = c.requires.count_nonzero;
-}
-
 pub returns-then-probe : goal.returns-then-probe
 unfolding lies_between
 returns-then-probe c = λ tri k h. sym (rw (← c.probe_ray-front.ensures, ← c.probe.ensures tri k h, c.if-probe.true, ← c.probe_ray-back.ensures, ← c.probe-then-probe.ensures tri k h))
@@ -22,9 +10,3 @@ returns-then-probe c = λ tri k h. sym (rw (← c.probe_ray-front.ensures, ← c
 pub returns : goal.returns
 unfolding lies_between
 returns c = λ tri k h. sym (rw (← c.probe_ray-front.ensures, ← c.probe.ensures tri k h, c.if-probe.false))
-
-pub probe_ray-front-requires : goal.probe_ray-front-requires
-probe_ray-front-requires c = tt
-
-pub probe_ray-back-requires : goal.probe_ray-back-requires
-probe_ray-back-requires c = tt

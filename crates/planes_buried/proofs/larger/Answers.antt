@@ -3,26 +3,11 @@ use mathlib.Core.Path.{refl}
 use Rattle.planes_buried.proofs.Best.{best_both, best_larger, best_met, best_other, best_stays}
 use Rattle.planes_buried.proofs.larger.Goals as goal
 
-pub bounds-areas-p : goal.bounds-areas-p
-bounds-areas-p c = c.requires.0
-
-pub bounds-areas-p-then-areas-p : goal.bounds-areas-p-then-areas-p
-bounds-areas-p-then-areas-p c = c.requires.0
-
-pub bounds-largest-p : goal.bounds-largest-p
-bounds-largest-p c = c.requires.1
-
 pub returns-then-areas-p : goal.returns-then-areas-p
 returns-then-areas-p c = let a = c.args in record {
   p_after = λ ts e. best_larger a.areas.now a.largest.now a.p a.t a.a c.requires.0 c.requires.1 c.if-areas-p.true ts e;
   by_index = best_both a.areas.now a.largest.now a.p a.t a.a;
 }
-
-pub bounds-largest-p-2 : goal.bounds-largest-p-2
-bounds-largest-p-2 c = c.requires.1
-
-pub bounds-largest-p-then-largest-p : goal.bounds-largest-p-then-largest-p
-bounds-largest-p-then-largest-p c = c.requires.1
 
 pub returns-then-largest-p : goal.returns-then-largest-p
 returns-then-largest-p c = let a = c.args in record {

@@ -1,22 +1,16 @@
 -- `planes_buried::largest_triangles` meets its contract: the loop holds it for the triangles before t (`Meeting`).
-use mathlib.Core.Path.{◌∙◌, refl}
+use mathlib.Core.Path.{refl}
 use Prim.Native.Nat.{◌≤◌}
 use native.Mathlib.Omega.{arith}
 use Rattle.planes_patches.specs.Rows.{none_of}
 use Rattle.planes_patches.specs.Triangles.{triangles_in}
 use Rattle.planes_patches.proofs.Filling.{triangle_in}
-use Rattle.planes_buried.proofs.Best.{meeting_all, meeting_more, meeting_none, numbered_at}
+use Rattle.planes_buried.proofs.Best.{meeting_more, meeting_none, numbered_at}
 use Rattle.planes_buried.proofs.largest_triangles.Goals as goal
-
-pub reset-requires : goal.reset-requires
-reset-requires c = let p = c.requires.np_le_m in (p.1, p.2)
 
 pub loop-t-init : goal.loop-t-init
 loop-t-init c = let a = c.args in meeting_none (triangles_in a.triangles.now a.handles.now a.n a.m) a.of.now a.m a.np c.reset.new.areas c.reset.new.largest
     c.reset.new.areas c.reset.new.largest refl refl c.reset.ensures
-
-pub bounds-of-t : goal.bounds-of-t
-bounds-of-t c = let h = c.loop-t-test.true in let p = c.requires.n_in_bounds in omega arith
 
 pub meet-requires : goal.meet-requires
 meet-requires c =
@@ -25,7 +19,6 @@ meet-requires c =
       np_in_bounds = (omega arith, omega arith);
       plane_or_none = numbered_at c.args.of.now c.args.m c.args.np c.loop-t.t c.requires.numbered h p.4;
     }
-
 
 pub loop-t-preserved : goal.loop-t-preserved
 loop-t-preserved c =
@@ -38,13 +31,3 @@ loop-t-preserved c =
     meeting_more ts a.of.now a.m a.np c.reset.new.areas c.reset.new.largest c.loop-t.areas c.loop-t.largest c.loop-t.t c.meet.new.areas c.meet.new.largest c.loop-t.invariant c.loop-t-test.true c.requires.n_in_bounds.4
     c.meet.auto.areas c.meet.auto.largest
     (λ q h. c.meet.ensures ts (triangle_in a.triangles.now a.handles.now a.n a.m c.loop-t.t c.loop-t-test.true) q h far)
-
-pub shape_of-areas : goal.shape_of-areas
-shape_of-areas c = c.loop-t.invariant.len_areas ∙ c.reset.auto.areas
-
-pub shape_of-largest : goal.shape_of-largest
-shape_of-largest c = c.loop-t.invariant.len_largest ∙ c.reset.auto.largest
-
-pub returns : goal.returns
-returns c = let a = c.args in meeting_all (triangles_in a.triangles.now a.handles.now a.n a.m) a.of.now a.m a.np c.reset.new.areas
-    c.reset.new.largest c.loop-t.areas c.loop-t.largest c.loop-t.t c.loop-t.invariant c.loop-t-test.false

@@ -19,14 +19,6 @@ returns-else-reach c = record {
   rest = (refl, refl, refl);
 }
 
-pub largest_triangles-requires : goal.largest_triangles-requires
-largest_triangles-requires c =
-    let q = c.requires.np_le_m in record {
-      n_in_bounds = c.requires.n_in_bounds;
-      np_le_m = (q.0, q.1, q.2);
-      numbered = c.requires.numbered;
-    }
-
 pub mark_open-requires : goal.mark_open-requires
 mark_open-requires c =
     let a = c.args in let p = c.requires.n_in_bounds in let q = c.requires.np_le_m in let k = c.largest_triangles.auto.largest in record {
@@ -36,10 +28,6 @@ mark_open-requires c =
       by_index = λ i h. let b = largest_below a.triangles.now a.handles.now a.n a.m a.of.now a.np c.largest_triangles.new.areas
           c.largest_triangles.new.largest p.3 c.largest_triangles.ensures i h q.0 in omega arith;
     }
-
-pub close_rows-r-requires : goal.close_rows-r-requires
-close_rows-r-requires c =
-    let p = c.requires.n_in_bounds in let q = c.requires.np_le_m in let k = c.mark_open.auto.flags in let l = c.largest_triangles.auto.largest in (q.4, omega arith, omega arith, omega arith)
 
 pub renumber-requires : goal.renumber-requires
 renumber-requires c =

@@ -5,12 +5,3 @@ use Rattle.planes_buried.proofs.probe_ray.Goals as goal
 pub returns : goal.returns
 unfolding probe_ray_of
 returns c = rw (← c.signed-direction.ensures, ← c.centroid.ensures, ← c.beside-origin.ensures)
-
-pub signed-direction-requires : goal.signed-direction-requires
-signed-direction-requires c = tt
-
-pub centroid-requires : goal.centroid-requires
-centroid-requires c = tt
-
-pub beside-origin-requires : goal.beside-origin-requires
-beside-origin-requires c = tt

@@ -1,9 +1,5 @@
 -- `planes_buried::renumbered` meets its contract, by its test.
 use mathlib.Core.Path.{sym}
-use mathlib.Core.Logic.{⊎_elim}
-use Prim.Native.Nat.{◌<◌}
-use native.Mathlib.Omega.{arith}
-use lib.ListN.{length}
 use borrow.Author.Tests.{eq-eqb, ne_eqb}
 use Rattle.planes_patches.specs.Rows.{none_of}
 use Rattle.planes_buried.specs.Passes.{renumbered_of}
@@ -12,12 +8,6 @@ use Rattle.planes_buried.proofs.renumbered.Goals as goal
 pub returns-then-p-eq-NONE : goal.returns-then-p-eq-NONE
 unfolding renumbered_of
 returns-then-p-eq-NONE c = sym (rw (eq-eqb c.args.p none_of c.if-p-eq-NONE.true))
-
-pub offset_bounds-numbers-p : goal.offset_bounds-numbers-p
-offset_bounds-numbers-p c = let low : c.args.p < length c.args.numbers.now = ⊎_elim (λ l. l) (λ e. absurd (c.if-p-eq-NONE.false e)) c.requires in omega arith
-
-pub bounds-numbers-p : goal.bounds-numbers-p
-bounds-numbers-p c = ⊎_elim (λ l. l) (λ e. absurd (c.if-p-eq-NONE.false e)) c.requires
 
 pub returns : goal.returns
 unfolding renumbered_of

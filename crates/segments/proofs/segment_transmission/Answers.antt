@@ -8,12 +8,6 @@ use Rattle.segments.proofs.Laws.{segment_bound}
 use Rattle.segments.proofs.Turned.{distance_turned}
 use Rattle.segments.proofs.segment_transmission.Goals as goal
 
-pub walk-requires : goal.walk-requires
-walk-requires c = record {
-  traceable = c.requires.traceable;
-  left_bound = omega (arith, c.requires.crossing_limit_bound);
-}
-
 pub returns : goal.returns
 unfolding segment_transmission_of
 returns c =
@@ -24,15 +18,3 @@ returns c =
       by_index = λ tri t h. rw (distance_turned a.from a.to, ← c.sub3-v.ensures, ← c.length3-total.ensures, ← c.direction-dir.ensures c.length3-total.ensures, ← c.splat.ensures, ← c.walk.ensures tri t h);
       rays_bound = rw made (segment_bound (trace_in able.tri able.tree) (transmission_of_handle a.materials.now) a.crossing_limit a.from a.to);
     }
-
-pub sub3-v-requires : goal.sub3-v-requires
-sub3-v-requires c = tt
-
-pub length3-total-requires : goal.length3-total-requires
-length3-total-requires c = tt
-
-pub direction-dir-requires : goal.direction-dir-requires
-direction-dir-requires c = tt
-
-pub splat-requires : goal.splat-requires
-splat-requires c = tt

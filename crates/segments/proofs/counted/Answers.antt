@@ -1,6 +1,0 @@
--- `segments::counted` meets its contract: its body is the definition.
-use mathlib.Core.Path.{refl}
-use Rattle.segments.proofs.counted.Goals as goal
-
-pub returns : goal.returns
-returns c = refl
