@@ -5,7 +5,7 @@
 ghost use Rattle.std.specs.Prelude.{◌≡◌, ◌≤◌, length};
 
 use cost::Cost;
-use sequences::{Enumeration, MAX_IMAGE_NODES, MAX_IMAGE_ORDER, RECORD};
+use sequences::{MAX_IMAGE_NODES, MAX_IMAGE_ORDER, RECORD};
 use std::io;
 
 const RECORDS: usize = MAX_IMAGE_NODES * RECORD;
@@ -188,12 +188,12 @@ fn compare_counts(counts: [u32; MAX_IMAGE_ORDER], records: &[u8], total: usize) 
 // One order: the forecast against the records of the enumeration.
 fn compare_order(on: &[u8], first: usize, order: usize, records: &mut [u8]) -> Tally {
     match sequences::enumerate(on, order, records) {
-        Enumeration::Images(total) => {
+        Some(total) => {
             let r = cost::query_cost(CROSSINGS, narrow(on.len()), narrow(first), narrow(order), 0);
             let counts = r.counts;
             compare_counts(counts, records, total)
         }
-        Enumeration::Refused => one(false),
+        None => one(false),
     }
 }
 

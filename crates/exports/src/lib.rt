@@ -4,8 +4,9 @@
 #![tactic(auto)]
 
 ghost use Rattle.std.specs.Prelude.{◌≡◌, List, [], ◌∷◌, ◌++◌, ℕ, ◌*◌, ◌≤◌, ◌<◌, Float, length, drop};
-ghost use Rattle.packet.specs.Reader.{read_answer, read_area, read_refusal, read_counts};
-ghost use Rattle.packet.specs.Writer.{write_answer, write_out, write_refusal, write_length};
+ghost use Rattle.refusals.specs.Numbers.{number_told};
+ghost use Rattle.packet.specs.Reader.{read_answer, read_area, read_counts};
+ghost use Rattle.packet.specs.Writer.{write_answer, write_out, write_length};
 ghost use Rattle.numbering.specs.Walls.{sequence_answer};
 ghost use Rattle.scene.specs.Scene.{scene};
 ghost use Rattle.scene.specs.Limits.{most_triples};
@@ -21,7 +22,7 @@ ghost use Rattle.exports.specs.Entry.{Entered};
 ghost use Rattle.exports.specs.Planes.{PlanesEntered};
 
 use answer::Answered;
-use packet::{Reading, Written};
+use packet::Head;
 use vector::Vec3;
 
 // The last curve of a distance model that is known: 0 is Inverse, 1 Linear.
@@ -33,23 +34,18 @@ const LAST_CURVE: u32 = 1;
 #[unsafe(no_mangle)]
 pub extern "C" fn biv_packet_read(bytes: &[u8], taps: &mut [u32], found: &mut [usize; 3]) -> u32
     ensures { let answer = read_answer bytes.now taps.old in
-        (result ≡ read_refusal answer) ×
+        (result ≡ number_told answer) ×
         (found.new ≡ read_counts answer) ×
         (taps.new ≡ read_area bytes.now taps.old) }
 {
-    let reading = packet::read(bytes, taps);
-    match reading {
-        Reading::Taps {
-            count,
-            images,
-            rays,
-        } => {
-            *found = [count, images as usize, rays as usize];
+    match packet::read(bytes, taps) {
+        Ok(head) => {
+            *found = [head.count, head.images as usize, head.rays as usize];
             0
         }
-        Reading::Refused(k) => {
+        Err(refusal) => {
             *found = [0, 0, 0];
-            k
+            refusal.number()
         }
     }
 }
@@ -65,19 +61,23 @@ pub extern "C" fn biv_packet_write(
     found: &mut [usize; 1],
 ) -> u32
     ensures { let answer = write_answer count images rays taps.now out.old in
-        (result ≡ write_refusal answer) ×
+        (result ≡ number_told answer) ×
         (found.new ≡ write_length answer ∷ []) ×
         (out.new ≡ write_out count images rays taps.now out.old) }
 {
-    let written = packet::write(count, images, rays, taps, out);
-    match written {
-        Written::Bytes(n) => {
+    let head = Head {
+        count,
+        images,
+        rays,
+    };
+    match packet::write(head, taps, out) {
+        Ok(n) => {
             *found = [n];
             0
         }
-        Written::Refused(k) => {
+        Err(refusal) => {
             *found = [0];
-            k
+            refusal.number()
         }
     }
 }

@@ -18,8 +18,7 @@ use Rattle.sequences.specs.Contract as sequences
 use Rattle.sequences.specs.Count.{images, firsts}
 use Rattle.sequences.proofs.Counting.{visited_length}
 use Rattle.sequences.proofs.Laws.{length_listed}
-use Rattle.sequences.specs.declared.Enumeration.{Enumeration}
-use Rattle.sequences.specs.declared.Enumeration.TheVariants as enumeration
+use Rattle.std.specs.Prelude.{Some, None}
 use Rattle.listing.specs.Request.{request_of, asked, checked, in_range, words, length_of_line, is_decimal_text, value_of, most_text, most_planes}
 use Rattle.listing.specs.Text.{Wrote, header_of, refused_text, most_header}
 use Rattle.listing.specs.Printed.{on_bytes, images_of, images_for, head_for, room, reply_of, records_of, out_of, Answered, Listed}
@@ -90,11 +89,11 @@ module _ (planes order mask : ℕ) (on records : List ℕ) (few : planes ≤ mos
       (le-leb (length (take planes on)) widest (omega arith))
       ∙ le-leb (most * 9) (length records) wide
 
-  pub found : sequences.enumeration_of (take planes on) order records ≡ enumeration.Images (length (images_of planes order mask))
+  pub found : sequences.enumeration_of (take planes on) order records ≡ Some (length (images_of planes order mask))
   unfolding sequences.enumeration_of images_of
   found =
-      ap (λ (b : Bool). cond b (enumeration.Images (length (visited (take planes on) order))) enumeration.Refused) fit
-      ∙ ap (λ (l : List ℕ). enumeration.Images (length (visited l order))) these
+      ap (λ (b : Bool). cond b (Some (length (visited (take planes on) order))) None) fit
+      ∙ ap (λ (l : List ℕ). Some (length (visited l order))) these
 
   pub found_area :
       sequences.area_of (take planes on) order records
@@ -106,12 +105,6 @@ module _ (planes order mask : ℕ) (on records : List ℕ) (few : planes ≤ mos
       cond b (listed (visited (take planes on) order) ++ drop (length (visited (take planes on) order) * 9) records) records)
       fit
       ∙ ap (λ (l : List ℕ). listed (visited l order) ++ drop (length (visited l order) * 9) records) these
-
-pub total_is : (total n : ℕ) (e : Enumeration) → e ≡ enumeration.Images total → e ≡ enumeration.Images n → total ≡ n
-total_is total n e p q = cc
-
-pub total_not : (n : ℕ) (e : Enumeration) → e ≡ enumeration.Refused → e ≡ enumeration.Images n → ⊥
-total_not n e p q = let z : ◌≡◌ {A = ℕ} 0 1 = cc in omega arith
 
 -- the first line of a request in range
 pub listed_head :

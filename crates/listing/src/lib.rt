@@ -8,7 +8,7 @@ ghost use Rattle.listing.specs.Request as request;
 ghost use Rattle.listing.specs.Text as text;
 ghost use Rattle.listing.specs.Printed as printed;
 
-use sequences::{Enumeration, MAX_IMAGE_NODES, MAX_IMAGE_ORDER, RECORD, enumerate};
+use sequences::{MAX_IMAGE_NODES, MAX_IMAGE_ORDER, RECORD, enumerate};
 
 // The longest text that is read, a byte less than the programs have room for: a longer input fills that room and is refused.
 const TEXT: usize = 4095;
@@ -328,8 +328,8 @@ fn list_images(
     put_on(mask, &mut on);
     let found = enumerate(&on[..planes], order, records);
     match found {
-        Enumeration::Images(total) => Reply::Head(total, put_header(total, out)),
-        Enumeration::Refused => Reply::NoRoom,
+        Some(total) => Reply::Head(total, put_header(total, out)),
+        None => Reply::NoRoom,
     }
 }
 

@@ -6,7 +6,7 @@ ghost use Rattle.std.specs.Prelude.{◌≤◌, ◌<◌};
 
 use listing::RECORDS;
 use numbering::{BAD_NUMBER, Walls, sequence_of};
-use sequences::{Enumeration, MAX_IMAGE_ORDER, RECORD, enumerate};
+use sequences::{MAX_IMAGE_ORDER, RECORD, enumerate};
 use std::io;
 
 const PLANES: u32 = 5;
@@ -191,13 +191,13 @@ fn narrow(n: usize) -> u32
 
 fn compare_room(t: Tally, order: u32, planes: u32, on: &[u8], records: &mut [u8]) -> Tally {
     match enumerate(on, order as usize, records) {
-        Enumeration::Images(n) => {
+        Some(n) => {
             let images = narrow(n);
             let s = compare_all(t, order, planes, on, records, images);
             let u = compare_none(s, order, planes, on, 0);
             compare_none(u, order, planes, on, images + 1)
         }
-        Enumeration::Refused => t,
+        None => t,
     }
 }
 

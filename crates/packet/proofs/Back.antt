@@ -13,6 +13,7 @@ use lib.Dec.{leb, ltb, eqb}
 use lib.Ieee.{Float, binary32, of_bits, of_fields, mul, odd, round, size, span, climb, units, add}
 use lib.Count.{count_trailing_zeros}
 use borrow.Author.Tests.{le-leb, leb-true, eqb-true, eq-eqb, ne_eqb, ltb-true}
+use Rattle.std.specs.Prelude.{None}
 use Rattle.packet.specs.Limits.{bands, count_bytes, head_bytes, fixed_bytes, fixed_words, tap_words, area_words, out_bytes, most_taps, most_images}
 use Rattle.packet.specs.Floats.{finite_bits, positive_bits, zero_bits}
 use Rattle.packet.specs.Tap.{Tap, bits_of_gains, read_back_gain, tap_read_back, stored_tap, taps_of}
@@ -23,7 +24,7 @@ use Rattle.packet.specs.Reader.{whole, refused_read}
 use Rattle.packet.specs.Writer.{refused_write}
 use Rattle.packet.proofs.Runs.{and_both}
 use Rattle.packet.proofs.ToBytes.{gain_length}
-use Rattle.packet.proofs.Answers.{cond_zero}
+use Rattle.packet.proofs.Answers.{cond_none}
 
 -- lists of bytes, and of words of 32 bits
 abbrev pub Bytes : List ℕ → Type 0
@@ -246,20 +247,20 @@ tests_clean count images ts f = rw (range_clean images ts, all_floats_valid_clea
 
 -- ---- what an acceptance tells
 
-pub accepts_write : (count images : ℕ) (a out : List ℕ) → refused_write count images a out ≡ 0
-    → (area_words ≤ length a) × (out_bytes ≤ length out) × (first_failed (tests count images (taps_of count a)) ≡ 0)
+pub accepts_write : (count images : ℕ) (a out : List ℕ) → refused_write count images a out ≡ None
+    → (area_words ≤ length a) × (out_bytes ≤ length out) × (first_failed (tests count images (taps_of count a)) ≡ None)
 unfolding refused_write
 accepts_write count images a out e =
-    let p = cond_zero (leb area_words (length a)) _ 5 (λ z. omega arith) e in
-    let q = cond_zero (leb out_bytes (length out)) _ 5 (λ z. omega arith) p.1 in
+    let p = cond_none (leb area_words (length a)) _ _ e in
+    let q = cond_none (leb out_bytes (length out)) _ _ p.1 in
     (leb-true area_words (length a) p.0, leb-true out_bytes (length out) q.0, q.1)
 
-pub accepts_read : (bs t : List ℕ) → refused_read bs t ≡ 0
-    → (area_words ≤ length t) × (whole bs ≡ true) × (first_failed (tests (count_in bs) (images_in bs) (decode bs)) ≡ 0)
+pub accepts_read : (bs t : List ℕ) → refused_read bs t ≡ None
+    → (area_words ≤ length t) × (whole bs ≡ true) × (first_failed (tests (count_in bs) (images_in bs) (decode bs)) ≡ None)
 unfolding refused_read
 accepts_read bs t e =
-    let p = cond_zero (leb area_words (length t)) _ 5 (λ z. omega arith) e in
-    let q = cond_zero (whole bs) _ 8 (λ z. omega arith) p.1 in
+    let p = cond_none (leb area_words (length t)) _ _ e in
+    let q = cond_none (whole bs) _ _ p.1 in
     (leb-true area_words (length t) p.0, q.0, q.1)
 
 -- ---- gains: read, and written again
@@ -379,9 +380,9 @@ packet_back bs b h e =
     (λ i. little_endian count_bytes (n i) ++ on_word bs _ count_bytes b (omega arith) (on_word bs _ (count_bytes + 4) b (omega arith) t) i)
     ∙ bytes_back count_bytes bs b (omega arith)
 
-pub valid_floats_lem : (count images : ℕ) (ts : List Tap) → first_failed (tests count images ts) ≡ 0 → all valid_floats ts ≡ true
+pub valid_floats_lem : (count images : ℕ) (ts : List Tap) → first_failed (tests count images ts) ≡ None → all valid_floats ts ≡ true
 valid_floats_lem count images ts e =
-    let a = cond_zero (leb count most_taps) _ 9 (λ z. omega arith) e in
-    let b = cond_zero (leb images most_images) _ 9 (λ z. omega arith) a.1 in
-    let c = cond_zero (all (in_range images) ts) _ 9 (λ z. omega arith) b.1 in
-    (cond_zero (all valid_floats ts) _ 10 (λ z. omega arith) c.1).0
+    let a = cond_none (leb count most_taps) _ _ e in
+    let b = cond_none (leb images most_images) _ _ a.1 in
+    let c = cond_none (all (in_range images) ts) _ _ b.1 in
+    (cond_none (all valid_floats ts) _ _ c.1).0

@@ -8,6 +8,8 @@ use native.Mathlib.Omega.{arith}
 use lib.ListN.{length, get_or, drop, length-drop, length-append}
 use lib.Dec.{leb, eqb}
 use borrow.Author.Tests.{leb-true, eqb-true}
+use Rattle.std.specs.Prelude.{Some}
+use Rattle.refusals.specs.declared.Refusal.TheVariants.{Bytes}
 use Rattle.packet.specs.Limits.{head_bytes, area_words}
 use Rattle.packet.specs.Tap.{Tap}
 use Rattle.packet.specs.Bytes.{word, size_of_tap, gain_bytes, tap_bytes, taps_bytes, has_only_taps, count_in}
@@ -64,7 +66,7 @@ not_true : (b : Bool) → (b ≡ true → ⊥) → b ≡ false
 not_true true h = absurd (h refl)
 not_true false h = refl
 
-pub old_refused : (images rays : ℕ) (ts : List Tap) (a : List ℕ) → area_words ≤ length a → refused_read (old_encode images rays ts) a ≡ 8
+pub old_refused : (images rays : ℕ) (ts : List Tap) (a : List ℕ) → area_words ≤ length a → refused_read (old_encode images rays ts) a ≡ Some Bytes
 old_refused images rays ts a room =
     let bs = old_encode images rays ts in
     let taps : length (taps_bytes ts) % 2 ≡ 0 = taps_even ts in

@@ -12,13 +12,12 @@ use native.Mathlib.Omega.{arith}
 use lib.ListN.{length, drop, length-append, length-drop}
 use lib.Dec.{leb}
 use borrow.Author.Tests.{le-leb, leb-true}
-use Rattle.packet.specs.declared.Reading.TheVariants as reading
-use Rattle.packet.specs.declared.Written.TheVariants as written
+use Rattle.std.specs.Prelude.{None, Ok}
 use Rattle.packet.specs.Limits.{most_taps, count_bytes, head_bytes, tap_words, area_words, out_bytes}
 use Rattle.packet.specs.Tap.{Tap, taps_of, all_words, tap_read_back}
 use Rattle.packet.specs.Bytes.{little_endian, encode, taps_bytes, taps_in, has_only_taps, count_in, images_in, rays_in, decode}
 use Rattle.packet.specs.Refusals.{first_failed, tests}
-use Rattle.packet.specs.Reader.{whole, refused_read, read_answer, read_area}
+use Rattle.packet.specs.Reader.{whole, refused_read, head, read_answer, read_area}
 use Rattle.packet.specs.Writer.{refused_write, packet, write_answer, write_out}
 use Rattle.packet.proofs.Runs.{and_both}
 use Rattle.packet.proofs.Areas.{taps_length}
@@ -64,7 +63,7 @@ module _ (count images rays : ℕ) (a : List ℕ) (w : Words a) (hc : count < 25
       ∙ tests_clean count images (taps_of count a) fine
       ∙ sym (by_tests_write count images rays a out la lo)
 
-module _ (count images rays : ℕ) (a out t : List ℕ) (w : Words a) (hi : images < 4294967296) (hr : rays < 4294967296) (e : refused_write count images a out ≡ 0) (lt : area_words ≤ length t) where
+module _ (count images rays : ℕ) (a out t : List ℕ) (w : Words a) (hi : images < 4294967296) (hr : rays < 4294967296) (e : refused_write count images a out ≡ None) (lt : area_words ≤ length t) where
   few : count ≤ most_taps
   few = (passed count images (taps_of count a) (accepts_write count images a out e).2).0
 
@@ -75,13 +74,13 @@ module _ (count images rays : ℕ) (a out t : List ℕ) (w : Words a) (hi : imag
   ha = let acc = accepts_write count images a out e in let f = few in omega (arith, acc.0)
 
   -- The reader accepts what the writer gives.
-  pub reader_accepts_written : refused_read (packet count images rays a) t ≡ 0
+  pub reader_accepts_written : refused_read (packet count images rays a) t ≡ None
   reader_accepts_written =
       let acc = accepts_write count images a out e in
       same_refusal count images rays a w hc hi hr ha out t acc.0 acc.1 lt ∙ e
 
   -- What the writer accepts is read back as those taps, a gain of −0 as +0: into any tap area that is long enough.
-  pub written_read : (read_answer (packet count images rays a) t ≡ reading.Taps count images rays)
+  pub written_read : (read_answer (packet count images rays a) t ≡ Ok (head count images rays))
       × (read_area (packet count images rays a) t ≡ all_words (map tap_read_back (taps_of count a)) ++ drop (length (all_words (map tap_read_back (taps_of count a)))) t)
   written_read =
       let q = read_taken (packet count images rays a) t reader_accepts_written in
@@ -89,11 +88,11 @@ module _ (count images rays : ℕ) (a out t : List ℕ) (w : Words a) (hi : imag
       let i = images_back count images rays a w hc hi hr ha in
       let r = rays_back count images rays a w hc hi hr ha in
       let d = taps_back count images rays a w hc hi hr ha in
-      (sym q.0 ∙ (λ k. reading.Taps (n k) (i k) (r k)), sym q.1 ∙ ap (λ (us : List Tap). all_words us ++ drop (length (all_words us)) t) d)
+      (sym q.0 ∙ (λ k. Ok (head (n k) (i k) (r k))), sym q.1 ∙ ap (λ (us : List Tap). all_words us ++ drop (length (all_words us)) t) d)
 
 -- ---- read, and written again
 
-module _ (bs t out : List ℕ) (b : Bytes bs) (e : refused_read bs t ≡ 0) (ho : out_bytes ≤ length out) where
+module _ (bs t out : List ℕ) (b : Bytes bs) (e : refused_read bs t ≡ None) (ho : out_bytes ≤ length out) where
   -- the taps that the area then holds are the packet's
   area_taps : (taps_of (count_in bs) (read_area bs t) ≡ decode bs) × (area_words ≤ length (read_area bs t))
   area_taps =
@@ -106,18 +105,18 @@ module _ (bs t out : List ℕ) (b : Bytes bs) (e : refused_read bs t ≡ 0) (ho 
       )
 
   -- The writer accepts the taps that the reader gives.
-  pub writer_accepts_read : refused_write (count_in bs) (images_in bs) (read_area bs t) out ≡ 0
+  pub writer_accepts_read : refused_write (count_in bs) (images_in bs) (read_area bs t) out ≡ None
   writer_accepts_read =
       by_tests_write (count_in bs) (images_in bs) (rays_in bs) (read_area bs t) out area_taps.1 ho
       ∙ ap (λ (us : List Tap). first_failed (tests (count_in bs) (images_in bs) us)) area_taps.0
       ∙ (accepts_read bs t e).2
 
   -- What the reader accepts is written again, from the tap area that the reader left, as the same bytes.
-  pub read_written : (write_answer (count_in bs) (images_in bs) (rays_in bs) (read_area bs t) out ≡ written.Bytes (length bs))
+  pub read_written : (write_answer (count_in bs) (images_in bs) (rays_in bs) (read_area bs t) out ≡ Ok (length bs))
       × (write_out (count_in bs) (images_in bs) (rays_in bs) (read_area bs t) out ≡ bs ++ drop (length bs) out)
   read_written =
       let acc = accepts_read bs t e in
       let w = and_both (leb head_bytes (length bs)) (has_only_taps (count_in bs) (drop head_bytes bs)) acc.1 in
       let q = write_taken (count_in bs) (images_in bs) (rays_in bs) (read_area bs t) out writer_accepts_read in
       let p : packet (count_in bs) (images_in bs) (rays_in bs) (read_area bs t) ≡ bs = ap (encode (images_in bs) (rays_in bs)) area_taps.0 ∙ packet_back bs b (leb-true head_bytes (length bs) w.0) w.1 in
-      (sym q.0 ∙ ap (λ (l : List ℕ). written.Bytes (length l)) p, sym q.1 ∙ ap (λ (l : List ℕ). l ++ drop (length l) out) p)
+      (sym q.0 ∙ ap (λ (l : List ℕ). Ok (length l)) p, sym q.1 ∙ ap (λ (l : List ℕ). l ++ drop (length l) out) p)

@@ -1,8 +1,10 @@
 -- Refusals 9 to 11: what taps are tested for, in the order of the numbers. Reader and writer have these tests in common.
-use Rattle.std.specs.Prelude.{ℕ, zero, suc, ◌/◌, ◌%◌, Bool, true, false, cond, not, ◌&&◌, ◌||◌, leb, eqb, Float, List, [], ◌∷◌, map}
+use Rattle.std.specs.Prelude.{ℕ, ◌/◌, ◌%◌, Bool, true, false, cond, not, ◌&&◌, ◌||◌, leb, eqb, Float, List, [], ◌∷◌, map, Option, Some, None, Result, Ok, Err}
 use mathlib.Core.List.{foldl}
 use Rattle.std.specs.Float.{binary32}
 use Rattle.std.specs.Float.Ieee.{of_bits, add, mul, lt}
+use Rattle.refusals.specs.declared.Refusal.{Refusal}
+use Rattle.refusals.specs.declared.Refusal.TheVariants.{Counts, Numbers, Order}
 use Rattle.packet.specs.Limits.{most_taps, most_images, most_order}
 use Rattle.packet.specs.Floats.{finite_bits, positive_bits}
 use Rattle.packet.specs.Tap.{Tap}
@@ -85,32 +87,37 @@ valid_sums es = all (lt least_sum) es && none_exceeds es
 
 -- ---- the lowest that applies
 
--- A refusal's number, and the test that keeps it away
+-- A refusal, and the test that keeps it away
 pub record Test : Type 0 where
-  pub number : ℕ
+  pub refusal : Refusal
   pub holds : Bool
 
--- Refusal n applies unless b
-abbrev pub must : ℕ → Bool → Test
-must n b = record { number = n; holds = b }
+-- Refusal r applies unless b
+abbrev pub must : Refusal → Bool → Test
+must r b = record { refusal = r; holds = b }
 
--- "The lowest that applies": the number of the first test that fails, 0 where all hold
-abbrev pub first_failed : List Test → ℕ
-first_failed [] = 0
-first_failed (t ∷ ts) = cond t.holds (first_failed ts) t.number
+-- "The lowest that applies": the refusal of the first test that fails, none where all hold
+abbrev pub first_failed : List Test → Option Refusal
+first_failed [] = None
+first_failed (t ∷ ts) = cond t.holds (first_failed ts) (Some t.refusal)
 
 -- Refusals 9, 10 and 11, in this order
 abbrev pub tests : ℕ → ℕ → List Tap → List Test
 tests count images ts =
-    (must 9 (leb count most_taps))
-    ∷ (must 9 (leb images most_images))
-    ∷ (must 9 (all (in_range images) ts))
-    ∷ (must 10 (all valid_floats ts))
-    ∷ (must 11 (distinct (map number_of ts)))
-    ∷ (must 11 (valid_sums (map sum_of_squared_gains ts)))
+    (must Counts (leb count most_taps))
+    ∷ (must Counts (leb images most_images))
+    ∷ (must Counts (all (in_range images) ts))
+    ∷ (must Numbers (all valid_floats ts))
+    ∷ (must Order (distinct (map number_of ts)))
+    ∷ (must Order (valid_sums (map sum_of_squared_gains ts)))
     ∷ []
 
--- "leaves its tap area as found": where the refusal is 0 the first, else the second
-abbrev pub unless : {A : Type 0} → ℕ → A → A → A
-unless zero a b = a
-unless (suc n) a b = b
+-- the answer a, unless something is refused
+abbrev pub unless_refused : {A : Type 0} → Option Refusal → A → Result A Refusal
+unless_refused None a = Ok a
+unless_refused (Some r) a = Err r
+
+-- "leaves its tap area as found": where nothing is refused the first, else the second
+abbrev pub unless : {A : Type 0} → Option Refusal → A → A → A
+unless None a b = a
+unless (Some r) a b = b

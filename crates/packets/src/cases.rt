@@ -3,6 +3,8 @@ ghost use Rattle.std.specs.Prelude.{◌≡◌, ◌+◌, length};
 ghost use Rattle.packet.specs.Limits.{out_bytes, area_words};
 
 use crate::words;
+use packet::Head;
+use refusals::Refusal;
 use std::io;
 
 // What an area holds before a call.
@@ -88,7 +90,8 @@ fn check_words(a: &[u32], n: usize) -> u64 {
     c
 }
 
-fn print_refusal(rt: &impl Print, n: u32) -> io::Result<()> {
+fn print_refusal(rt: &impl Print, refusal: Refusal) -> io::Result<()> {
+    let n = refusal.number();
     print!(rt; "refused {n}")
 }
 
@@ -120,13 +123,11 @@ fn print_name(rt: &impl Print, kind: &[u8], line: &[u8]) -> io::Result<usize> {
 }
 
 // Whether the taps that were read are written again as the bytes that they were read from, and nothing more.
-fn same_again(bytes: &[u8], count: usize, images: u32, rays: u32, taps: &[u32]) -> bool {
+fn same_again(bytes: &[u8], head: Head, taps: &[u32]) -> bool {
     let mut out = fresh_bytes();
-    match packet::write(count, images, rays, taps, &mut out) {
-        packet::Written::Bytes(n) => {
-            n == bytes.len() && starts_with(&out, bytes) && bytes_kept(&out, n)
-        }
-        packet::Written::Refused(_) => false,
+    match packet::write(head, taps, &mut out) {
+        Ok(n) => n == bytes.len() && starts_with(&out, bytes) && bytes_kept(&out, n),
+        Err(_) => false,
     }
 }
 
@@ -140,16 +141,10 @@ struct Expected {
     check: u64,
 }
 
-fn print_taps(
-    rt: &impl Print,
-    count: usize,
-    images: u32,
-    rays: u32,
-    again: bool,
-) -> io::Result<()> {
-    print_number(rt, b"taps ", count as u64)?;
-    print_number(rt, b" images ", images as u64)?;
-    print_number(rt, b" rays ", rays as u64)?;
+fn print_taps(rt: &impl Print, head: Head, again: bool) -> io::Result<()> {
+    print_number(rt, b"taps ", head.count as u64)?;
+    print_number(rt, b" images ", head.images as u64)?;
+    print_number(rt, b" rays ", head.rays as u64)?;
     if again {
         rt.write_all(b", written again as the same bytes")
     } else {
@@ -167,25 +162,24 @@ fn taps_agree(taps: &[u32], count: usize, check: u64) -> bool {
 }
 
 // Whether the counts are the stored ones.
-fn counts_agree(count: usize, images: u32, rays: u32, e: Expected) -> bool {
-    e.refusal == 0 && count as u64 == e.count && images as u64 == e.images && rays as u64 == e.rays
+fn counts_agree(head: Head, e: Expected) -> bool {
+    e.refusal == 0
+        && head.count as u64 == e.count
+        && head.images as u64 == e.images
+        && head.rays as u64 == e.rays
 }
 
 // Reads a packet, prints the answer, and tells whether answer and area are the stored ones.
 fn try_read(rt: &impl Print, bytes: &[u8], taps: &mut [u32], e: Expected) -> io::Result<bool> {
     match packet::read(bytes, taps) {
-        packet::Reading::Taps {
-            count,
-            images,
-            rays,
-        } => {
-            let again = same_again(bytes, count, images, rays, taps);
-            print_taps(rt, count, images, rays, again)?;
-            Ok(again && taps_agree(taps, count, e.check) && counts_agree(count, images, rays, e))
+        Ok(head) => {
+            let again = same_again(bytes, head, taps);
+            print_taps(rt, head, again)?;
+            Ok(again && taps_agree(taps, head.count, e.check) && counts_agree(head, e))
         }
-        packet::Reading::Refused(k) => {
-            print_refusal(rt, k)?;
-            Ok(k as u64 == e.refusal && words_kept(taps, 0))
+        Err(refusal) => {
+            print_refusal(rt, refusal)?;
+            Ok(refusal.number() as u64 == e.refusal && words_kept(taps, 0))
         }
     }
 }
@@ -222,20 +216,18 @@ fn try_write(
     rt: &impl Print,
     taps: &[u32],
     out: &mut [u8],
-    count: usize,
-    images: u32,
-    rays: u32,
+    head: Head,
     refusal: u64,
     packet: &[u8],
 ) -> io::Result<bool> {
-    match packet::write(count, images, rays, taps, out) {
-        packet::Written::Bytes(n) => {
+    match packet::write(head, taps, out) {
+        Ok(n) => {
             print_number(rt, b"bytes ", n as u64)?;
             Ok(refusal == 0 && n == packet.len() && starts_with(out, packet) && bytes_kept(out, n))
         }
-        packet::Written::Refused(k) => {
-            print_refusal(rt, k)?;
-            Ok(k as u64 == refusal && bytes_kept(out, 0))
+        Err(e) => {
+            print_refusal(rt, e)?;
+            Ok(e.number() as u64 == refusal && bytes_kept(out, 0))
         }
     }
 }
@@ -262,13 +254,16 @@ pub(crate) fn write_case(rt: &impl Print, line: &[u8]) -> io::Result<bool> {
     if LONGEST < n {
         return print_verdict(rt, false);
     }
+    let head = Head {
+        count: f[2] as usize,
+        images: (f[3] % 4294967296) as u32,
+        rays: (f[4] % 4294967296) as u32,
+    };
     let ok = try_write(
         rt,
         &area[..words],
         &mut out[..room],
-        f[2] as usize,
-        (f[3] % 4294967296) as u32,
-        (f[4] % 4294967296) as u32,
+        head,
         f[5],
         &bytes[..n],
     )?;

@@ -9,10 +9,11 @@ use lib.Seq.{sets, take_at, get_or-take}
 use lib.Ieee.{Float}
 use Rattle.order.specs.Runs.{up_to}
 use Rattle.order.proofs.Runs.{in_up_to}
-use Rattle.packet.specs.declared.Written.{Written}
+use Rattle.std.specs.Prelude.{Result, Ok}
+use Rattle.refusals.specs.declared.Refusal.{Refusal}
 use Rattle.packet.specs.Limits.{most_taps, tap_words, area_words, out_bytes}
 use Rattle.packet.specs.Tap.{Tap, taps_of, all_words}
-use Rattle.packet.specs.Writer.{write_answer, write_out, write_length}
+use Rattle.packet.specs.Writer.{write_answer, write_out}
 use Rattle.ranking.specs.declared.Candidate.{Candidate}
 use Rattle.ranking.specs.Candidate.{ranked}
 use Rattle.ranking.specs.Rows.{candidate_at, candidates_in, AllRankable, Ranked}
@@ -75,18 +76,18 @@ module _ (speed rate : Float) (limit n images : ℕ) (fs : List Float) (ws kept 
     read : taps_of r taps' ≡ map sent_tap sent
     read = ap (taps_of r) (stored ∙ ap (λ (ts : List Tap). sets taps 0 (all_words ts)) taps_are) ∙ stored_back sent r taps counted (fewer taps area)
 
-    module _ (rays : ℕ) (w : Written) (b : ℕ) (out out' : List ℕ) (room : out_bytes ≤ length out) (answer : w ≡ write_answer r images rays taps' out)
-        (holds : out' ≡ write_out r images rays taps' out) (long : b ≡ write_length w) where
-      ended_bytes : b ≡ length (packet_of images rays sent)
-      ended_bytes = long ∙ ap write_length answer ∙ sent_bytes speed rate limit images (candidates_in n fs ws) few s rays r taps' out counted read (omega arith) room
+    module _ (rays : ℕ) (w : Result ℕ Refusal) (out out' : List ℕ) (room : out_bytes ≤ length out) (answer : w ≡ write_answer r images rays taps' out)
+        (holds : out' ≡ write_out r images rays taps' out) where
+      pub written : w ≡ Ok (length (packet_of images rays sent))
+      written = answer ∙ sent_bytes speed rate limit images (candidates_in n fs ws) few s rays r taps' out counted read (omega arith) room
 
-      ended_out : out' ≡ packet_of images rays sent ++ drop b out
-      ended_out =
+      ended_out : (b : ℕ) → b ≡ length (packet_of images rays sent) → out' ≡ packet_of images rays sent ++ drop b out
+      ended_out b e =
           holds ∙ sent_out speed rate limit images (candidates_in n fs ws) few s rays r taps' out counted read (omega arith) room
-          ∙ ap (λ (m : ℕ). packet_of images rays sent ++ drop m out) (sym ended_bytes)
+          ∙ ap (λ (m : ℕ). packet_of images rays sent ++ drop m out) (sym e)
 
-      pub ended : (r ≡ length sent) × ((b ≡ length (packet_of images rays sent)) × (out' ≡ packet_of images rays sent ++ drop b out))
-      ended = (counted, (ended_bytes, ended_out))
+      pub ended : (b : ℕ) → w ≡ Ok b → (r ≡ length sent) × ((b ≡ length (packet_of images rays sent)) × (out' ≡ packet_of images rays sent ++ drop b out))
+      ended b e = let n : b ≡ length (packet_of images rays sent) = cc written in (counted, (n, ended_out b n))
 
 -- the lengths of local arrays
 pub exactly : {l k : ℕ} → l ≡ k → k ≤ l

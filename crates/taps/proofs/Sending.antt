@@ -24,8 +24,9 @@ use Rattle.packet.specs.Limits.{most_taps, most_images, most_order, area_words, 
 use Rattle.packet.specs.Floats.{finite_bits, positive_bits, zero_bits}
 use Rattle.packet.specs.Tap.{Tap, bits_of_gains, taps_of}
 use Rattle.packet.specs.Bytes.{encode}
+use Rattle.std.specs.Prelude.{None, Ok}
 use Rattle.packet.specs.Refusals.{all, in_range, valid_gain, valid_gains, valid_floats, member, distinct, number_of, sum_of_squared_gains, least_sum, none_exceeds, first_failed, tests}
-use Rattle.packet.specs.Writer.{refused_write, write_answer, write_out, write_length}
+use Rattle.packet.specs.Writer.{refused_write, write_answer, write_out}
 use Rattle.packet.proofs.Meaning.{above_zero, is_zero, finite_is, positive_is, zero_is}
 use Rattle.packet.proofs.Answers.{by_tests_write, write_taken}
 use Rattle.ranking.specs.declared.Candidate.{Candidate}
@@ -249,7 +250,7 @@ module _ (speed rate : Float) (limit images : ℕ) (cs : List Candidate) (few : 
   pub sent_length : length sent ≤ limit
   sent_length = simp length-take (omega arith)
 
-  pub ranked_sent : first_failed (tests (length sent) images (map sent_tap sent)) ≡ 0
+  pub ranked_sent : first_failed (tests (length sent) images (map sent_tap sent)) ≡ None
   ranked_sent =
       let l = sent_length in
       rw (
@@ -264,11 +265,11 @@ module _ (speed rate : Float) (limit images : ℕ) (cs : List Candidate) (few : 
       )
 
   module _ (rays count : ℕ) (a out : List ℕ) (e : count ≡ length sent) (t : taps_of count a ≡ map sent_tap sent) (area : area_words ≤ length a) (room : out_bytes ≤ length out) where
-    not_refused : refused_write count images a out ≡ 0
+    not_refused : refused_write count images a out ≡ None
     not_refused = by_tests_write count images rays a out area room ∙ (λ i. first_failed (tests (e i) images (t i))) ∙ ranked_sent
 
-    pub sent_bytes : write_length (write_answer count images rays a out) ≡ length (packet_of images rays sent)
-    sent_bytes = ap write_length (sym (write_taken count images rays a out not_refused).0) ∙ ap (λ (ts : List Tap). length (encode images rays ts)) t
+    pub sent_bytes : write_answer count images rays a out ≡ Ok (length (packet_of images rays sent))
+    sent_bytes = sym (write_taken count images rays a out not_refused).0 ∙ ap (λ (ts : List Tap). Ok (length (encode images rays ts))) t
 
     pub sent_out : write_out count images rays a out ≡ packet_of images rays sent ++ drop (length (packet_of images rays sent)) out
     sent_out =

@@ -8,14 +8,13 @@ ghost use Rattle.std.specs.Float.{nan};
 ghost use Rattle.order.specs.Open.{Open};
 ghost use Rattle.packet.specs.Limits.{most_taps, tap_words, fixed_words, area_words};
 ghost use Rattle.packet.specs.Tap.{words_of, all_words};
-ghost use Rattle.packet.specs.Writer.{write_length};
 ghost use Rattle.ranking.specs.Candidate.{ranked};
 ghost use Rattle.ranking.specs.Rows.{candidate_float_count, candidate_at, candidates_in, CandidateRows};
 ghost use Rattle.taps.specs.Tap.{bits_of, gain_bits, sent_tap, packet_of};
 ghost use Rattle.taps.specs.Sendable.{Level8, Sound};
 ghost use Rattle.taps.specs.Areas.{gains_at, taps_at, Pointing, Sends};
 
-use packet::Written;
+use packet::Head;
 
 // Floats and words of a candidate's row, and the words of a tap.
 const CANDIDATE_FLOATS: usize = ranking::CANDIDATE_FLOATS;
@@ -108,16 +107,6 @@ fn put_taps(
     }
 }
 
-// The length of a packet that was written.
-fn length_of(w: Written) -> usize
-    ensures { result ≡ write_length w }
-{
-    match w {
-        Written::Bytes(n) => n,
-        Written::Refused(_) => 0,
-    }
-}
-
 // The positions of the candidates that are kept, and the words of their taps.
 fn fresh_positions() -> [u32; packet::MOST_TAPS]
     ensures { length result ≡ most_taps }
@@ -180,6 +169,11 @@ pub fn write_taps(
         count,
         &mut taps,
     );
-    let bytes = length_of(packet::write(count, images, rays, &taps, out));
+    let head = Head {
+        count,
+        images,
+        rays,
+    };
+    let bytes = packet::write(head, &taps, out).unwrap();
     Packed { count, bytes }
 }

@@ -1,0 +1,2 @@
+-- The definitions that contracts of refusals cite.
+pub mod Numbers
