@@ -1,6 +1,6 @@
 -- `listing::list_images` meets its contract: for a request in range `enumerate` refuses nothing, and the header says its count.
 use native.Mathlib.Omega.{arith}
-use mathlib.Core.Path.{refl, sym, ◌∙◌}
+use mathlib.Core.Path.{sym, ◌∙◌}
 use lib.Seq.{length-take-le}
 use Rattle.listing.proofs.Answering.{found, found_area, total_is, total_not, listed_head}
 use Rattle.listing.proofs.list_images.Goals as goal
@@ -36,12 +36,3 @@ returns-in-Refused c =
     let h = c.requires in
     let f = found a.planes a.order a.mask c.put_on.new.on a.records.now h.0 h.1 h.2 c.put_on.ensures in
     absurd (total_not _ c.enumerate-found.result c.in-Refused.is (c.enumerate-found.ensures.0 ∙ f))
-
-pub slice_bounds-put_on-end : goal.slice_bounds-put_on-end
-slice_bounds-put_on-end c = refl
-
-pub put_on-requires : goal.put_on-requires
-put_on-requires c = tt
-
-pub enumerate-found-requires : goal.enumerate-found-requires
-enumerate-found-requires c = tt
