@@ -7,6 +7,7 @@
 #![tactic(auto)]
 
 use scene::{OCCLUSION_MAX_CROSSINGS, REFLECTION_VISIBILITY_RADIUS};
+use std::fmt;
 
 // The room that the areas of a case have.
 const MOST_MATERIALS: u32 = 64;
@@ -41,66 +42,61 @@ const BANDS: usize = 8;
 // A place in `f`.
 const PROBE_RADIUS: usize = 17;
 
-// What can be expected where the text goes wrong; `booth` has the words for each number.
-const A_NAME: u32 = 1;
-
-const A_WHOLE: u32 = 2;
-
-const A_FLOAT: u32 = 3;
-
-const A_FLAG: u32 = 4;
-
-const A_CURVE: u32 = 5;
-
-const FEW_MATERIALS: u32 = 6;
-
-const FEW_MESHES: u32 = 7;
-
-const FEW_VERTICES: u32 = 8;
-
-const FEW_INDICES: u32 = 9;
-
-const NO_MORE: u32 = 10;
-
-const CASE: u32 = 11;
-
-const COUNTS: u32 = 12;
-
-const SEVEN: u32 = 13;
-
-const MERGE_WORD: u32 = 14;
-
-const CURVE_WORD: u32 = 15;
-
-const MATERIAL_WORD: u32 = 16;
-
-const ROW: u32 = 17;
-
-const MESHES_WORD: u32 = 18;
-
-const MESH: u32 = 19;
-
-const TRANSFORM: u32 = 20;
-
-const POSITION: u32 = 21;
-
-const INDEX: u32 = 22;
-
-const SOURCE: u32 = 23;
-
-const LISTENER: u32 = 24;
-
-const SEPARATED_WORD: u32 = 25;
-
-const END: u32 = 26;
-
-// The place in the text up to which it was read, where the last token began, its line, and what was expected there: 0 where nothing went wrong.
+// What was expected where a text goes wrong.
 #[derive(Clone, Copy)]
-pub struct Cursor {
+pub enum Expected {
+    Name,
+    Whole,
+    Float,
+    Flag,
+    Curve,
+    FewMaterials,
+    FewMeshes,
+    FewVertices,
+    FewIndices,
+    NoMore,
+    Word(&'static str),
+}
+
+impl fmt::Display for Expected {
+    fn fmt<W: fmt::Write>(&self, f: &mut fmt::Formatter<W>) -> fmt::Result {
+        match self {
+            Expected::Name => write!(f, "a name"),
+            Expected::Whole => write!(f, "a whole number below 4,294,967,296"),
+            Expected::Float => write!(f, "a float"),
+            Expected::Flag => write!(f, "0 or 1"),
+            Expected::Curve => write!(f, "`inverse` or `linear`"),
+            Expected::FewMaterials => write!(f, "at most 64 materials, which there is room for"),
+            Expected::FewMeshes => write!(f, "at most 64 meshes, which there is room for"),
+            Expected::FewVertices => {
+                write!(f, "at most 2,048 vertices in all, which there is room for")
+            }
+            Expected::FewIndices => write!(
+                f,
+                "at most 1,536 indices in all (512 triangles), which there is room for"
+            ),
+            Expected::NoMore => write!(f, "nothing more after `end`"),
+            Expected::Word(word) => write!(f, "`{word}`"),
+        }
+    }
+}
+
+// What was expected, where the token that stands there begins and ends, and its line.
+#[derive(Clone, Copy)]
+pub struct Fault {
+    pub expected: Expected,
     pub from: usize,
     pub at: usize,
     pub line: u32,
-    pub wrong: u32,
+}
+
+// A text, where its last token that was read begins and ends, and the line of it.
+#[derive(Drop)]
+struct Reader<'a> {
+    text: &'a [u8],
+    from: usize,
+    at: usize,
+    line: u32,
 }
 
 // ---- numbers that stay small
@@ -131,10 +127,6 @@ fn sixteen(a: usize) -> usize {
     1000000
 }
 
-fn wide(n: u32) -> usize {
-    n as usize
-}
-
 // The word at k, 0 past the end.
 pub fn word(w: &[u32], k: usize) -> u32 {
     if k < w.len() { w[k] } else { 0 }
@@ -158,78 +150,119 @@ fn add_word(w: &mut [u32], k: usize, n: u32) {
 
 // ---- one token
 
-// The same place, where something else was expected.
-fn fault(c: Cursor, wrong: u32) -> Cursor {
-    Cursor {
-        from: c.from,
-        at: c.at,
-        line: c.line,
-        wrong,
+impl<'a> Reader<'a> {
+    // The next token.
+    fn token(&mut self) -> &'a [u8] {
+        let t = text::next_token(self.text, self.at, self.line);
+        self.from = t.start;
+        self.at = t.end;
+        self.line = t.line;
+        &self.text[t.start..t.end]
     }
-}
 
-// The place after a token.
-fn after(t: text::Token, wrong: u32) -> Cursor {
-    Cursor {
-        from: t.start,
-        at: t.end,
-        line: t.line,
-        wrong,
+    // What goes wrong at the last token.
+    fn fault(&self, expected: Expected) -> Fault {
+        Fault {
+            expected,
+            from: self.from,
+            at: self.at,
+            line: self.line,
+        }
     }
-}
 
-// The word `expected`, of which `wrong` is the number.
-fn keyword(s: &[u8], c: Cursor, expected: &[u8], wrong: u32) -> Cursor {
-    if c.wrong != 0 {
-        return c;
+    // The word `word`, which is all that may stand here.
+    fn keyword(&mut self, word: &'static str) -> Result<(), Fault> {
+        if self.token() == word.as_bytes() {
+            return Ok(());
+        }
+        Err(self.fault(Expected::Word(word)))
     }
-    let t = text::next_token(s, c.at, c.line);
-    let start = t.start;
-    let end = t.end;
-    if text::same(&s[start..end], expected) {
-        return after(t, 0);
-    }
-    after(t, wrong)
-}
 
-// Any token.
-fn name(s: &[u8], c: Cursor) -> Cursor {
-    if c.wrong != 0 {
-        return c;
+    // Whether the next token is this word; it is read if it is.
+    fn follows(&mut self, word: &[u8]) -> bool {
+        let t = text::next_token(self.text, self.at, self.line);
+        if &self.text[t.start..t.end] != word {
+            return false;
+        }
+        self.token();
+        true
     }
-    let t = text::next_token(s, c.at, c.line);
-    if t.start == t.end {
-        return after(t, A_NAME);
-    }
-    after(t, 0)
-}
 
-// No token any more.
-fn no_more(s: &[u8], c: Cursor) -> Cursor {
-    if c.wrong != 0 {
-        return c;
+    // Any token.
+    fn name(&mut self) -> Result<(), Fault> {
+        if self.token().len() == 0 {
+            return Err(self.fault(Expected::Name));
+        }
+        Ok(())
     }
-    let t = text::next_token(s, c.at, c.line);
-    if t.start == t.end {
-        return after(t, 0);
-    }
-    after(t, NO_MORE)
-}
 
-// A whole number, to place k.
-fn read_word(s: &[u8], c: Cursor, w: &mut [u32], k: usize) -> Cursor {
-    if c.wrong != 0 {
-        return c;
+    // No token any more.
+    fn no_more(&mut self) -> Result<(), Fault> {
+        if self.token().len() == 0 {
+            return Ok(());
+        }
+        Err(self.fault(Expected::NoMore))
     }
-    let t = text::next_token(s, c.at, c.line);
-    let start = t.start;
-    let end = t.end;
-    let got = text::whole(&s[start..end]);
-    let text::Word::Whole(n) = got else {
-        return after(t, A_WHOLE);
-    };
-    set_word(w, k, n);
-    after(t, 0)
+
+    // A whole number.
+    fn whole(&mut self) -> Result<u32, Fault> {
+        match text::whole(self.token()) {
+            Some(n) => Ok(n),
+            None => Err(self.fault(Expected::Whole)),
+        }
+    }
+
+    // A float.
+    fn float(&mut self) -> Result<f32, Fault> {
+        match text::float_in(self.token()) {
+            Some(x) => Ok(x),
+            None => Err(self.fault(Expected::Float)),
+        }
+    }
+
+    // What is wrong where n, which was read last, is above the limit.
+    fn at_most(&self, n: u32, limit: u32, expected: Expected) -> Result<(), Fault> {
+        if limit < n {
+            return Err(self.fault(expected));
+        }
+        Ok(())
+    }
+
+    // n whole numbers, to place k and on.
+    fn words(&mut self, w: &mut [u32], k: usize, n: usize) -> Result<(), Fault> {
+        for j in 0..n {
+            let value = self.whole()?;
+            set_word(w, plus(k, j), value);
+        }
+        Ok(())
+    }
+
+    // n floats, to place k and on.
+    fn floats(&mut self, f: &mut [f32], k: usize, n: usize) -> Result<(), Fault> {
+        for j in 0..n {
+            let value = self.float()?;
+            set_float(f, plus(k, j), value);
+        }
+        Ok(())
+    }
+
+    // 0 or 1.
+    fn flag(&mut self) -> Result<u32, Fault> {
+        let n = self.whole()?;
+        self.at_most(n, 1, Expected::Flag)?;
+        Ok(n)
+    }
+
+    // `inverse` is 0, `linear` 1.
+    fn curve(&mut self) -> Result<u32, Fault> {
+        if self.follows(b"linear") {
+            return Ok(1);
+        }
+        if self.token() == b"inverse".as_slice() {
+            return Ok(0);
+        }
+        Err(self.fault(Expected::Curve))
+    }
 }
 
 fn set_float(f: &mut [f32], k: usize, value: f32) {
@@ -238,103 +271,34 @@ fn set_float(f: &mut [f32], k: usize, value: f32) {
     }
 }
 
-// A float, to place k.
-fn read_float(s: &[u8], c: Cursor, f: &mut [f32], k: usize) -> Cursor {
-    if c.wrong != 0 {
-        return c;
-    }
-    let t = text::next_token(s, c.at, c.line);
-    let start = t.start;
-    let end = t.end;
-    let got = text::float_in(&s[start..end]);
-    let text::Number::Real(x) = got else {
-        return after(t, A_FLOAT);
-    };
-    set_float(f, k, x);
-    after(t, 0)
-}
-
-// n whole numbers, from place k on.
-fn read_words(s: &[u8], c: Cursor, w: &mut [u32], k: usize, n: usize) -> Cursor {
-    let mut d = c;
-    for j in 0..n {
-        d = read_word(s, d, w, plus(k, j));
-        if d.wrong != 0 {
-            return d;
-        }
-    }
-    d
-}
-
-// n floats, from place k on.
-fn read_floats(s: &[u8], c: Cursor, f: &mut [f32], k: usize, n: usize) -> Cursor {
-    let mut d = c;
-    for j in 0..n {
-        d = read_float(s, d, f, plus(k, j));
-        if d.wrong != 0 {
-            return d;
-        }
-    }
-    d
-}
-
-// `wrong` where n is above the limit.
-fn at_most(c: Cursor, n: u32, limit: u32, wrong: u32) -> Cursor {
-    if c.wrong != 0 {
-        return c;
-    }
-    if limit < n {
-        return fault(c, wrong);
-    }
-    c
-}
-
-// 0 or 1, to place k.
-fn read_flag(s: &[u8], c: Cursor, w: &mut [u32], k: usize) -> Cursor {
-    let d = read_word(s, c, w, k);
-    at_most(d, word(w, k), 1, A_FLAG)
-}
-
-// `inverse` or `linear`, to place CURVE as 0 or 1.
-fn read_curve(s: &[u8], c: Cursor, w: &mut [u32]) -> Cursor {
-    let d = keyword(s, c, b"linear", A_CURVE);
-    if d.wrong == 0 {
-        set_word(w, CURVE, 1);
-        return d;
-    }
-    set_word(w, CURVE, 0);
-    keyword(s, c, b"inverse", A_CURVE)
-}
-
 // ---- settings
 
-fn read_counts(s: &[u8], c: Cursor, w: &mut [u32], f: &mut [f32]) -> Cursor {
-    let a = keyword(s, c, b"case", CASE);
-    let b = name(s, a);
-    let d = keyword(s, b, b"counts", COUNTS);
-    let e = read_words(s, d, w, 0, 4);
-    let g = keyword(s, e, b"floats", SEVEN);
-    read_floats(s, g, f, 0, 7)
+fn read_counts(r: &mut Reader, w: &mut [u32], f: &mut [f32]) -> Result<(), Fault> {
+    r.keyword("case")?;
+    r.name()?;
+    r.keyword("counts")?;
+    r.words(w, 0, 4)?;
+    r.keyword("floats")?;
+    r.floats(f, 0, 7)
 }
 
-fn read_model(s: &[u8], c: Cursor, w: &mut [u32], f: &mut [f32]) -> Cursor {
-    let a = keyword(s, c, b"merge", MERGE_WORD);
-    let b = read_flag(s, a, w, MERGE);
-    let d = keyword(s, b, b"curve", CURVE_WORD);
-    let e = read_curve(s, d, w);
-    read_floats(s, e, f, 7, 4)
+fn read_model(r: &mut Reader, w: &mut [u32], f: &mut [f32]) -> Result<(), Fault> {
+    r.keyword("merge")?;
+    set_word(w, MERGE, r.flag()?);
+    r.keyword("curve")?;
+    set_word(w, CURVE, r.curve()?);
+    r.floats(f, 7, 4)
 }
 
 // The line `probes`, which may be left out: then the Rust's constants, and `materials` follows.
-fn read_probes(s: &[u8], c: Cursor, w: &mut [u32], f: &mut [f32]) -> Cursor {
-    let a = keyword(s, c, b"probes", MATERIAL_WORD);
-    if a.wrong != 0 {
+fn read_probes(r: &mut Reader, w: &mut [u32], f: &mut [f32]) -> Result<(), Fault> {
+    if !r.follows(b"probes") {
         set_word(w, CROSSING_LIMIT, OCCLUSION_MAX_CROSSINGS);
         set_float(f, PROBE_RADIUS, REFLECTION_VISIBILITY_RADIUS);
-        return c;
+        return Ok(());
     }
-    let b = read_word(s, a, w, CROSSING_LIMIT);
-    read_float(s, b, f, PROBE_RADIUS)
+    r.words(w, CROSSING_LIMIT, 1)?;
+    r.floats(f, PROBE_RADIUS, 1)
 }
 
 // No coefficient: the air takes nothing.
@@ -345,223 +309,129 @@ fn no_air(w: &mut [u32]) {
 }
 
 // The line `air`, which may be left out.
-fn read_air(s: &[u8], c: Cursor, w: &mut [u32]) -> Cursor {
-    let a = keyword(s, c, b"air", MATERIAL_WORD);
-    if a.wrong != 0 {
+fn read_air(r: &mut Reader, w: &mut [u32]) -> Result<(), Fault> {
+    if !r.follows(b"air") {
         no_air(w);
-        return c;
+        return Ok(());
     }
-    read_words(s, a, w, AIR, BANDS)
+    r.words(w, AIR, BANDS)
 }
 
-fn read_settings(s: &[u8], c: Cursor, w: &mut [u32], f: &mut [f32]) -> Cursor {
-    let a = read_counts(s, c, w, f);
-    let b = read_model(s, a, w, f);
-    let d = read_probes(s, b, w, f);
-    read_air(s, d, w)
+fn read_settings(r: &mut Reader, w: &mut [u32], f: &mut [f32]) -> Result<(), Fault> {
+    read_counts(r, w, f)?;
+    read_model(r, w, f)?;
+    read_probes(r, w, f)?;
+    read_air(r, w)
 }
 
-fn read_places(s: &[u8], c: Cursor, f: &mut [f32]) -> Cursor {
-    let a = keyword(s, c, b"source", SOURCE);
-    let b = read_floats(s, a, f, 11, 3);
-    let d = keyword(s, b, b"listener", LISTENER);
-    read_floats(s, d, f, 14, 3)
+fn read_places(r: &mut Reader, f: &mut [f32]) -> Result<(), Fault> {
+    r.keyword("source")?;
+    r.floats(f, 11, 3)?;
+    r.keyword("listener")?;
+    r.floats(f, 14, 3)
 }
 
-fn read_last(s: &[u8], c: Cursor, w: &mut [u32]) -> Cursor {
-    let a = keyword(s, c, b"separated", SEPARATED_WORD);
-    let b = read_flag(s, a, w, SEPARATED);
-    let d = keyword(s, b, b"end", END);
-    no_more(s, d)
+fn read_last(r: &mut Reader, w: &mut [u32]) -> Result<(), Fault> {
+    r.keyword("separated")?;
+    set_word(w, SEPARATED, r.flag()?);
+    r.keyword("end")?;
+    r.no_more()
 }
 
 // ---- materials
 
-fn read_row(s: &[u8], c: Cursor, materials: &mut [f32], j: usize) -> Cursor {
-    let a = keyword(s, c, b"m", ROW);
-    read_floats(s, a, materials, sixteen(j), 16)
-}
-
-fn read_rows(s: &[u8], c: Cursor, materials: &mut [f32], n: usize) -> Cursor {
-    let mut d = c;
-    for j in 0..n {
-        d = read_row(s, d, materials, j);
-        if d.wrong != 0 {
-            return d;
-        }
+fn read_materials(r: &mut Reader, w: &mut [u32], materials: &mut [f32]) -> Result<(), Fault> {
+    r.keyword("materials")?;
+    let n = r.whole()?;
+    set_word(w, ROWS, n);
+    r.at_most(n, MOST_MATERIALS, Expected::FewMaterials)?;
+    for j in 0..n as usize {
+        r.keyword("m")?;
+        r.floats(materials, sixteen(j), 16)?;
     }
-    d
-}
-
-fn read_materials(s: &[u8], c: Cursor, w: &mut [u32], materials: &mut [f32]) -> Cursor {
-    let a = keyword(s, c, b"materials", MATERIAL_WORD);
-    let b = read_word(s, a, w, ROWS);
-    let n = word(w, ROWS);
-    let d = at_most(b, n, MOST_MATERIALS, FEW_MATERIALS);
-    if d.wrong != 0 {
-        return d;
-    }
-    read_rows(s, d, materials, wide(n))
+    Ok(())
 }
 
 // ---- meshes
 
-fn read_position(s: &[u8], c: Cursor, positions: &mut [f32], k: usize) -> Cursor {
-    let a = keyword(s, c, b"p", POSITION);
-    read_floats(s, a, positions, thrice(k), 3)
-}
-
 // n vertices, from vertex k on.
-fn read_positions(s: &[u8], c: Cursor, positions: &mut [f32], k: usize, n: usize) -> Cursor {
-    let mut d = c;
+fn read_positions(r: &mut Reader, positions: &mut [f32], k: usize, n: usize) -> Result<(), Fault> {
     for j in 0..n {
-        d = read_position(s, d, positions, plus(k, j));
-        if d.wrong != 0 {
-            return d;
-        }
+        r.keyword("p")?;
+        r.floats(positions, thrice(plus(k, j)), 3)?;
     }
-    d
+    Ok(())
 }
 
-// Index j of a mesh, to place k; every third begins a line.
-fn read_index(s: &[u8], c: Cursor, indices: &mut [u32], k: usize, j: usize) -> Cursor {
-    if j % 3 == 0 {
-        let a = keyword(s, c, b"i", INDEX);
-        return read_word(s, a, indices, k);
-    }
-    read_word(s, c, indices, k)
-}
-
-// n indices, from place k on.
-fn read_indices(s: &[u8], c: Cursor, indices: &mut [u32], k: usize, n: usize) -> Cursor {
-    let mut d = c;
+// n indices, from place k on; every third begins a line.
+fn read_indices(r: &mut Reader, indices: &mut [u32], k: usize, n: usize) -> Result<(), Fault> {
     for j in 0..n {
-        d = read_index(s, d, indices, plus(k, j), j);
-        if d.wrong != 0 {
-            return d;
+        if j % 3 == 0 {
+            r.keyword("i")?;
         }
+        r.words(indices, plus(k, j), 1)?;
     }
-    d
+    Ok(())
 }
 
 // The row of mesh j: handle, vertices and indices in the text; vertices, indices and handle in the area.
-fn read_mesh_row(s: &[u8], c: Cursor, meshes: &mut [u32], j: usize) -> Cursor {
+fn read_mesh_row(r: &mut Reader, meshes: &mut [u32], j: usize) -> Result<(), Fault> {
     let k = thrice(j);
-    let a = keyword(s, c, b"mesh", MESH);
-    let b = read_word(s, a, meshes, plus(k, 2));
-    read_words(s, b, meshes, k, 2)
+    r.keyword("mesh")?;
+    r.words(meshes, plus(k, 2), 1)?;
+    r.words(meshes, k, 2)
 }
 
-// Counts the vertices and indices of mesh j, if there is room for them.
-fn count_mesh(c: Cursor, w: &mut [u32], meshes: &[u32], j: usize) -> Cursor {
-    let k = thrice(j);
-    let a = at_most(c, word(meshes, k), MOST_VERTICES, FEW_VERTICES);
-    let b = at_most(a, word(meshes, plus(k, 1)), MOST_INDICES, FEW_INDICES);
-    if b.wrong != 0 {
-        return b;
-    }
-    add_word(w, VERTEX_COUNT, word(meshes, k));
-    add_word(w, INDEX_COUNT, word(meshes, plus(k, 1)));
-    let d = at_most(b, word(w, VERTEX_COUNT), MOST_VERTICES, FEW_VERTICES);
-    at_most(d, word(w, INDEX_COUNT), MOST_INDICES, FEW_INDICES)
-}
-
-fn read_transform(s: &[u8], c: Cursor, transforms: &mut [f32], j: usize) -> Cursor {
-    let a = keyword(s, c, b"t", TRANSFORM);
-    read_floats(s, a, transforms, sixteen(j), 16)
-}
-
-// Transform, vertices and indices of mesh j, which go to vertex v and place i.
-fn read_parts(
-    s: &[u8],
-    c: Cursor,
-    transforms: &mut [f32],
-    positions: &mut [f32],
-    indices: &mut [u32],
-    meshes: &[u32],
-    j: usize,
-    v: u32,
-    i: u32,
-) -> Cursor {
-    let k = thrice(j);
-    let a = read_transform(s, c, transforms, j);
-    let b = read_positions(s, a, positions, wide(v), wide(word(meshes, k)));
-    read_indices(s, b, indices, wide(i), wide(word(meshes, plus(k, 1))))
+// Counts so many vertices and indices, if there is room for them.
+fn count_mesh(r: &Reader, w: &mut [u32], vertices: u32, indices: u32) -> Result<(), Fault> {
+    r.at_most(vertices, MOST_VERTICES, Expected::FewVertices)?;
+    r.at_most(indices, MOST_INDICES, Expected::FewIndices)?;
+    add_word(w, VERTEX_COUNT, vertices);
+    add_word(w, INDEX_COUNT, indices);
+    r.at_most(word(w, VERTEX_COUNT), MOST_VERTICES, Expected::FewVertices)?;
+    r.at_most(word(w, INDEX_COUNT), MOST_INDICES, Expected::FewIndices)
 }
 
 fn read_mesh(
-    s: &[u8],
-    c: Cursor,
+    r: &mut Reader,
     w: &mut [u32],
     meshes: &mut [u32],
     transforms: &mut [f32],
     positions: &mut [f32],
     indices: &mut [u32],
     j: usize,
-) -> Cursor {
-    let v = word(w, VERTEX_COUNT);
-    let i = word(w, INDEX_COUNT);
-    let a = read_mesh_row(s, c, meshes, j);
-    let b = count_mesh(a, w, meshes, j);
-    if b.wrong != 0 {
-        return b;
-    }
-    read_parts(s, b, transforms, positions, indices, meshes, j, v, i)
-}
-
-fn read_meshes(
-    s: &[u8],
-    c: Cursor,
-    w: &mut [u32],
-    meshes: &mut [u32],
-    transforms: &mut [f32],
-    positions: &mut [f32],
-    indices: &mut [u32],
-    n: usize,
-) -> Cursor {
-    let mut d = c;
-    for j in 0..n {
-        d = read_mesh(s, d, w, meshes, transforms, positions, indices, j);
-        if d.wrong != 0 {
-            return d;
-        }
-    }
-    d
-}
-
-fn read_mesh_count(s: &[u8], c: Cursor, w: &mut [u32]) -> Cursor {
-    let a = keyword(s, c, b"meshes", MESHES_WORD);
-    let b = read_word(s, a, w, MESH_COUNT);
-    at_most(b, word(w, MESH_COUNT), MOST_MESHES, FEW_MESHES)
+) -> Result<(), Fault> {
+    let first_vertex = word(w, VERTEX_COUNT);
+    let first_index = word(w, INDEX_COUNT);
+    read_mesh_row(r, meshes, j)?;
+    let vertices = word(meshes, thrice(j));
+    let corners = word(meshes, plus(thrice(j), 1));
+    count_mesh(r, w, vertices, corners)?;
+    r.keyword("t")?;
+    r.floats(transforms, sixteen(j), 16)?;
+    read_positions(r, positions, first_vertex as usize, vertices as usize)?;
+    read_indices(r, indices, first_index as usize, corners as usize)
 }
 
 fn read_scene(
-    s: &[u8],
-    c: Cursor,
+    r: &mut Reader,
     w: &mut [u32],
     meshes: &mut [u32],
     transforms: &mut [f32],
     positions: &mut [f32],
     indices: &mut [u32],
-) -> Cursor {
-    let a = read_mesh_count(s, c, w);
-    if a.wrong != 0 {
-        return a;
+) -> Result<(), Fault> {
+    r.keyword("meshes")?;
+    let n = r.whole()?;
+    set_word(w, MESH_COUNT, n);
+    r.at_most(n, MOST_MESHES, Expected::FewMeshes)?;
+    for j in 0..n as usize {
+        read_mesh(r, w, meshes, transforms, positions, indices, j)?;
     }
-    let n = wide(word(w, MESH_COUNT));
-    read_meshes(s, a, w, meshes, transforms, positions, indices, n)
+    Ok(())
 }
 
 // ---- a case
-
-fn start() -> Cursor {
-    Cursor {
-        from: 0,
-        at: 0,
-        line: 1,
-        wrong: 0,
-    }
-}
 
 // The first case of a text, which holds no other, into areas that are zero.
 pub fn read_case(
@@ -573,10 +443,16 @@ pub fn read_case(
     transforms: &mut [f32],
     positions: &mut [f32],
     indices: &mut [u32],
-) -> Cursor {
-    let a = read_settings(s, start(), w, f);
-    let b = read_materials(s, a, w, materials);
-    let d = read_scene(s, b, w, meshes, transforms, positions, indices);
-    let e = read_places(s, d, f);
-    read_last(s, e, w)
+) -> Result<(), Fault> {
+    let mut r = Reader {
+        text: s,
+        from: 0,
+        at: 0,
+        line: 1,
+    };
+    read_settings(&mut r, w, f)?;
+    read_materials(&mut r, w, materials)?;
+    read_scene(&mut r, w, meshes, transforms, positions, indices)?;
+    read_places(&mut r, f)?;
+    read_last(&mut r, w)
 }

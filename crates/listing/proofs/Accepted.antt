@@ -11,11 +11,11 @@ use lib.ListN.{length, get_or, take, drop, drop_of_length-le, length-append, tak
 use lib.Seq.{drop-cons, take_at, get_or-append-add, get_or_at}
 use lib.Dec.{leb, eqb}
 use borrow.Author.Tests.{ne_eqb, eqb-true, leb-true}
-use Rattle.listing.specs.Request.{most_text, is_digit_byte, all, is_decimal_text, value_of, words, onto, space, space_at, in_range, checked, asked, length_of_line, request_of, Accepted}
+use Rattle.std.specs.Prelude.{Option, None}
+use Rattle.listing.specs.Request.{images_at, most_text, is_digit_byte, all, is_decimal_text, value_of, words, onto, space, space_at, in_range, checked, asked, length_of_line, request_of, Accepted}
 use Rattle.listing.specs.declared.Request.{Request}
-use Rattle.listing.specs.declared.Request.TheVariants.{Images, Refused}
 use Rattle.listing.proofs.Reading.{and_left, and_right, words_none, words_some, decimal_digits, decimal_at, digit_range, line_feed, line_plain, request_short}
-use Rattle.listing.proofs.Answering.{request_range, cond_images}
+use Rattle.listing.proofs.Answering.{of_request, request_range, cond_images}
 
 -- ---- from the words to the line
 
@@ -58,18 +58,18 @@ record Three (ws : List (List ℕ)) (n o m : ℕ) : Type 0 where
   decimals : (is_decimal_text a ≡ true) × (is_decimal_text b ≡ true) × (is_decimal_text c ≡ true)
   values : (value_of a ≡ n) × (value_of b ≡ o) × (value_of c ≡ m)
 
-cond_test : (t : Bool) (r : Request) (n o m : ℕ) → cond t r Refused ≡ Images n o m → t ≡ true
+cond_test : (t : Bool) (r : Option Request) (n o m : ℕ) → cond t r None ≡ images_at n o m → t ≡ true
 cond_test true r n o m e = refl
 cond_test false r n o m e = let z : ◌≡◌ {A = ℕ} 0 1 = cc in absurd (omega arith)
 
-asked_three : (ws : List (List ℕ)) (n o m : ℕ) → asked ws ≡ Images n o m → Three ws n o m
+asked_three : (ws : List (List ℕ)) (n o m : ℕ) → asked ws ≡ images_at n o m → Three ws n o m
 asked_three [] n o m e = let z : ◌≡◌ {A = ℕ} 0 1 = cc in absurd (omega arith)
 asked_three (a ∷ []) n o m e = let z : ◌≡◌ {A = ℕ} 0 1 = cc in absurd (omega arith)
 asked_three (a ∷ b ∷ []) n o m e = let z : ◌≡◌ {A = ℕ} 0 1 = cc in absurd (omega arith)
 asked_three (a ∷ b ∷ c ∷ []) n o m e =
     let d = cond_test (is_decimal_text a && (is_decimal_text b && is_decimal_text c)) (checked (value_of a) (value_of b) (value_of c)) n o m e in
     let f = cond_images (is_decimal_text a && (is_decimal_text b && is_decimal_text c)) (checked (value_of a) (value_of b) (value_of c)) n o m e in
-    let g = cond_images (in_range (value_of a) (value_of b) (value_of c)) (Images (value_of a) (value_of b) (value_of c)) n o m f in
+    let g = cond_images (in_range (value_of a) (value_of b) (value_of c)) (images_at (value_of a) (value_of b) (value_of c)) n o m f in
     let bc = and_right (is_decimal_text a) (is_decimal_text b && is_decimal_text c) d in
     record {
       a = a;
@@ -77,7 +77,7 @@ asked_three (a ∷ b ∷ c ∷ []) n o m e =
       c = c;
       are = refl;
       decimals = (and_left (is_decimal_text a) (is_decimal_text b && is_decimal_text c) d, and_left (is_decimal_text b) (is_decimal_text c) bc, and_right (is_decimal_text b) (is_decimal_text c) bc);
-      values = (cc, cc, cc);
+      values = (ap (of_request (λ r. r.planes)) g, ap (of_request (λ r. r.order)) g, ap (of_request (λ r. r.mask)) g);
     }
 asked_three (a ∷ b ∷ c ∷ d ∷ l) n o m e = let z : ◌≡◌ {A = ℕ} 0 1 = cc in absurd (omega arith)
 
@@ -101,7 +101,7 @@ feed_is t = by (eqb (get_or t (length t - 1) 0) 10) refl
         inr (d ∙ (λ i. f i ∷ g i))
     by false e = inl (drop_of_length-le t (let k : length t ≤ length t = omega arith in k))
 
-taken : (t : List ℕ) (n o m : ℕ) → request_of t ≡ Images n o m → Accepted t n o m
+taken : (t : List ℕ) (n o m : ℕ) → request_of t ≡ images_at n o m → Accepted t n o m
 unfolding request_of join
 taken t n o m e =
     let short = leb-true (length t) most_text (cond_test (leb (length t) most_text) (asked (words (take (length_of_line t) t))) n o m e) in
@@ -198,10 +198,10 @@ three a b c f ea eb ec h s =
     sym (request_short ((p ++ c) ++ f) s)
     ∙ ap (λ (x : List ℕ). asked (words x)) (line_of p c f ec h)
     ∙ ap asked w
-    ∙ ap (λ (x : Bool). cond x (checked (value_of a) (value_of b) (value_of c)) Refused)
+    ∙ ap (λ (x : Bool). cond x (checked (value_of a) (value_of b) (value_of c)) None)
     (ap (λ (x : Bool). x && (is_decimal_text b && is_decimal_text c)) ea ∙ ap (λ (x : Bool). x && is_decimal_text c) eb ∙ ec)
 
-takes : (t : List ℕ) (n o m : ℕ) → Accepted t n o m → request_of t ≡ Images n o m
+takes : (t : List ℕ) (n o m : ℕ) → Accepted t n o m → request_of t ≡ images_at n o m
 takes t n o m x =
     let l = x.line in
     let d = l.decimals in
@@ -213,8 +213,8 @@ takes t n o m x =
     ∙ ap (λ (y : ℕ). checked y (value_of l.second) (value_of l.third)) v.0
     ∙ ap (λ (y : ℕ). checked n y (value_of l.third)) v.1
     ∙ ap (λ (y : ℕ). checked n o y) v.2
-    ∙ ap (λ (b : Bool). cond b (Images n o m) Refused) x.range
+    ∙ ap (λ (b : Bool). cond b (images_at n o m) None) x.range
 
 -- a text asks for images exactly when it is accepted
-pub accepted : (t : List ℕ) (n o m : ℕ) → (request_of t ≡ Images n o m) ↔ Accepted t n o m
+pub accepted : (t : List ℕ) (n o m : ℕ) → (request_of t ≡ images_at n o m) ↔ Accepted t n o m
 accepted t n o m = (taken t n o m, takes t n o m)

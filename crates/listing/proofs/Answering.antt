@@ -18,14 +18,12 @@ use Rattle.sequences.specs.Contract as sequences
 use Rattle.sequences.specs.Count.{images, firsts}
 use Rattle.sequences.proofs.Counting.{visited_length}
 use Rattle.sequences.proofs.Laws.{length_listed}
-use Rattle.std.specs.Prelude.{Some, None}
-use Rattle.listing.specs.Request.{request_of, asked, checked, in_range, words, length_of_line, is_decimal_text, value_of, most_text, most_planes}
+use Rattle.std.specs.Prelude.{Option, Some, None}
+use Rattle.listing.specs.declared.Head.{Head}
+use Rattle.listing.specs.Request.{images_at, request_of, asked, checked, in_range, words, length_of_line, is_decimal_text, value_of, most_text, most_planes}
 use Rattle.listing.specs.Text.{Wrote, header_of, refused_text, most_header}
-use Rattle.listing.specs.Printed.{on_bytes, images_of, images_for, head_for, room, reply_of, records_of, out_of, Answered, Listed}
+use Rattle.listing.specs.Printed.{on_bytes, head_at, images_of, images_for, head_for, room, reply_of, records_of, out_of, Answered, Listed}
 use Rattle.listing.specs.declared.Request.{Request}
-use Rattle.listing.specs.declared.Request.TheVariants.{Images, Refused}
-use Rattle.listing.specs.declared.Reply.{Reply}
-use Rattle.listing.specs.declared.Reply.TheVariants.{Head, NoRoom}
 use Rattle.listing.proofs.Reading.{and_left, and_right, and_false}
 use Rattle.listing.proofs.Writing.{wrote_front, header_length}
 
@@ -111,35 +109,44 @@ pub listed_head :
     (planes order mask : ℕ) (records out : List ℕ) (total len : ℕ) (records' out' : List ℕ) →
     total ≡ length (images_of planes order mask) → most_header ≤ length out → Wrote (header_of total) out 0 out' len →
     records' ≡ listed (images_of planes order mask) ++ drop (length (images_of planes order mask) * 9) records →
-    Listed planes order mask records out (Head total len) records' out'
+    Listed planes order mask records out (head_at total len) records' out'
 listed_head planes order mask records out total len records' out' e h w a =
     let k : len ≤ length out = (let g = header_length total in let f = w.ends in omega arith) in
     let f = wrote_front (header_of total) out out' len w k in
     let n : len ≡ length (header_of (length (images_of planes order mask))) = f.0 ∙ ap (λ (t : ℕ). length (header_of t)) e in
     record {
-      answer = ap₂ Head e n;
+      answer = ap₂ head_at e n;
       area = a;
       head = f.1 ∙ ap₂ (λ (t l : ℕ). header_of t ++ drop l out) e n;
     }
 
 -- ---- a request that is not refused is in range
 
-pub cond_images : (b : Bool) (r : Request) (n o m : ℕ) → cond b r Refused ≡ Images n o m → r ≡ Images n o m
+-- a number of what an option holds
+abbrev pub of_request : (Request → ℕ) → Option Request → ℕ
+of_request f None = 0
+of_request f (Some r) = f r
+
+abbrev pub of_head : (Head → ℕ) → Option Head → ℕ
+of_head f None = 0
+of_head f (Some r) = f r
+
+pub cond_images : (b : Bool) (r : Option Request) (n o m : ℕ) → cond b r None ≡ images_at n o m → r ≡ images_at n o m
 cond_images true r n o m e = e
 cond_images false r n o m e = cc
 
-checked_range : (a b c n o m : ℕ) → checked a b c ≡ Images n o m → in_range n o m ≡ true
+checked_range : (a b c n o m : ℕ) → checked a b c ≡ images_at n o m → in_range n o m ≡ true
 checked_range a b c n o m e = by (in_range a b c) refl e
   where
-    by : (t : Bool) → in_range a b c ≡ t → cond t (Images a b c) Refused ≡ Images n o m → in_range n o m ≡ true
+    by : (t : Bool) → in_range a b c ≡ t → cond t (images_at a b c) None ≡ images_at n o m → in_range n o m ≡ true
     by true f e =
-        let p : n ≡ a = cc in
-        let q : o ≡ b = cc in
-        let r : m ≡ c = cc in
+        let p : n ≡ a = sym (ap (of_request (λ x. x.planes)) e) in
+        let q : o ≡ b = sym (ap (of_request (λ x. x.order)) e) in
+        let r : m ≡ c = sym (ap (of_request (λ x. x.mask)) e) in
         ap (λ (x : ℕ). in_range x o m) p ∙ ap (λ (x : ℕ). in_range a x m) q ∙ ap (λ (x : ℕ). in_range a b x) r ∙ f
     by false f e = let z : ◌≡◌ {A = ℕ} 0 1 = cc in absurd (omega arith)
 
-asked_range : (ws : List (List ℕ)) (n o m : ℕ) → asked ws ≡ Images n o m → in_range n o m ≡ true
+asked_range : (ws : List (List ℕ)) (n o m : ℕ) → asked ws ≡ images_at n o m → in_range n o m ≡ true
 asked_range [] n o m e = let z : ◌≡◌ {A = ℕ} 0 1 = cc in absurd (omega arith)
 asked_range (a ∷ []) n o m e = let z : ◌≡◌ {A = ℕ} 0 1 = cc in absurd (omega arith)
 asked_range (a ∷ b ∷ []) n o m e = let z : ◌≡◌ {A = ℕ} 0 1 = cc in absurd (omega arith)
@@ -148,13 +155,13 @@ asked_range (a ∷ b ∷ c ∷ []) n o m e =
     (cond_images (is_decimal_text a && (is_decimal_text b && is_decimal_text c)) (checked (value_of a) (value_of b) (value_of c)) n o m e)
 asked_range (a ∷ b ∷ c ∷ d ∷ l) n o m e = let z : ◌≡◌ {A = ℕ} 0 1 = cc in absurd (omega arith)
 
-pub request_range : (t : List ℕ) (n o m : ℕ) → request_of t ≡ Images n o m → in_range n o m ≡ true
+pub request_range : (t : List ℕ) (n o m : ℕ) → request_of t ≡ images_at n o m → in_range n o m ≡ true
 unfolding request_of
 request_range t n o m e =
     asked_range (words (take (length_of_line t) t)) n o m
     (cond_images (leb (length t) most_text) (asked (words (take (length_of_line t) t))) n o m e)
 
-pub request_few : (t : List ℕ) (n o m : ℕ) → request_of t ≡ Images n o m → (n ≤ most_planes) × (o ≤ most_order)
+pub request_few : (t : List ℕ) (n o m : ℕ) → request_of t ≡ images_at n o m → (n ≤ most_planes) × (o ≤ most_order)
 unfolding in_range
 request_few t n o m e =
     let r = and_right (leb 1 n) _ (request_range t n o m e) in
@@ -164,11 +171,11 @@ request_few t n o m e =
 -- ---- the answer
 
 module _ (text records out : List ℕ) where
-  none : room records out ≡ false → Answered text records out NoRoom records out
+  none : room records out ≡ false → Answered text records out None records out
   unfolding reply_of records_of out_of
   none e = record {
     answer =
-        ap (λ (b : Bool). cond b (Head (length (images_for (request_of text))) (length (head_for (request_of text)))) NoRoom) (sym e);
+        ap (λ (b : Bool). cond b (head_at (length (images_for (request_of text))) (length (head_for (request_of text)))) None) (sym e);
     area =
         ap
         (λ (b : Bool).
@@ -177,10 +184,10 @@ module _ (text records out : List ℕ) where
     head = ap (λ (b : Bool). cond b (head_for (request_of text) ++ drop (length (head_for (request_of text))) out) out) (sym e);
   }
 
-  pub none_records : length records < most * 9 → Answered text records out NoRoom records out
+  pub none_records : length records < most * 9 → Answered text records out None records out
   none_records h = none (ap (λ (b : Bool). b && leb most_header (length out)) (lt-leb (most * 9) (length records) h))
 
-  pub none_out : length out < most_header → Answered text records out NoRoom records out
+  pub none_out : length out < most_header → Answered text records out None records out
   none_out h = none (and_false (leb (most * 9) (length records)) (lt-leb most_header (length out) h))
 
   module _ (wide : most * 9 ≤ length records) (long : most_header ≤ length out) where
@@ -191,74 +198,74 @@ module _ (text records out : List ℕ) where
 
     -- for any request that the text asks for
     answered_for :
-        (q : Request) (r : Reply) (records' out' : List ℕ) → request_of text ≡ q → r ≡ Head (length (images_for q)) (length (head_for q)) →
+        (q : Option Request) (r : Option Head) (records' out' : List ℕ) → request_of text ≡ q → r ≡ head_at (length (images_for q)) (length (head_for q)) →
         records' ≡ listed (images_for q) ++ drop (length (images_for q) * 9) records → out' ≡ head_for q ++ drop (length (head_for q)) out →
         Answered text records out r records' out'
     unfolding reply_of records_of out_of
     answered_for q r records' out' e x y z = record {
       answer =
           x
-          ∙ ap (λ (p : Request). Head (length (images_for p)) (length (head_for p))) (sym e)
-          ∙ ap (λ (b : Bool). cond b (Head (length (images_for (request_of text))) (length (head_for (request_of text)))) NoRoom) (sym roomy);
+          ∙ ap (λ (p : Option Request). head_at (length (images_for p)) (length (head_for p))) (sym e)
+          ∙ ap (λ (b : Bool). cond b (head_at (length (images_for (request_of text))) (length (head_for (request_of text)))) None) (sym roomy);
       area =
           y
-          ∙ ap (λ (p : Request). listed (images_for p) ++ drop (length (images_for p) * 9) records) (sym e)
+          ∙ ap (λ (p : Option Request). listed (images_for p) ++ drop (length (images_for p) * 9) records) (sym e)
           ∙ ap
           (λ (b : Bool).
           cond b (listed (images_for (request_of text)) ++ drop (length (images_for (request_of text)) * 9) records) records)
           (sym roomy);
       head =
           z
-          ∙ ap (λ (p : Request). head_for p ++ drop (length (head_for p)) out) (sym e)
+          ∙ ap (λ (p : Option Request). head_for p ++ drop (length (head_for p)) out) (sym e)
           ∙ ap (λ (b : Bool). cond b (head_for (request_of text) ++ drop (length (head_for (request_of text))) out) out) (sym roomy);
     }
 
     pub answered_images :
-        (n o m : ℕ) (r : Reply) (records' out' : List ℕ) → request_of text ≡ Images n o m → Listed n o m records out r records' out' →
+        (n o m : ℕ) (r : Option Head) (records' out' : List ℕ) → request_of text ≡ images_at n o m → Listed n o m records out r records' out' →
         Answered text records out r records' out'
-    answered_images n o m r records' out' e l = answered_for (Images n o m) r records' out' e l.answer l.area l.head
+    answered_images n o m r records' out' e l = answered_for (images_at n o m) r records' out' e l.answer l.area l.head
 
     pub answered_refused :
-        (len : ℕ) (out' : List ℕ) → request_of text ≡ Refused → Wrote refused_text out 0 out' len →
-        Answered text records out (Head 0 len) records out'
+        (len : ℕ) (out' : List ℕ) → request_of text ≡ None → Wrote refused_text out 0 out' len →
+        Answered text records out (head_at 0 len) records out'
     unfolding listed
     answered_refused len out' e w =
         let k : len ≤ length out = (let f = w.ends in omega arith) in
         let f = wrote_front refused_text out out' len w k in
-        answered_for Refused (Head 0 len) records out' e (ap (Head 0) f.0) refl
+        answered_for None (head_at 0 len) records out' e (ap (head_at 0) f.0) refl
         (f.1 ∙ ap (λ (n : ℕ). refused_text ++ drop n out) f.0)
 
   -- what a caller of `answer` asks: the first line is within the output
   pub answer_within :
-      (total len : ℕ) (r : Reply) (records' out' : List ℕ) → Answered text records out r records' out' → r ≡ Head total len →
+      (total len : ℕ) (r : Option Head) (records' out' : List ℕ) → Answered text records out r records' out' → r ≡ head_at total len →
       len ≤ length out'
   unfolding reply_of out_of
   answer_within total len r records' out' a e = by (room records out) (sym e ∙ a.answer) a.head
     where
       by :
           (b : Bool) →
-          Head total len ≡ cond b (Head (length (images_for (request_of text))) (length (head_for (request_of text)))) NoRoom →
+          head_at total len ≡ cond b (head_at (length (images_for (request_of text))) (length (head_for (request_of text)))) None →
           out' ≡ cond b (head_for (request_of text) ++ drop (length (head_for (request_of text))) out) out → len ≤ length out'
       by true p q =
-          let n : len ≡ length (head_for (request_of text)) = cc in
+          let n : len ≡ length (head_for (request_of text)) = ap (of_head (λ h. h.len)) p in
           let t = ap length q ∙ length-append (head_for (request_of text)) (drop (length (head_for (request_of text))) out) in
           omega arith
       by false p q = let z : ◌≡◌ {A = ℕ} 0 1 = cc in absurd (omega arith)
 
   -- and every image has its record
   pub answer_records :
-      (total len : ℕ) (r : Reply) (records' out' : List ℕ) → Answered text records out r records' out' → r ≡ Head total len →
+      (total len : ℕ) (r : Option Head) (records' out' : List ℕ) → Answered text records out r records' out' → r ≡ head_at total len →
       total * 9 ≤ length records'
   unfolding reply_of records_of
   answer_records total len r records' out' a e = by (room records out) (sym e ∙ a.answer) a.area
     where
       by :
           (b : Bool) →
-          Head total len ≡ cond b (Head (length (images_for (request_of text))) (length (head_for (request_of text)))) NoRoom →
+          head_at total len ≡ cond b (head_at (length (images_for (request_of text))) (length (head_for (request_of text)))) None →
           records' ≡ cond b (listed (images_for (request_of text)) ++ drop (length (images_for (request_of text)) * 9) records) records →
           total * 9 ≤ length records'
       by true p q =
-          let n : total ≡ length (images_for (request_of text)) = cc in
+          let n : total ≡ length (images_for (request_of text)) = ap (of_head (λ h. h.total)) p in
           let m : total * 9 ≡ length (images_for (request_of text)) * 9 = ap (λ (k : ℕ). k * 9) n in
           let l = length_listed (images_for (request_of text)) in
           let t =

@@ -5,16 +5,22 @@ use mathlib.Core.Path.{◌≡◌, refl, sym, ap, ◌∙◌}
 use mathlib.Core.Bool.{Bool, true, false, cond, ◌&&◌}
 use mathlib.Core.List.{List, [], ◌∷◌, foldl, foldl-append}
 use native.Mathlib.Omega.{arith}
+use Rattle.std.proofs.lemmas.Grind.{common_steps}
 use native.Mathlib.Decide.{dec_lt}
 use native.Mathlib.Numerals.{add-one}
-use lib.ListN.{length, get_or, take, drop, drop_of_length-le, length-drop}
-use lib.Seq.{drop-cons, take-suc, take_all}
+use lib.ListN.{length, get_or, take, drop, length-drop}
+use lib.Seq.{take-suc, take_all}
 use lib.Pow.{pow_mono}
 use lib.Dec.{leb, ltb, eqb}
 use borrow.Author.Tests.{eq-eqb, ne_eqb, le-leb, lt-leb, leb-true, le-ltb}
-use Rattle.listing.specs.Request.{most_planes, most_text, cap, is_digit_byte, all, is_decimal_text, push, value_of, words, onto, space_at, in_range, checked, asked, length_of_line, request_of}
+use Rattle.std.specs.Prelude.{Some, None, ◌==◌, position}
+use Rattle.std.specs.List.{position_or_len, list_all}
+use Rattle.std.proofs.lemmas.List.{get_or_default}
+use Rattle.std.proofs.lemmas.List.Quantifiers.{position-Some}
+use Rattle.std.proofs.lemmas.List.Recursion.{is_position_or_len}
+use Rattle.std.proofs.lemmas.List.Sums.{AllPass-from_list_all, list_all-from_AllPass}
+use Rattle.listing.specs.Request.{images_at, most_planes, most_text, cap, is_digit_byte, all, is_decimal_text, push, value_of, words, onto, space_at, in_range, checked, asked, length_of_line, request_of}
 use Rattle.sequences.specs.Allowed.{most_order}
-use Rattle.listing.specs.declared.Request.TheVariants.{Images, Refused}
 
 pub and_false : (x : Bool) {y : Bool} → y ≡ false → (x && y) ≡ false
 and_false true e = e
@@ -33,39 +39,41 @@ and_right false y e = let z : ◌≡◌ {A = Bool} false true = e in absurd (no 
 
 -- ---- decimals
 
-all_step : (t : ℕ → Bool) (l : List ℕ) (i : ℕ) → i < length l → all t (drop i l) ≡ (t (get_or l i 0) && all t (drop (i + 1) l))
-unfolding all
-all_step t l i h = ap (all t) (drop-cons l i 0 h) ∙ ap (λ (n : ℕ). t (get_or l i 0) && all t (drop n l)) (sym (add-one i))
-
-pub all_on :
-    (t : ℕ → Bool) (l : List ℕ) (i : ℕ) → i < length l → all t (drop i l) ≡ all t l → t (get_or l i 0) ≡ true →
-    all t (drop (i + 1) l) ≡ all t l
-all_on t l i h inv e = sym (all_step t l i h ∙ ap (λ (b : Bool). b && all t (drop (i + 1) l)) e) ∙ inv
-
 all_at : (t : ℕ → Bool) (l : List ℕ) → all t l ≡ true → (i : ℕ) → i < length l → t (get_or l i 0) ≡ true
 unfolding all
 all_at t [] e i h = absurd (omega arith)
 all_at t (b ∷ l) e zero h = and_left (t b) (all t l) e
 all_at t (b ∷ l) e (suc i) h = all_at t l (and_right (t b) (all t l) e) i (omega arith)
 
+all_from : (t : ℕ → Bool) (l : List ℕ) → ((i : ℕ) → i < length l → t (get_or l i 0) ≡ true) → all t l ≡ true
+unfolding all
+all_from t [] h = refl
+all_from t (b ∷ l) h = ap (λ (x : Bool). x && all t l) (h 0 (omega arith)) ∙ all_from t l (λ i k. h (suc i) (omega arith))
+
+-- `all` is the library's word
+all_is : (t : ℕ → Bool) (l : List ℕ) → all t l ≡ list_all t l
+all_is t l = by (all t l) (list_all t l) refl refl
+  where
+    by : (a b : Bool) → all t l ≡ a → list_all t l ≡ b → a ≡ b
+    by true b e f =
+        sym
+        (list_all-from_AllPass t l
+        (λ i d h. ap t (get_or_default l i d 0 h) ∙ all_at t l e i h))
+        ∙ f
+    by false true e f =
+        sym e
+        ∙ all_from t l (λ i h. AllPass-from_list_all t l f i 0 h)
+    by false false e f = refl
+
 module _ (w : List ℕ) where
   pub decimal_none : length w ≡ 0 → false ≡ is_decimal_text w
   unfolding is_decimal_text
   decimal_none e = sym (ap (λ (b : Bool). b && all is_digit_byte w) (lt-leb 1 (length w) (omega arith)))
 
-  pub decimal_not : (i : ℕ) → i < length w → all is_digit_byte (drop i w) ≡ all is_digit_byte w → is_digit_byte (get_or w i 0) ≡ false → false ≡ is_decimal_text w
+  pub decimal_some : (length w ≡ 0 → ⊥) → list_all is_digit_byte w ≡ is_decimal_text w
   unfolding is_decimal_text
-  decimal_not i h inv e =
-      sym
-      (and_false (leb 1 (length w))
-      (sym inv ∙ all_step is_digit_byte w i h ∙ ap (λ (b : Bool). b && all is_digit_byte (drop (i + 1) w)) e))
-
-  pub decimal_all : (i : ℕ) → (length w ≡ 0 → ⊥) → length w ≤ i → all is_digit_byte (drop i w) ≡ all is_digit_byte w → true ≡ is_decimal_text w
-  unfolding is_decimal_text all
-  decimal_all i z h inv =
-      let e : all is_digit_byte w ≡ true = sym inv ∙ ap (all is_digit_byte) (drop_of_length-le w h) in
-      let o : leb 1 (length w) ≡ true = le-leb 1 (length w) (some (length w) z) in
-      sym (ap (λ (b : Bool). b && all is_digit_byte w) o ∙ e)
+  decimal_some z =
+      sym (ap (λ (b : Bool). b && all is_digit_byte w) (le-leb 1 (length w) (some (length w) z)) ∙ all_is is_digit_byte w)
     where
       some : (n : ℕ) → (n ≡ 0 → ⊥) → 1 ≤ n
       some zero z = absurd (z refl)
@@ -102,27 +110,24 @@ digit_range b e = (leb-true 48 b (and_left (leb 48 b) (leb b 57) e), leb-true b 
 
 -- ---- spaces and words
 
-module _ (l : List ℕ) (i : ℕ) where
-  pub space_here : i < length l → i + space_at (drop i l) ≡ space_at l → get_or l i 0 ≡ 32 → i ≡ space_at l
-  unfolding space_at
-  space_here h inv e =
-      let z : space_at (drop i l) ≡ 0 =
-      ap space_at (drop-cons l i 0 h) ∙ ap (λ (b : Bool). cond b 0 (suc (space_at (drop (suc i) l)))) (eq-eqb (get_or l i 0) 32 e) in
-      omega arith
+-- what the library says of the first space
+space_is : (l : List ℕ) → space_at l ≡ position_or_len (λ b. b == 32) l
+unfolding space_at
+space_is = is_position_or_len space_at (λ b. b == 32) refl (λ x xs. cases (x == 32) xs)
+  where
+    cases : (t : Bool) (xs : List ℕ) → cond t 0 (suc (space_at xs)) ≡ cond t 0 (1 + space_at xs)
+    cases t xs = ap (λ (n : ℕ). cond t 0 n) (let e : suc (space_at xs) ≡ 1 + space_at xs = omega arith in e)
 
-  pub space_on :
-      i < length l → i + space_at (drop i l) ≡ space_at l → (get_or l i 0 ≡ 32 → ⊥) → i + 1 + space_at (drop (i + 1) l) ≡ space_at l
-  unfolding space_at
-  space_on h inv e =
-      let z : space_at (drop i l) ≡ suc (space_at (drop (i + 1) l)) =
-      ap space_at (drop-cons l i 0 h)
-      ∙ ap (λ (b : Bool). cond b 0 (suc (space_at (drop (suc i) l)))) (ne_eqb (get_or l i 0) 32 e)
-      ∙ ap (λ (n : ℕ). suc (space_at (drop n l))) (sym (add-one i)) in
-      omega arith
+pub space_found : (l : List ℕ) (p : ℕ) → position (λ b. b == 32) l ≡ Some p → (p ≡ space_at l) × (p < length l)
+space_found l p e =
+    let k : position_or_len (λ b. b == 32) l ≡ p = grind (arith, common_steps) in
+    (sym (space_is l ∙ k), (position-Some (λ b. b == 32) l p 0 e).0)
 
-  pub space_end : length l ≤ i → i + space_at (drop i l) ≡ space_at l → i ≡ space_at l
-  unfolding space_at
-  space_end h inv = let z : space_at (drop i l) ≡ 0 = ap space_at (drop_of_length-le l h) in omega arith
+pub space_lacks : (l : List ℕ) → position (λ b. b == 32) l ≡ None → length l ≤ space_at l
+space_lacks l e =
+    let k : length l ≤ position_or_len (λ b. b == 32) l = grind (arith, common_steps) in
+    let f = space_is l in
+    omega arith
 
 -- no space: one word
 pub words_none : (l : List ℕ) → length l ≤ space_at l → words l ≡ l ∷ []
@@ -165,9 +170,6 @@ pub words_part :
     (l : List ℕ) (p : ℕ) → p ≡ space_at l → p < length l → take p l ∷ words (take (length l - (p + 1)) (drop (p + 1) l)) ≡ words l
 words_part l p e h = ap (λ (r : List ℕ). take p l ∷ words r) (part_all l (p + 1)) ∙ sym (words_at l p e h)
 
-pub words_one : (l : List ℕ) (p : ℕ) → p ≡ space_at l → length l ≤ p → words l ≡ l ∷ []
-words_one l p e h = words_none l (omega arith)
-
 -- digits have no space among them
 digits_whole : (l : List ℕ) → all is_digit_byte l ≡ true → length l ≤ space_at l
 unfolding all space_at is_digit_byte
@@ -181,32 +183,32 @@ digits_whole (b ∷ l) e =
 -- ---- three words
 
 -- a fourth word
-asked_four : (a b c l : List ℕ) → asked (a ∷ b ∷ c ∷ words l) ≡ Refused
+asked_four : (a b c l : List ℕ) → asked (a ∷ b ∷ c ∷ words l) ≡ None
 asked_four a b c l = by (dec_lt (space_at l) (length l))
   where
-    by : Dec (space_at l < length l) → asked (a ∷ b ∷ c ∷ words l) ≡ Refused
+    by : Dec (space_at l < length l) → asked (a ∷ b ∷ c ∷ words l) ≡ None
     by (yes h) = ap (λ (ws : List (List ℕ)). asked (a ∷ b ∷ c ∷ ws)) (words_some l h)
     by (no h) = ap (λ (ws : List (List ℕ)). asked (a ∷ b ∷ c ∷ ws)) (words_none l (omega arith))
 
 module _ (a b c : List ℕ) where
-  pub asked_not : (is_decimal_text a && (is_decimal_text b && is_decimal_text c)) ≡ false → asked (a ∷ b ∷ words c) ≡ Refused
+  pub asked_not : (is_decimal_text a && (is_decimal_text b && is_decimal_text c)) ≡ false → asked (a ∷ b ∷ words c) ≡ None
   asked_not e = by (dec_lt (space_at c) (length c))
     where
-      by : Dec (space_at c < length c) → asked (a ∷ b ∷ words c) ≡ Refused
+      by : Dec (space_at c < length c) → asked (a ∷ b ∷ words c) ≡ None
       by (yes h) =
           ap (λ (ws : List (List ℕ)). asked (a ∷ b ∷ ws)) (words_some c h)
           ∙ asked_four a b (take (space_at c) c) (drop (suc (space_at c)) c)
       by (no h) =
           ap (λ (ws : List (List ℕ)). asked (a ∷ b ∷ ws)) (words_none c (omega arith))
-          ∙ ap (λ (t : Bool). cond t (checked (value_of a) (value_of b) (value_of c)) Refused) e
+          ∙ ap (λ (t : Bool). cond t (checked (value_of a) (value_of b) (value_of c)) None) e
 
-  pub not_first : is_decimal_text a ≡ false → asked (a ∷ b ∷ words c) ≡ Refused
+  pub not_first : is_decimal_text a ≡ false → asked (a ∷ b ∷ words c) ≡ None
   not_first e = asked_not (ap (λ (t : Bool). t && (is_decimal_text b && is_decimal_text c)) e)
 
-  pub not_second : is_decimal_text b ≡ false → asked (a ∷ b ∷ words c) ≡ Refused
+  pub not_second : is_decimal_text b ≡ false → asked (a ∷ b ∷ words c) ≡ None
   not_second e = asked_not (and_false (is_decimal_text a) (ap (λ (t : Bool). t && is_decimal_text c) e))
 
-  pub not_third : is_decimal_text c ≡ false → asked (a ∷ b ∷ words c) ≡ Refused
+  pub not_third : is_decimal_text c ≡ false → asked (a ∷ b ∷ words c) ≡ None
   not_third e = asked_not (and_false (is_decimal_text a) (and_false (is_decimal_text b) e))
 
   pub asked_three :
@@ -214,30 +216,30 @@ module _ (a b c : List ℕ) where
       asked (a ∷ b ∷ words c) ≡ checked (value_of a) (value_of b) (value_of c)
   asked_three ea eb ec =
       ap (λ (ws : List (List ℕ)). asked (a ∷ b ∷ ws)) (words_none c (digits_whole c (decimal_digits c ec)))
-      ∙ ap (λ (t : Bool). cond t (checked (value_of a) (value_of b) (value_of c)) Refused)
+      ∙ ap (λ (t : Bool). cond t (checked (value_of a) (value_of b) (value_of c)) None)
       (ap (λ (t : Bool). t && (is_decimal_text b && is_decimal_text c)) ea ∙ ap (λ (t : Bool). t && is_decimal_text c) eb ∙ ec)
 
 -- ---- the ranges
 
 module _ (n o m : ℕ) where
-  refuse : in_range n o m ≡ false → checked n o m ≡ Refused
-  refuse e = ap (λ (t : Bool). cond t (Images n o m) Refused) e
+  refuse : in_range n o m ≡ false → checked n o m ≡ None
+  refuse e = ap (λ (t : Bool). cond t (images_at n o m) None) e
 
-  out_planes : most_planes < n → checked n o m ≡ Refused
+  out_planes : most_planes < n → checked n o m ≡ None
   unfolding in_range
   out_planes h =
       refuse
       (and_false (leb 1 n)
       (ap (λ (t : Bool). t && (leb 1 o && (leb o most_order && ltb m (2 ^ n)))) (lt-leb n most_planes h)))
 
-  out_order : most_order < o → checked n o m ≡ Refused
+  out_order : most_order < o → checked n o m ≡ None
   unfolding in_range
   out_order h =
       refuse
       (and_false (leb 1 n)
       (and_false (leb n most_planes) (and_false (leb 1 o) (ap (λ (t : Bool). t && ltb m (2 ^ n)) (lt-leb o most_order h)))))
 
-  out_mask : n ≤ most_planes → 65536 ≤ m → checked n o m ≡ Refused
+  out_mask : n ≤ most_planes → 65536 ≤ m → checked n o m ≡ None
   unfolding in_range
   out_mask g h =
       let p : 2 ^ n ≤ 2 ^ most_planes = pow_mono g in
@@ -273,11 +275,11 @@ module _
       ∙ ap (λ (x : ℕ). checked n x (min (value_of c) cap)) (sym eo)
       ∙ ap (λ (x : ℕ). checked n o x) (sym em)
 
-  pub read_in : in_range n o m ≡ true → Images n o m ≡ asked (a ∷ b ∷ words c)
-  read_in e = sym (read_three ∙ ap (λ (t : Bool). cond t (Images n o m) Refused) e)
+  pub read_in : in_range n o m ≡ true → images_at n o m ≡ asked (a ∷ b ∷ words c)
+  read_in e = sym (read_three ∙ ap (λ (t : Bool). cond t (images_at n o m) None) e)
 
-  pub read_out : in_range n o m ≡ false → Refused ≡ asked (a ∷ b ∷ words c)
-  read_out e = sym (read_three ∙ ap (λ (t : Bool). cond t (Images n o m) Refused) e)
+  pub read_out : in_range n o m ≡ false → None ≡ asked (a ∷ b ∷ words c)
+  read_out e = sym (read_three ∙ ap (λ (t : Bool). cond t (images_at n o m) None) e)
 
 -- ---- the line
 
@@ -306,10 +308,10 @@ module _ (t : List ℕ) where
       by true = omega arith
       by false = omega arith
 
-  pub request_long : most_text < length t → Refused ≡ request_of t
+  pub request_long : most_text < length t → None ≡ request_of t
   unfolding request_of
-  request_long h = sym (ap (λ (x : Bool). cond x (asked (words (take (length_of_line t) t))) Refused) (lt-leb (length t) most_text h))
+  request_long h = sym (ap (λ (x : Bool). cond x (asked (words (take (length_of_line t) t))) None) (lt-leb (length t) most_text h))
 
   pub request_short : length t ≤ most_text → asked (words (take (length_of_line t) t)) ≡ request_of t
   unfolding request_of
-  request_short h = sym (ap (λ (x : Bool). cond x (asked (words (take (length_of_line t) t))) Refused) (le-leb (length t) most_text h))
+  request_short h = sym (ap (λ (x : Bool). cond x (asked (words (take (length_of_line t) t))) None) (le-leb (length t) most_text h))

@@ -16,15 +16,14 @@ use Rattle.sequences.specs.Members.{In}
 use Rattle.sequences.specs.Run.{record_of, listed}
 use Rattle.sequences.proofs.Laws.{length_record}
 use Rattle.sequences.proofs.Numbers.{is_visited}
+use Rattle.std.specs.Prelude.{Option, Some, None}
+use Rattle.listing.specs.declared.Head.{Head}
 use Rattle.listing.specs.Request.{request_of, words, is_decimal_text, all, is_digit_byte, value_of, push, in_range, length_of_line}
 use Rattle.listing.specs.Text.{most_line, digits_of, planes_of, line_of, header_of, lines_from, planes_in, planes_at, lines_of, end_of_chunk, Chunked, Turn, Turns, written}
-use Rattle.listing.specs.Printed.{on_bytes, images_of, images_for, head_for, printed, room, reply_of, records_of, out_of, Answered}
+use Rattle.listing.specs.Printed.{on_bytes, head_at, images_of, images_for, head_for, printed, room, reply_of, records_of, out_of, Answered}
 use Rattle.listing.specs.declared.Request.{Request}
-use Rattle.listing.specs.declared.Request.TheVariants.{Images, Refused}
-use Rattle.listing.specs.declared.Reply.{Reply}
-use Rattle.listing.specs.declared.Reply.TheVariants.{Head, NoRoom}
 use Rattle.listing.specs.declared.Chunk.{Chunk}
-use Rattle.listing.proofs.Answering.{request_few, answer_records}
+use Rattle.listing.proofs.Answering.{of_head, request_few, answer_records}
 use Rattle.listing.proofs.Writing.{chunk_total}
 
 -- ---- a record is read back as its sequence
@@ -86,11 +85,11 @@ images_short n o m q i = ((is_visited (on_bytes n m) o).only q i).few
 images_few : (t : List ℕ) (q : List ℕ) → In q (images_for (request_of t)) → length q ≤ 8
 images_few t q i = by (request_of t) refl i
   where
-    by : (r : Request) → request_of t ≡ r → In q (images_for r) → length q ≤ 8
-    by Refused e i = absurd i
-    by (Images n o m) e i =
-        let k = images_short n o m q i in
-        let l = (request_few t n o m e).1 in
+    by : (r : Option Request) → request_of t ≡ r → In q (images_for r) → length q ≤ 8
+    by None e i = absurd i
+    by (Some a) e i =
+        let k = images_short a.planes a.order a.mask q i in
+        let l = (request_few t a.planes a.order a.mask e).1 in
         omega arith
 
 -- all images' lines, read from the records that `answer` leaves
@@ -111,19 +110,19 @@ whole text records out e =
 
 -- what the code leaves: the first line at the front of the output, then the lines of the records
 pub answer_text :
-    (text records out : List ℕ) (total len : ℕ) (r : Reply) (records' out' : List ℕ) → Answered text records out r records' out' →
-    r ≡ Head total len → take len out' ++ lines_of records' 0 total ≡ printed text
+    (text records out : List ℕ) (total len : ℕ) (r : Option Head) (records' out' : List ℕ) → Answered text records out r records' out' →
+    r ≡ head_at total len → take len out' ++ lines_of records' 0 total ≡ printed text
 unfolding reply_of out_of
 answer_text text records out total len r records' out' a e = by (room records out) refl (sym e ∙ a.answer) a.head
   where
     by :
         (b : Bool) → room records out ≡ b →
-        Head total len ≡ cond b (Head (length (images_for (request_of text))) (length (head_for (request_of text)))) NoRoom →
+        head_at total len ≡ cond b (head_at (length (images_for (request_of text))) (length (head_for (request_of text)))) None →
         out' ≡ cond b (head_for (request_of text) ++ drop (length (head_for (request_of text))) out) out →
         take len out' ++ lines_of records' 0 total ≡ printed text
     by true f p q =
-        let n : total ≡ length (images_for (request_of text)) = cc in
-        let l : len ≡ length (head_for (request_of text)) = cc in
+        let n : total ≡ length (images_for (request_of text)) = ap (of_head (λ h. h.total)) p in
+        let l : len ≡ length (head_for (request_of text)) = ap (of_head (λ h. h.len)) p in
         ap₂ (λ (x y : List ℕ). x ++ y)
         (ap (take len) q ∙ take_at (head_for (request_of text)) (drop (length (head_for (request_of text))) out) len (sym l))
         (ap₂ (λ (x : List ℕ) (y : ℕ). lines_of x 0 y) a.area n)
@@ -183,8 +182,8 @@ turns_all records total from (t ∷ ts) m h =
 
 -- so the first line that `answer` leaves, and the chunks of a loop over `lines` from 0 on, are the whole text
 pub turns_text :
-    (text records out : List ℕ) (total len : ℕ) (r : Reply) (records' out' : List ℕ) (ts : List Turn) →
-    Answered text records out r records' out' → r ≡ Head total len → Turns records' total 0 ts → take len out' ++ written ts ≡ printed text
+    (text records out : List ℕ) (total len : ℕ) (r : Option Head) (records' out' : List ℕ) (ts : List Turn) →
+    Answered text records out r records' out' → r ≡ head_at total len → Turns records' total 0 ts → take len out' ++ written ts ≡ printed text
 turns_text text records out total len r records' out' ts a e h =
     ap (λ (l : List ℕ). take len out' ++ l)
     (turns_all records' total 0 ts (answer_records text records out total len r records' out' a e) h

@@ -8,6 +8,8 @@ use native.Mathlib.Omega.{arith}
 use native.Mathlib.Nat.{add-zero, zero-add}
 use native.Mathlib.Numerals.{add-one}
 use lib.ListN.{length, get_or, take, drop, set, length-append, length-take}
+use Rattle.std.proofs.lemmas.List.{drop-drop}
+use borrow.Rule.Slice.PartMut.{put_mid}
 use lib.Seq.{sets, sets-eq, take-suc, take_all, get_or-drop}
 use lib.Dec.{ltb}
 use borrow.Author.Tests.{lt-ltb, le-ltb}
@@ -46,11 +48,16 @@ wrote_front bs o o' r w h =
 
 -- ---- bytes
 
-pub bytes_all :
-    (bs o o' : List ℕ) (at i : ℕ) → i ≤ length bs → length bs ≤ i → o' ≡ sets o at (take i bs) → Wrote bs o at o' (at + i)
-bytes_all bs o o' at i g h e = record {
-  there = e ∙ ap (sets o at) (take_all i bs h);
-  ends = omega arith;
+pub bytes_put :
+    (bs o ys : List ℕ) (at k : ℕ) → ys ≡ bs → k ≡ length bs → at + length bs ≤ length o → Wrote bs o at (put_mid at k o ys) (at + length bs)
+bytes_put bs o ys at k e n h = record {
+  there =
+      ap (λ (l : List ℕ). put_mid at k o l) e
+      ∙ ap (λ (j : ℕ). put_mid at j o bs) n
+      ∙ ap (λ (l : List ℕ). take at o ++ (bs ++ l)) (drop-drop (length bs) at o)
+      ∙ sym (append_assoc (take at o) bs (drop (at + length bs) o))
+      ∙ sym (sets-eq bs o at h);
+  ends = refl;
 }
 
 -- ---- decimals

@@ -1,10 +1,9 @@
 -- Document 01, "The program `images` reads three decimals ..": which texts are taken, and what they ask for.
 -- A line feed at the end may be there or not; leading zeros may stand; an empty text and all that follows the line are refused.
-use Rattle.std.specs.Prelude.{ℕ, suc, ◌+◌, ◌-◌, ◌*◌, ◌^◌, ◌≤◌, ◌≡◌, ◌⊎◌, Bool, true, cond, ◌&&◌, length, get_or, take, leb, ltb, eqb, List, [], ◌∷◌, ◌++◌}
+use Rattle.std.specs.Prelude.{ℕ, suc, ◌+◌, ◌-◌, ◌*◌, ◌^◌, ◌≤◌, ◌≡◌, ◌⊎◌, Bool, true, cond, ◌&&◌, length, get_or, take, Option, Some, None, leb, ltb, eqb, List, [], ◌∷◌, ◌++◌}
 use mathlib.Core.List.{foldl}
 use Rattle.sequences.specs.Allowed.{most_order}
 use Rattle.listing.specs.declared.Request.{Request}
-use Rattle.listing.specs.declared.Request.TheVariants.{Images, Refused}
 
 -- "planes (1 to 16)"
 abbrev pub most_planes : ℕ
@@ -63,25 +62,29 @@ unfoldable pub in_range : ℕ → ℕ → ℕ → Bool
 in_range planes order mask =
     leb 1 planes && (leb planes most_planes && (leb 1 order && (leb order most_order && ltb mask (2 ^ planes))))
 
+-- a request of three numbers
+abbrev pub images_at : ℕ → ℕ → ℕ → Option Request
+images_at planes order mask = Some (record { planes = planes; order = order; mask = mask })
+
 -- what three numbers ask for
-abbrev pub checked : ℕ → ℕ → ℕ → Request
-checked planes order mask = cond (in_range planes order mask) (Images planes order mask) Refused
+abbrev pub checked : ℕ → ℕ → ℕ → Option Request
+checked planes order mask = cond (in_range planes order mask) (images_at planes order mask) None
 
 -- three words, each a decimal
-abbrev pub asked : List (List ℕ) → Request
-asked [] = Refused
-asked (a ∷ []) = Refused
-asked (a ∷ b ∷ []) = Refused
-asked (a ∷ b ∷ c ∷ []) = cond (is_decimal_text a && (is_decimal_text b && is_decimal_text c)) (checked (value_of a) (value_of b) (value_of c)) Refused
-asked (a ∷ b ∷ c ∷ d ∷ l) = Refused
+abbrev pub asked : List (List ℕ) → Option Request
+asked [] = None
+asked (a ∷ []) = None
+asked (a ∷ b ∷ []) = None
+asked (a ∷ b ∷ c ∷ []) = cond (is_decimal_text a && (is_decimal_text b && is_decimal_text c)) (checked (value_of a) (value_of b) (value_of c)) None
+asked (a ∷ b ∷ c ∷ d ∷ l) = None
 
 -- the length without a line feed at the end
 unfoldable pub length_of_line : List ℕ → ℕ
 length_of_line text = cond (eqb (get_or text (length text - 1) 0) 10) (length text - 1) (length text)
 
 -- what a text asks for: "on one line with one space between them"
-unfoldable pub request_of : List ℕ → Request
-request_of text = cond (leb (length text) most_text) (asked (words (take (length_of_line text) text))) Refused
+unfoldable pub request_of : List ℕ → Option Request
+request_of text = cond (leb (length text) most_text) (asked (words (take (length_of_line text) text))) None
 
 -- the same said of the text as a whole, which `proofs/Accepted.antt` proves to be what `request_of` takes: "three decimals .. on one line with
 -- one space between them", and a line feed or nothing behind them

@@ -1,7 +1,8 @@
 // The text of the program `images`: what it reads, and what it prints, piece by piece.
 #![tactic(auto)]
 
-ghost use Rattle.std.specs.Prelude.{◌≡◌, true, [], ◌∷◌, ◌+◌, ◌*◌, ◌^◌, ◌≤◌, ◌<◌, min, length};
+ghost use Rattle.std.specs.Prelude.{◌≡◌, true, [], ◌∷◌, ◌+◌, ◌*◌, ◌^◌, ◌≤◌, ◌<◌, ◌==◌, min, length, position};
+ghost use Rattle.std.specs.List.{list_all};
 ghost use Rattle.sequences.specs.Allowed.{most, most_order};
 ghost use Rattle.sequences.specs.Run.{per_record};
 ghost use Rattle.listing.specs.Request as request;
@@ -29,16 +30,17 @@ const HEADER: usize = 28;
 const LINE: usize = 190;
 
 #[derive(Clone, Copy)]
-pub enum Request {
-    Images(usize, usize, usize),
-    Refused,
+pub struct Request {
+    pub planes: usize,
+    pub order: usize,
+    pub mask: usize,
 }
 
-// `Head(total, len)`: the text begins with the first `len` bytes of the output, and the lines of `total` images follow.
+// The text begins with the first `len` bytes of the output, and the lines of `total` images follow.
 #[derive(Clone, Copy)]
-pub enum Reply {
-    Head(usize, usize),
-    NoRoom,
+pub struct Head {
+    pub total: usize,
+    pub len: usize,
 }
 
 // The lines up to that of image number `next` are the first `len` bytes of the output.
@@ -50,144 +52,114 @@ pub struct Chunk {
 
 // ---- the request
 
-fn least(a: usize, b: usize) -> usize
-    ensures { result ≡ min a b }
+// The place of the first byte `b`.
+pub fn find(s: &[u8], b: u8) -> Option<usize>
+    ensures { result ≡ position (λ x. x == b) s.now }
 {
-    if a < b { a } else { b }
+    s.iter().position(|x| *x == b)
 }
 
+#[tactic(auto, unfolding(crate::specs::Request::is_digit_byte))]
 fn is_digit(b: u8) -> bool
     ensures { result ≡ request.is_digit_byte b }
 {
-    b >= b'0' && b <= b'9'
+    b.is_ascii_digit()
+}
+
+fn all_digits(word: &[u8]) -> bool
+    ensures { result ≡ list_all request.is_digit_byte word.now }
+{
+    word.iter().all(|b| is_digit(*b))
 }
 
 pub fn is_decimal(word: &[u8]) -> bool
     ensures { result ≡ request.is_decimal_text word.now }
 {
-    if word.len() == 0 {
-        return false;
-    }
-    for i in 0..word.len() {
-        if is_digit(word[i]) {} else {
-            return false;
-        }
-    }
-    true
+    word.len() != 0 && all_digits(word)
 }
 
 // n with the digit d behind it.
+#[tactic(auto, unfolding(crate::specs::Request::is_digit_byte))]
 fn push(n: usize, d: u8) -> usize
     requires { (n ≤ request.cap) × (request.is_digit_byte d ≡ true) }
     ensures { result ≡ min (request.push n d) request.cap }
 {
-    least(n * 10 + (d - b'0') as usize, CAP)
+    (n * 10 + (d - b'0') as usize).min(CAP)
 }
 
+#[tactic(auto, unfolding(crate::specs::Request::value_of))]
 fn value(word: &[u8]) -> usize
     requires { request.is_decimal_text word.now ≡ true }
     ensures { result ≡ min (request.value_of word.now) request.cap }
 {
     let mut n = 0;
-    for i in 0..word.len() {
-        n = push(n, word[i]);
+    for d in word {
+        n = push(n, *d);
     }
     n
 }
 
-// The place of the first space, or the end.
-fn space(text: &[u8]) -> usize
-    ensures { result ≡ request.space_at text.now }
-{
-    let mut i = 0;
-    while i < text.len() {
-        if text[i] == b' ' {
-            return i;
-        }
-        i += 1;
-    }
-    i
-}
-
-fn power(planes: usize) -> usize
-    requires { planes ≤ request.most_planes }
-    ensures { result ≡ 2 ^ planes }
-{
-    1 << planes
-}
-
+#[tactic(auto, unfolding(crate::specs::Request::in_range))]
 fn in_range(planes: usize, order: usize, mask: usize) -> bool
     ensures { result ≡ request.in_range planes order mask }
 {
-    planes >= 1
-        && (planes <= PLANES && (order >= 1 && (order <= MAX_IMAGE_ORDER && mask < power(planes))))
+    planes >= 1 && planes <= PLANES && order >= 1 && order <= MAX_IMAGE_ORDER && mask < 1 << planes
 }
 
 // Three words, of which the third may hold further spaces.
-fn read_words(first: &[u8], second: &[u8], third: &[u8]) -> Request
+fn read_words(first: &[u8], second: &[u8], third: &[u8]) -> Option<Request>
     ensures { result ≡ request.asked (first.now ∷ second.now ∷ request.words third.now) }
 {
-    if is_decimal(first) {} else {
-        return Request::Refused;
-    }
-    if is_decimal(second) {} else {
-        return Request::Refused;
-    }
-    if is_decimal(third) {} else {
-        return Request::Refused;
+    if !is_decimal(first) || !is_decimal(second) || !is_decimal(third) {
+        return None;
     }
     let planes = value(first);
     let order = value(second);
     let mask = value(third);
     if in_range(planes, order, mask) {
-        return Request::Images(planes, order, mask);
+        return Some(Request {
+            planes,
+            order,
+            mask,
+        });
     }
-    Request::Refused
+    None
 }
 
 // A first word, and what stands behind the space after it.
-fn read_rest(first: &[u8], rest: &[u8]) -> Request
+fn read_rest(first: &[u8], rest: &[u8]) -> Option<Request>
     ensures { result ≡ request.asked (first.now ∷ request.words rest.now) }
 {
-    let p = space(rest);
-    if p < rest.len() {
-        let from = p + 1;
-        return read_words(first, &rest[..p], &rest[from..]);
-    }
-    Request::Refused
+    let p = find(rest, b' ')?;
+    read_words(first, &rest[..p], &rest[p + 1..])
 }
 
-fn read_line(line: &[u8]) -> Request
+fn read_line(line: &[u8]) -> Option<Request>
     ensures { result ≡ request.asked (request.words line.now) }
 {
-    let p = space(line);
-    if p < line.len() {
-        let from = p + 1;
-        return read_rest(&line[..p], &line[from..]);
-    }
-    Request::Refused
+    let p = find(line, b' ')?;
+    read_rest(&line[..p], &line[p + 1..])
 }
 
 // The length of the text without a line feed at its end.
+#[tactic(auto, unfolding(crate::specs::Request::length_of_line))]
 fn line_end(text: &[u8]) -> usize
     ensures { result ≡ request.length_of_line text.now }
 {
     let n = text.len();
-    if n == 0 {
-        return 0;
+    if n != 0 && text[n - 1] == b'\n' {
+        n - 1
+    } else {
+        n
     }
-    if text[n - 1] == b'\n' {
-        return n - 1;
-    }
-    n
 }
 
 // Three decimals on one line with one space between them; every other text is refused.
-fn read_request(text: &[u8]) -> Request
+fn read_request(text: &[u8]) -> Option<Request>
     ensures { result ≡ request.request_of text.now }
 {
     if text.len() > TEXT {
-        return Request::Refused;
+        return None;
     }
     let end = line_end(text);
     read_line(&text[..end])
@@ -208,12 +180,9 @@ fn put_bytes(bytes: &[u8], out: &mut [u8], at: usize) -> usize
     requires { at + length bytes.now ≤ length out.old }
     ensures { text.Wrote bytes.now out.old at out.new result }
 {
-    let mut i = 0;
-    while i < bytes.len() {
-        out[at + i] = bytes[i];
-        i += 1;
-    }
-    at + i
+    let end = at + bytes.len();
+    out[at..end].copy_from_slice(bytes);
+    end
 }
 
 // n in decimal, of at most `most` digits.
@@ -238,9 +207,9 @@ fn put_planes(planes: &[u8], out: &mut [u8], at: usize) -> usize
     ensures { text.Wrote (text.planes_of planes.now) out.old at out.new result }
 {
     let mut p = at;
-    for i in 0..planes.len() {
+    for plane in planes {
         p = put(b' ', out, p);
-        p = put_digits(planes[i] as usize, DIGITS, out, p);
+        p = put_digits(*plane as usize, DIGITS, out, p);
     }
     p
 }
@@ -261,7 +230,7 @@ fn put_image(records: &[u8], k: usize, out: &mut [u8], at: usize) -> usize
     ensures { text.Wrote (text.line_of (k + 1) (text.planes_at records.now k)) out.old at out.new result }
 {
     let from = k * RECORD;
-    let to = from + least(records[from + MAX_IMAGE_ORDER] as usize, MAX_IMAGE_ORDER);
+    let to = from + (records[from + MAX_IMAGE_ORDER] as usize).min(MAX_IMAGE_ORDER);
     put_line(k + 1, &records[from..to], out, at)
 }
 
@@ -274,14 +243,14 @@ fn put_header(total: usize, out: &mut [u8]) -> usize
     put(b'\n', out, b)
 }
 
+#[tactic(auto, unfolding(crate::specs::Text::end_of_chunk))]
 fn chunk_end(total: usize, from: usize, records: usize, out: usize) -> usize
     ensures { result ≡ text.end_of_chunk total from records out }
 {
-    let whole = least(total, records / RECORD);
-    if whole <= from {
-        return from;
-    }
-    from + least(whole - from, out / LINE)
+    from + total
+        .min(records / RECORD)
+        .saturating_sub(from)
+        .min(out / LINE)
 }
 
 // The lines of the images from record `from` on, as many as surely have room.
@@ -289,16 +258,11 @@ pub fn lines(records: &[u8], total: usize, from: usize, out: &mut [u8]) -> Chunk
     ensures { text.Chunked records.now total from out.old result out.new }
 {
     let end = chunk_end(total, from, records.len(), out.len());
-    let mut next = from;
     let mut len = 0;
-    while next < end {
-        len = put_image(records, next, out, len);
-        next += 1;
+    for k in from..end {
+        len = put_image(records, k, out, len);
     }
-    Chunk {
-        next: next,
-        len: len,
-    }
+    Chunk { next: end, len }
 }
 
 // ---- the answer
@@ -308,9 +272,9 @@ fn put_on(mask: usize, on: &mut [u8])
     ensures { on.new ≡ printed.on_bytes (length on.old) mask }
 {
     let mut m = mask;
-    for p in 0..on.len() {
-        on[p] = (m % 2) as u8;
-        m = m / 2;
+    for bit in on.iter_mut() {
+        *bit = (m % 2) as u8;
+        m /= 2;
     }
 }
 
@@ -320,7 +284,7 @@ fn list_images(
     mask: usize,
     records: &mut [u8],
     out: &mut [u8],
-) -> Reply
+) -> Option<Head>
     requires { (planes ≤ request.most_planes) × (order ≤ most_order) × (most * per_record ≤ length records.old) × (text.most_header ≤ length out.old) }
     ensures { printed.Listed planes order mask records.old out.old result records.new out.new }
 {
@@ -328,25 +292,27 @@ fn list_images(
     put_on(mask, &mut on);
     let found = enumerate(&on[..planes], order, records);
     match found {
-        Some(total) => Reply::Head(total, put_header(total, out)),
-        None => Reply::NoRoom,
+        Some(total) => Some(Head {
+            total,
+            len: put_header(total, out),
+        }),
+        None => None,
     }
 }
 
 // The answer to a text: the records of its images go to `records`, and the first line of what is printed to the front of `out`. Where one of
 // the two is too short nothing is written.
-pub fn answer(text: &[u8], records: &mut [u8], out: &mut [u8]) -> Reply
+pub fn answer(text: &[u8], records: &mut [u8], out: &mut [u8]) -> Option<Head>
     ensures { printed.Answered text.now records.old out.old result records.new out.new }
 {
-    if records.len() < RECORDS {
-        return Reply::NoRoom;
+    if records.len() < RECORDS || out.len() < HEADER {
+        return None;
     }
-    if out.len() < HEADER {
-        return Reply::NoRoom;
-    }
-    let request = read_request(text);
-    match request {
-        Request::Images(planes, order, mask) => list_images(planes, order, mask, records, out),
-        Request::Refused => Reply::Head(0, put_bytes(b"refused\n", out, 0)),
+    match read_request(text) {
+        Some(r) => list_images(r.planes, r.order, r.mask, records, out),
+        None => Some(Head {
+            total: 0,
+            len: put_bytes(b"refused\n", out, 0),
+        }),
     }
 }

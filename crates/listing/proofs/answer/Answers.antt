@@ -3,37 +3,33 @@ use native.Mathlib.Omega.{arith}
 use mathlib.Core.Path.{sym, ◌∙◌}
 use Rattle.listing.proofs.Answering.{none_records, none_out, answered_images, answered_refused, request_few}
 use Rattle.listing.proofs.answer.Goals as goal
+use Rattle.listing.proofs.answer.Goals.{then-records-lt-RECORDS-via-then-records-lt-RECORDS, then-records-lt-RECORDS-via-else-records-lt-RECORDS+then-out-lt-HEADER}
 
 pub returns-then-records-lt-RECORDS : goal.returns-then-records-lt-RECORDS
-returns-then-records-lt-RECORDS c = let a = c.args in none_records a.text.now a.records.now a.out.now c.if-records-lt-RECORDS.true
-
-pub returns-then-out-lt-HEADER : goal.returns-then-out-lt-HEADER
-returns-then-out-lt-HEADER c = let a = c.args in none_out a.text.now a.records.now a.out.now c.if-out-lt-HEADER.true
+returns-then-records-lt-RECORDS c =
+    let a = c.args in
+    elim c.then-records-lt-RECORDS.branch [
+      | then-records-lt-RECORDS-via-then-records-lt-RECORDS w ↦ none_records a.text.now a.records.now a.out.now w.if-records-lt-RECORDS.true
+      | then-records-lt-RECORDS-via-else-records-lt-RECORDS+then-out-lt-HEADER w ↦ none_out a.text.now a.records.now a.out.now w.if-out-lt-HEADER.true
+    ]
 
 pub list_images-requires : goal.list_images-requires
 list_images-requires c =
     let a = c.args in
-    let r = request_few a.text.now c.in-Images.planes c.in-Images.order c.in-Images.mask (sym c.read_request-request.ensures ∙ c.in-Images.is) in
+    let q = c.in-Some.r in
+    let r = request_few a.text.now q.planes q.order q.mask (sym c.read_request.ensures ∙ c.in-Some.is) in
     (r.0, r.1, omega arith, omega arith)
 
-pub shape_of-records : goal.shape_of-records
-shape_of-records c = let k = c.list_images.auto in omega arith
-
-pub shape_of-out-in-Images : goal.shape_of-out-in-Images
-shape_of-out-in-Images c = let k = c.list_images.auto in omega arith
-
-pub returns-in-Images : goal.returns-in-Images
-returns-in-Images c =
+pub returns-in-Some : goal.returns-in-Some
+returns-in-Some c =
     let a = c.args in
-    answered_images a.text.now a.records.now a.out.now c.if-records-lt-RECORDS.false c.if-out-lt-HEADER.false c.in-Images.planes c.in-Images.order c.in-Images.mask
+    let q = c.in-Some.r in
+    answered_images a.text.now a.records.now a.out.now c.if-records-lt-RECORDS.false c.if-out-lt-HEADER.false q.planes q.order q.mask
     c.list_images.result c.list_images.new.records c.list_images.new.out
-    (sym c.read_request-request.ensures ∙ c.in-Images.is) c.list_images.ensures
+    (sym c.read_request.ensures ∙ c.in-Some.is) c.list_images.ensures
 
-pub shape_of-out-in-Refused : goal.shape_of-out-in-Refused
-shape_of-out-in-Refused c = let k = c.put_bytes.auto in omega arith
-
-pub returns-in-Refused : goal.returns-in-Refused
-returns-in-Refused c =
+pub returns-in-None : goal.returns-in-None
+returns-in-None c =
     let a = c.args in
     answered_refused a.text.now a.records.now a.out.now c.if-records-lt-RECORDS.false c.if-out-lt-HEADER.false c.put_bytes.result c.put_bytes.new.out
-    (sym c.read_request-request.ensures ∙ c.in-Refused.is) c.put_bytes.ensures
+    (sym c.read_request.ensures ∙ c.in-None.is) c.put_bytes.ensures

@@ -5,9 +5,6 @@ use lib.ListN.{length}
 use Rattle.listing.specs.Text.{Wrote, lines_of, most_line}
 use Rattle.listing.proofs.lines.Given as goal
 
-abbrev pub invariant-loop-next : goal.invariant-loop-next
-invariant-loop-next l =
-    (l.from ≤ l.next) × (l.next ≤ l.end) × (length l.out ≡ length l.initial.out) × (l.len ≤ (l.next - l.from) * most_line) × Wrote (lines_of l.records l.from (l.next - l.from)) l.initial.out 0 l.out l.len
-
-abbrev pub decreases-loop-next : goal.decreases-loop-next
-decreases-loop-next l = l.end - l.next
+abbrev pub invariant-loop-k : goal.invariant-loop-k
+invariant-loop-k l =
+    (l.from ≤ l.k) × (l.k ≤ l.end) × (length l.out ≡ length l.initial.out) × (l.len ≤ (l.k - l.from) * most_line) × Wrote (lines_of l.records l.from (l.k - l.from)) l.initial.out 0 l.out l.len

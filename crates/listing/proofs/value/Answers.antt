@@ -1,26 +1,10 @@
--- `listing::value` meets its contract. The loop's invariant: n is the value of the digits passed, up to the cap.
-use mathlib.Core.Path.{refl}
-use native.Mathlib.Omega.{arith}
-use Rattle.listing.specs.Request.{value_of}
-use Rattle.listing.proofs.Reading.{decimal_at, value_more, value_all}
+-- `listing::value` meets its contract: each byte of a decimal is a digit.
+use Rattle.std.proofs.Common.{arith}
+use Rattle.listing.proofs.Reading.{decimal_at, value_more}
 use Rattle.listing.proofs.value.Goals as goal
 
-pub loop-i-init : goal.loop-i-init
-unfolding value_of
-loop-i-init c = (omega arith, refl)
-
 pub push-n-requires : goal.push-n-requires
-push-n-requires c =
-    let at-args = c.args in
-    let at_pre = c.requires in
-    (omega arith, decimal_at at-args.word.now (at_pre) c.loop-i.i c.loop-i-test.true)
+push-n-requires c = (omega arith, decimal_at c.args.word.now c.requires c.loop-d.d-index c.loop-d-test.true)
 
-pub loop-i-preserved : goal.loop-i-preserved
-loop-i-preserved c =
-    let at-args = c.args in
-    (omega arith, value_more at-args.word.now c.loop-i.n c.loop-i.i c.push-n.result c.loop-i-test.true c.loop-i.invariant.1 c.push-n.ensures)
-
-pub returns : goal.returns
-returns c =
-    let at-args = c.args in
-    value_all at-args.word.now c.loop-i.n c.loop-i.i c.loop-i-test.false c.loop-i.invariant.1
+pub loop-d-preserved : goal.loop-d-preserved
+loop-d-preserved c = value_more c.args.word.now c.loop-d.n c.loop-d.d-index c.push-n.result c.loop-d-test.true c.loop-d.invariant c.push-n.ensures

@@ -1,8 +1,0 @@
--- `casefile::read_rows` meets its contract: the area keeps its length, and each turn brings the count nearer.
-use Prim.Native.Nat.{◌-◌}
-use mathlib.Core.Path.{◌≡◌}
-use lib.ListN.{length}
-use Rattle.casefile.proofs.read_rows.Given as goal
-
-abbrev pub invariant-loop-j : goal.invariant-loop-j
-invariant-loop-j l = length l.materials ≡ length l.initial.materials
