@@ -1,5 +1,5 @@
 -- `casefile::no_air` is safe and ends, and the area keeps its length.
-use Prim.Native.Nat.{◌-◌, ◌≤◌}
+use Prim.Native.Nat.{◌≤◌}
 use mathlib.Core.Path.{◌≡◌}
 use lib.ListN.{length}
 use Rattle.casefile.proofs.no_air.Given as goal

@@ -1,5 +1,4 @@
 -- `casefile::read_floats` meets its contract: the area keeps its length, and each turn brings the count nearer.
-use Prim.Native.Nat.{◌-◌}
 use mathlib.Core.Path.{◌≡◌}
 use lib.ListN.{length}
 use Rattle.casefile.proofs.read_floats.Given as goal

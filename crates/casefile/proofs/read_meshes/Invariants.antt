@@ -1,5 +1,4 @@
 -- `casefile::read_meshes` meets its contract: the areas keep their lengths, and each turn brings the count nearer.
-use Prim.Native.Nat.{◌-◌}
 use mathlib.Core.Path.{◌≡◌}
 use lib.ListN.{length}
 use Rattle.casefile.proofs.read_meshes.Given as goal

@@ -1,5 +1,4 @@
 -- `columns::clear_f32` meets its contract: a loop from the front, by the laws of proofs/Clearing.antt.
-use Prim.Native.Nat.{◌-◌}
 use lib.ListN.{length}
 use Rattle.float.specs.Literals.{zero32}
 use Rattle.columns.proofs.Clearing.{Clearing}

@@ -1,6 +1,5 @@
 -- `listing::is_decimal` meets its contract. The loop's invariant: the bytes from i on are all digits exactly where the whole word is.
 use mathlib.Core.Path.{◌≡◌}
-use Prim.Native.Nat.{◌-◌}
 use lib.ListN.{length, drop}
 use Rattle.listing.specs.Request.{all, is_digit_byte}
 use Rattle.listing.proofs.is_decimal.Given as goal

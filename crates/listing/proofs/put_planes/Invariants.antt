@@ -1,5 +1,5 @@
 -- `listing::put_planes` meets its contract. The loop's invariant: the planes passed are written, each in at most 21 bytes.
-use Prim.Native.Nat.{◌+◌, ◌-◌, ◌*◌, ◌≤◌}
+use Prim.Native.Nat.{◌+◌, ◌*◌, ◌≤◌}
 use mathlib.Core.Path.{◌≡◌}
 use lib.ListN.{length, take}
 use Rattle.listing.specs.Text.{Wrote, planes_of, most_digits}

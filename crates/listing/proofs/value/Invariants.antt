@@ -1,6 +1,6 @@
 -- `listing::value` meets its contract. The loop's invariant: n is the value of the digits passed, up to the cap.
 use mathlib.Core.Path.{◌≡◌}
-use Prim.Native.Nat.{◌-◌, ◌≤◌, min}
+use Prim.Native.Nat.{◌≤◌, min}
 use lib.ListN.{length, take}
 use Rattle.listing.specs.Request.{value_of, cap}
 use Rattle.listing.proofs.value.Given as goal

@@ -1,5 +1,5 @@
 -- `packet::all_floats_valid` meets its contract: the test of the taps from each turn on is the test of all of them.
-use Prim.Native.Nat.{◌≤◌, ◌-◌}
+use Prim.Native.Nat.{◌≤◌}
 use mathlib.Core.Path.{◌≡◌}
 use Rattle.packet.specs.Tap.{taps_of}
 use Rattle.packet.specs.Refusals.{all, valid_floats}

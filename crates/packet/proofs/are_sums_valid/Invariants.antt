@@ -1,5 +1,5 @@
 -- `packet::are_sums_valid` meets its contract: the sums from each turn on are valid after the last one seen where all are; the first follows infinity.
-use Prim.Native.Nat.{◌≤◌, ◌-◌}
+use Prim.Native.Nat.{◌≤◌}
 use mathlib.Core.Path.{◌≡◌}
 use mathlib.Core.Bool.{true}
 use mathlib.Core.List.{map}

@@ -1,5 +1,5 @@
 -- `packet::are_valid_gains` meets its contract: the test of the gains from each turn on, by what is left of the bit map, is the test of all of them.
-use Prim.Native.Nat.{◌≤◌, ◌-◌}
+use Prim.Native.Nat.{◌≤◌}
 use mathlib.Core.Path.{◌≡◌}
 use Rattle.packet.specs.Refusals.{valid_gains}
 use Rattle.packet.proofs.Areas.{window}

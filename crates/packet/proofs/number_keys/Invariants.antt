@@ -1,5 +1,5 @@
 -- `packet::number_keys` meets its contract: what is left to store gives the same list from each turn on.
-use Prim.Native.Nat.{◌≤◌, ◌-◌}
+use Prim.Native.Nat.{◌≤◌}
 use mathlib.Core.Path.{◌≡◌}
 use mathlib.Core.List.{map}
 use lib.ListN.{length}

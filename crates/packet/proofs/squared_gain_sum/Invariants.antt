@@ -1,5 +1,5 @@
 -- `packet::squared_gain_sum` meets its contract: the sum so far and the gains left give the sum of all.
-use Prim.Native.Nat.{◌≤◌, ◌-◌}
+use Prim.Native.Nat.{◌≤◌}
 use mathlib.Core.Path.{◌≡◌}
 use mathlib.Core.Bool.{true}
 use mathlib.Core.List.{foldl}

@@ -1,5 +1,5 @@
 -- `planes_borders::edge_keys` meets its contract: the loop holds the keys of the sides of the triangles before t (`Keyed`).
-use Prim.Native.Nat.{◌-◌, ◌≤◌}
+use Prim.Native.Nat.{◌≤◌}
 use Rattle.planes_borders.proofs.Keying.{Keyed}
 use Rattle.planes_borders.proofs.edge_keys.Given as goal
 

@@ -1,5 +1,5 @@
 -- `planes_buried::close_rows` meets its contract: the loop holds it for the patches before p (`Closing`).
-use Prim.Native.Nat.{◌-◌, ◌≤◌}
+use Prim.Native.Nat.{◌≤◌}
 use Rattle.planes_buried.proofs.Closing.{Closing}
 use Rattle.planes_buried.proofs.close_rows.Given as goal
 

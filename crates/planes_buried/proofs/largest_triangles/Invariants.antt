@@ -1,5 +1,4 @@
 -- `planes_buried::largest_triangles` meets its contract: the loop holds it for the triangles before t (`Meeting`).
-use Prim.Native.Nat.{◌-◌}
 use Rattle.planes_patches.specs.Triangles.{triangles_in}
 use Rattle.planes_buried.proofs.Best.{Meeting}
 use Rattle.planes_buried.proofs.largest_triangles.Given as goal

@@ -1,6 +1,6 @@
 -- `planes_buried::mark_open` meets its contract: the loop holds it for the patches before p.
 use mathlib.Core.Path.{◌≡◌}
-use Prim.Native.Nat.{◌-◌, ◌<◌, ◌≤◌, ℕ}
+use Prim.Native.Nat.{◌<◌, ◌≤◌, ℕ}
 use lib.ListN.{get_or, length}
 use Rattle.columns.specs.Columns.{triangle_at_of}
 use Rattle.planes_buried.proofs.Opening.{Tells}

@@ -1,5 +1,5 @@
 -- `planes_buried::renumber` meets its contract: the loop holds it for the triangles before i.
-use Prim.Native.Nat.{◌-◌, ◌≤◌}
+use Prim.Native.Nat.{◌≤◌}
 use Rattle.planes_buried.proofs.Closing.{Renumbering}
 use Rattle.planes_buried.proofs.renumber.Given as goal
 

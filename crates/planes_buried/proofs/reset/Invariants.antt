@@ -1,6 +1,6 @@
 -- `planes_buried::reset` meets its contract: the loop holds it for the patches before p.
 use mathlib.Core.Path.{◌≡◌}
-use Prim.Native.Nat.{◌-◌, ◌<◌, ◌≤◌, ℕ}
+use Prim.Native.Nat.{◌<◌, ◌≤◌, ℕ}
 use lib.ListN.{length}
 use lib.Ieee.{neg}
 use Rattle.float.specs.Literals.{one32}

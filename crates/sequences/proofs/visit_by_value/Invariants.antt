@@ -1,5 +1,5 @@
 -- `sequences::visit_by_value` meets its contract. The loop's invariant: the first k bytes of the record are stored at their place.
-use Prim.Native.Nat.{◌-◌, ◌*◌, ◌≤◌}
+use Prim.Native.Nat.{◌*◌, ◌≤◌}
 use mathlib.Core.Path.{◌≡◌}
 use lib.ListN.{length, take}
 use lib.Seq.{sets}
