@@ -11,14 +11,8 @@ place_all-st-requires c = record {
   n_in_bounds_2 = c.requires.n_in_bounds_2;
 }
 
-pub clear_f32-requires : goal.clear_f32-requires
-clear_f32-requires c = tt
-
-pub clear_u32-requires : goal.clear_u32-requires
-clear_u32-requires c = tt
-
 pub returns-then-st : goal.returns-then-st
-returns-then-st c = passed_far _ _ _ _ _ _ _ c.place_all-st.ensures.result_after _ _ c.if-st.true (omega arith) (omega arith) c.clear_f32.ensures c.clear_u32.ensures
+returns-then-st c = passed_far _ _ _ _ _ _ _ c.place_all-st.ensures.result_after _ _ c.if-st.true (omega arith) (omega arith) (c.fill.ensures.after (λ y e. e)) (c.fill-then-st.ensures.after (λ y e. e))
 
 pub returns : goal.returns
 returns c = let pre = c.requires in
