@@ -1,4 +1,3 @@
 -- The laws on columns and on clearing that the proofs of `columns`, and of the crates above it, cite.
-pub mod Clearing
 pub mod Storing
 pub mod Readback

@@ -1,9 +1,8 @@
-// Triangles in columns, and the clearing of areas. The columns of an area are n floats each, n the scene's whole triples: the nine
+// Triangles in columns. The columns of an area are n floats each, n the scene's whole triples: the nine
 // coordinates, the normal, and what the tests of a ray and of a point need of the triangle alone. Triangle i stands at i in each.
 #![tactic(auto)]
 
-ghost use Rattle.std.specs.Prelude.{◌≡◌, ◌+◌, ◌*◌, ◌^◌, ◌<◌, ◌≤◌, length, replicate};
-ghost use Rattle.float.specs.Literals.{zero32};
+ghost use Rattle.std.specs.Prelude.{◌≡◌, ◌+◌, ◌*◌, ◌^◌, ◌<◌, ◌≤◌, length};
 ghost use Rattle.columns.specs.Columns.{column_count, vec_at_of, triangle_at_of, edges_at_of, dots_at_of, vec_row_of, dots_row_of, put_columns, put_triangle_of};
 
 use geometry::{Dots, Edges, Triangle};
@@ -115,22 +114,4 @@ pub fn put_triangle(triangles: &mut [f32], n: usize, i: usize, t: Triangle)
     put_dots(triangles, n, i + 19 * n, geometry::dots_of(sides));
     let e = geometry::edges_of(t.a, t.b, t.c);
     triangles[i + 18 * n] = e.least_det;
-}
-
-// ---- clearing
-
-pub fn clear_f32(area: &mut [f32])
-    ensures { area.new ≡ replicate (length area.old) zero32 }
-{
-    for i in 0..area.len() {
-        area[i] = 0.0;
-    }
-}
-
-pub fn clear_u32(area: &mut [u32])
-    ensures { area.new ≡ replicate (length area.old) 0 }
-{
-    for i in 0..area.len() {
-        area[i] = 0;
-    }
 }

@@ -39,7 +39,7 @@ pub drop_later : (p q : ℕ) (s t : List ℕ) → p ≤ q → drop p s ≡ drop 
 drop_later p q s t h e = sym (Post-is p q s h) ∙ ap (drop (q - p)) e ∙ Post-is p q t h
 
 -- a store at the end of what is done
-pub emit : (d : List ℕ) (p x : ℕ) (r rest whole : List ℕ) → p < length d → take p d ++ r ≡ whole → r ≡ x ∷ rest → take (p + 1) (set d p x) ++ rest ≡ whole
-emit d p x r rest whole h e s =
-    ap (λ (l : List ℕ). l ++ rest) (ap (λ (n : ℕ). take n (set d p x)) (add-one p) ∙ take-suc-set d p x h)
-    ∙ append_snoc (take p d) x rest ∙ ap (λ (l : List ℕ). take p d ++ l) (sym s) ∙ e
+pub emit : {A : Type 0} (d : List A) (p : ℕ) (x : A) (r rest whole : List A) → p < length d → take p d ++ r ≡ whole → r ≡ x ∷ rest → take (p + 1) (set d p x) ++ rest ≡ whole
+emit {A} d p x r rest whole h e s =
+    ap (λ (l : List A). l ++ rest) (ap (λ (n : ℕ). take n (set d p x)) (add-one p) ∙ take-suc-set d p x h)
+    ∙ append_snoc (take p d) x rest ∙ ap (λ (l : List A). take p d ++ l) (sym s) ∙ e

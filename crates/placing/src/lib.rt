@@ -274,8 +274,8 @@ pub fn triangles_from_scene(
         meshes, transforms, positions, indices, n, triangles, handles,
     );
     if st.far {
-        columns::clear_f32(triangles);
-        columns::clear_u32(handles);
+        triangles.fill(0.0);
+        handles.fill(0);
         return Placed::Far(st.placings);
     }
     Placed::Kept(st.kept, st.placings)

@@ -88,7 +88,7 @@ fn count_uses(first: &[u32], uses: &mut [u32])
     requires below { Below (length first.now) first.now }
     ensures { (k : ℕ) → k < length first.now → get_or uses.new k 0 ≡ count_in first.now k (length first.now) }
 {
-    columns::clear_u32(uses);
+    uses.fill(0);
     for e in 0..first.len() {
         let k = first[e] as usize;
         uses[k] = uses[k] + 1;

@@ -259,7 +259,7 @@ fn name_groups(queue: &[u32], offsets: &[u32], np: usize, ng: usize, group_of: &
     ensures by_index { (p g : ℕ) → g < ng → eqb (get_or group_of.new p 0) (suc g) ≡ has p (group_in queue.now offsets.now g) }
     ensures by_index_2 { (p : ℕ) → get_or group_of.new p 0 ≤ ng }
 {
-    columns::clear_u32(group_of);
+    group_of.fill(0);
     let mut g = 0;
     while g < ng {
         let from = offsets[g] as usize;

@@ -549,7 +549,7 @@ fn merge(
         asorted,
         astarts,
     );
-    columns::clear_u32(assigned);
+    assigned.fill(0);
     grow_groups(
         triangles, handles, n, rows, np, tsorted, tstarts, least, most, asorted, astarts, order,
         assigned, queue, offsets,

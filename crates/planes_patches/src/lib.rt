@@ -482,7 +482,7 @@ pub fn coplanar_patches(
     ensures by_index_2 { (i : ℕ) → i < m → eqb (get_or first.now i 0) i ≡ false → get_or of.new i none_of ≡ none_of }
     ensures rest { Open cells.old cells.new × Open heads.old heads.new × Open next.old next.new }
 {
-    columns::clear_u32(heads);
+    heads.fill(0);
     let mut np = 0;
     for t in 0..m {
         np = turn(

@@ -13,7 +13,7 @@ pub fn clear_from(handles: &mut [u32], m: usize)
     requires { m ≤ length handles.old }
     ensures { handles.new ≡ cleared_from m handles.old }
 {
-    columns::clear_u32(&mut handles[m..]);
+    handles[m..].fill(0);
 }
 
 // The tree of the first m triangles of columns of n triples, with handles that `clear_from` made ready. The answer is the count of nodes.

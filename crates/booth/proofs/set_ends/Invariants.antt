@@ -1,5 +1,4 @@
 -- `booth::set_ends` meets its contract: each turn is one mesh more.
-use Prim.Native.Nat.{◌-◌}
 use mathlib.Core.Path.{◌≡◌}
 use lib.ListN.{length}
 use Rattle.booth.proofs.set_ends.Given as goal

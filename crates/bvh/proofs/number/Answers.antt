@@ -1,5 +1,6 @@
 -- `bvh::number` meets its contract: the positions so far hold their own number.
 use mathlib.Core.Path.{refl, ◌∙◌}
+use Prim.Native.Nat.{◌<◌}
 use native.Mathlib.Omega.{arith}
 use borrow.Author.Rules.{scaled_Fits}
 use lib.ListN.{length, length-set}
@@ -19,7 +20,7 @@ pub loop-i-preserved : goal.loop-i-preserved
 loop-i-preserved c =
     let inv = c.loop-i.invariant in
     let long = inv.1 in
-    let t = c.loop-i-test.true in
+    let t : c.loop-i.i < length c.loop-i.leaf_order = omega (arith, inv.1, c.loop-i-test.true) in
     (omega arith, length-set c.loop-i.leaf_order c.loop-i.i c.loop-i.i ∙ inv.1, law.counted_more c.loop-i.leaf_order c.loop-i.i t inv.2)
 
 pub shape_of-leaf_order : goal.shape_of-leaf_order

@@ -1,6 +1,6 @@
 -- `bvh::number` meets its contract: the positions so far hold their own number.
 use mathlib.Core.Path.{◌≡◌}
-use Prim.Native.Nat.{◌-◌, ◌≤◌}
+use Prim.Native.Nat.{◌≤◌}
 use lib.ListN.{length}
 use Rattle.bvh.proofs.Laws as law
 use Rattle.bvh.proofs.number.Given as goal

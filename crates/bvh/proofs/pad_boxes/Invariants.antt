@@ -1,6 +1,6 @@
 -- `bvh::pad_boxes` meets its contract: the boxes so far are those of the nodes so far, padded.
 use mathlib.Core.Path.{◌≡◌}
-use Prim.Native.Nat.{◌-◌, ◌≤◌}
+use Prim.Native.Nat.{◌≤◌}
 use lib.ListN.{length}
 use Rattle.bvh.proofs.Laws as law
 use Rattle.bvh.proofs.pad_boxes.Given as goal

@@ -1,6 +1,6 @@
 -- `bvh::put_extents` meets its contract: the rows so far are those of the triangles so far.
 use mathlib.Core.Path.{◌≡◌}
-use Prim.Native.Nat.{◌-◌, ◌≤◌}
+use Prim.Native.Nat.{◌≤◌}
 use lib.ListN.{length}
 use Rattle.bvh.proofs.Laws as law
 use Rattle.bvh.proofs.put_extents.Given as goal

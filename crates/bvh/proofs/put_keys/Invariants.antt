@@ -1,6 +1,6 @@
 -- `bvh::put_keys` meets its contract: the keys so far are those of finite values, whose order they have (`float_key_leb`).
 use mathlib.Core.Path.{◌≡◌}
-use Prim.Native.Nat.{◌-◌, ◌≤◌}
+use Prim.Native.Nat.{◌≤◌}
 use lib.ListN.{length}
 use Rattle.bvh.proofs.Laws as law
 use Rattle.vector.specs.Vector.{axis_of}

@@ -1,6 +1,6 @@
 -- `bvh::put_rows` meets its contract: the rows so far are those of the triangles that the order has so far.
 use mathlib.Core.Path.{◌≡◌}
-use Prim.Native.Nat.{◌-◌, ◌≤◌}
+use Prim.Native.Nat.{◌≤◌}
 use lib.ListN.{length}
 use Rattle.bvh.proofs.Laws as law
 use Rattle.bvh.proofs.put_rows.Given as goal

@@ -1,5 +1,5 @@
 -- `clearing::blank_f32` meets its contract: what lies before i became zero, and what was zero stays so.
-use Prim.Native.Nat.{◌≤◌, ◌-◌}
+use Prim.Native.Nat.{◌≤◌}
 use mathlib.Core.Path.{◌≡◌}
 use lib.Ieee.{nan}
 use lib.ListN.{length}

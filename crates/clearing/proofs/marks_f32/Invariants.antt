@@ -1,5 +1,5 @@
 -- `clearing::marks_f32` meets its contract: as long as no bit was met, all that was read of either run is zero.
-use Prim.Native.Nat.{◌≤◌, ◌-◌}
+use Prim.Native.Nat.{◌≤◌}
 use mathlib.Core.Path.{◌≡◌}
 use lib.Ieee.{nan}
 use Rattle.float.specs.Literals.{zero32}

@@ -1,5 +1,5 @@
 -- `clearing::marks_u32` meets its contract: as long as no bit was met, all that was read of either run is zero.
-use Prim.Native.Nat.{◌≤◌, ◌-◌}
+use Prim.Native.Nat.{◌≤◌}
 use mathlib.Core.Path.{◌≡◌}
 use Rattle.clearing.specs.Runs.{Run}
 use Rattle.clearing.proofs.marks_u32.Given as goal

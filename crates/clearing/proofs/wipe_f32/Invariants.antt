@@ -1,5 +1,4 @@
 -- `clearing::wipe_f32` meets its contract: k spans of either half are zero, then what lies behind both.
-use Prim.Native.Nat.{◌-◌}
 use lib.Ieee.{nan}
 use Rattle.float.specs.Literals.{zero32}
 use Rattle.clearing.proofs.Wiping.{Halves}

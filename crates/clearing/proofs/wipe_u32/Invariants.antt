@@ -1,5 +1,4 @@
 -- `clearing::wipe_u32` meets its contract: k spans of either half are zero, then what lies behind both.
-use Prim.Native.Nat.{◌-◌}
 use Rattle.clearing.proofs.Wiping.{Halves}
 use Rattle.clearing.proofs.wipe_u32.Given as goal
 

@@ -1,5 +1,4 @@
 -- `cost::counts_of` meets its contract: a turn a level, by the laws of `Turns`.
-use Prim.Native.Nat.{◌-◌}
 use Rattle.cost.proofs.Turns.{Turned}
 use Rattle.cost.proofs.counts_of.Given as goal
 

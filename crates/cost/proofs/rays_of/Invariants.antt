@@ -1,5 +1,4 @@
 -- `cost::rays_of` meets its contract: the rays of the first k orders, and then of one more.
-use Prim.Native.Nat.{◌-◌}
 use Rattle.cost.proofs.Totals.{Rays}
 use Rattle.cost.proofs.rays_of.Given as goal
 

@@ -1,6 +1,6 @@
 -- `cost::series` meets its contract: the sum for k terms, and then for one more.
 use mathlib.Core.Path.{◌≡◌}
-use Prim.Native.Nat.{◌-◌, ◌≤◌}
+use Prim.Native.Nat.{◌≤◌}
 use Rattle.sequences.specs.Count.{series}
 use Rattle.cost.proofs.series.Given as goal
 

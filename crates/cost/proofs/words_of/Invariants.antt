@@ -1,5 +1,4 @@
 -- `cost::words_of` meets its contract: the words of the first i areas, and then of one more.
-use Prim.Native.Nat.{◌-◌}
 use Rattle.cost.proofs.Totals.{Words}
 use Rattle.cost.proofs.words_of.Given as goal
 

@@ -1,6 +1,6 @@
 -- `exports::least_lengths` meets its contract: the first i stand.
 use mathlib.Core.Path.{◌≡◌}
-use Prim.Native.Nat.{◌-◌, ◌≤◌}
+use Prim.Native.Nat.{◌≤◌}
 use lib.ListN.{length, take}
 use Rattle.exports.specs.Lengths.{least_lengths_of}
 use Rattle.exports.proofs.least_lengths.Given as goal

@@ -1,5 +1,5 @@
 -- `images_cases::digest` is safe and ends. The loop's invariant: the digest is below its modulus.
-use Prim.Native.Nat.{◌-◌, ◌<◌}
+use Prim.Native.Nat.{◌<◌}
 use lib.ListN.{length}
 use Rattle.images_cases.proofs.digest.Given as goal
 

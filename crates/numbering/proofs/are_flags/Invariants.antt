@@ -1,5 +1,5 @@
 -- `numbering::are_flags` meets its contract. The loop's invariant: the bytes from i on decide.
-use Prim.Native.Nat.{◌-◌, ◌≤◌}
+use Prim.Native.Nat.{◌≤◌}
 use mathlib.Core.Path.{◌≡◌}
 use lib.ListN.{length, drop}
 use Rattle.numbering.specs.Walls.{flags}

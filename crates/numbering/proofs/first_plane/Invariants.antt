@@ -1,5 +1,5 @@
 -- `numbering::first_plane` meets its contract. The loop's invariant: of the q planes to be passed, `left` are not below p.
-use Prim.Native.Nat.{◌+◌, ◌-◌, ◌≤◌}
+use Prim.Native.Nat.{◌+◌, ◌≤◌}
 use mathlib.Core.Path.{◌≡◌}
 use mathlib.Core.List.{[]}
 use lib.ListN.{length}

@@ -1,5 +1,5 @@
 -- `numbering::firsts` meets its contract. The loop's invariant: e of the planes below p may come first.
-use Prim.Native.Nat.{◌-◌, ◌≤◌}
+use Prim.Native.Nat.{◌≤◌}
 use mathlib.Core.Path.{◌≡◌}
 use mathlib.Core.List.{[]}
 use lib.ListN.{length}

@@ -1,5 +1,5 @@
 -- `numbering_cases::agrees` is safe and ends: a record's place fits, since a number is a u32.
-use Prim.Native.Nat.{◌-◌, ◌*◌, ◌≤◌}
+use Prim.Native.Nat.{◌*◌, ◌≤◌}
 use mathlib.Core.Path.{◌≡◌}
 use Rattle.numbering_cases.proofs.agrees.Given as goal
 

@@ -4,7 +4,7 @@ use Rattle.placing.proofs.Readback.{passed_far, passed_kept}
 use Rattle.placing.proofs.triangles_from_scene.Goals as goal
 
 pub returns-then-st : goal.returns-then-st
-returns-then-st c = passed_far _ _ _ _ _ _ _ c.place_all-st.ensures.result_after _ _ c.if-st.true (omega arith) (omega arith) c.clear_f32.ensures c.clear_u32.ensures
+returns-then-st c = passed_far _ _ _ _ _ _ _ c.place_all-st.ensures.result_after _ _ c.if-st.true (omega arith) (omega arith) (c.fill.ensures.after (λ y e. e)) (c.fill-then-st.ensures.after (λ y e. e))
 
 pub returns : goal.returns
 returns c = let pre = c.requires in

@@ -7,7 +7,7 @@ use Rattle.planes_borders.proofs.Counting.{below_at, counted_all, counted_low, c
 use Rattle.planes_borders.proofs.count_uses.Goals as goal
 
 pub loop-e-init : goal.loop-e-init
-loop-e-init c = let a = c.args in counted_none a.first.now c.clear_u32.new.area (length a.uses.now) (c.clear_u32.auto.area ∙ c.requires.uses_len) c.clear_u32.ensures
+loop-e-init c = let a = c.args in counted_none a.first.now c.fill.new.self (length a.uses.now) (c.fill.auto.self ∙ c.requires.uses_len) (c.fill.ensures.after (λ y e. e))
 
 pub overflow_cast-k : goal.overflow_cast-k
 overflow_cast-k c =

@@ -1,5 +1,4 @@
 -- `planes_borders::count_uses` meets its contract: the loop holds the counts of the edges before e (`Counted`).
-use Prim.Native.Nat.{◌-◌}
 use lib.ListN.{length}
 use Rattle.planes_borders.proofs.Counting.{Counted}
 use Rattle.planes_borders.proofs.count_uses.Given as goal

@@ -1,6 +1,6 @@
 -- `planes_borders::put_border` meets its contract: the loop holds the border of the first k triangles.
 use mathlib.Core.Path.{◌≡◌}
-use Prim.Native.Nat.{◌*◌, ◌+◌, ◌-◌, ◌≤◌}
+use Prim.Native.Nat.{◌*◌, ◌+◌, ◌≤◌}
 use lib.ListN.{length, take}
 use Rattle.planes_borders.specs.Uses.{Appended, border_in}
 use Rattle.planes_borders.proofs.put_border.Given as goal

@@ -1,5 +1,5 @@
 -- `planes_faces::face_keys` meets its contract: the loop holds that the keys of the first i faces are there.
-use Prim.Native.Nat.{◌-◌, ◌≤◌}
+use Prim.Native.Nat.{◌≤◌}
 use Rattle.planes_faces.proofs.Packing.{Keys}
 use Rattle.planes_faces.proofs.face_keys.Given as goal
 

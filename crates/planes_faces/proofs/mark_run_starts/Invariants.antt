@@ -1,6 +1,6 @@
 -- `planes_faces::mark_run_starts` meets its contract: the loop holds that `run_starts` from here on gives what it gives of the whole.
 use mathlib.Core.Path.{◌≡◌}
-use Prim.Native.Nat.{◌-◌, ◌≤◌, ◌<◌}
+use Prim.Native.Nat.{◌≤◌, ◌<◌}
 use lib.ListN.{length, drop}
 use Rattle.order.specs.Runs.{head_or, run_starts}
 use Rattle.planes_faces.specs.Numbers.{key_at}

@@ -1,5 +1,5 @@
 -- `planes_faces::point_keys` meets its contract: the loop holds that the keys of the first i points are there, and that nothing before them is changed.
-use Prim.Native.Nat.{◌-◌, ◌≤◌}
+use Prim.Native.Nat.{◌≤◌}
 use Rattle.planes_faces.proofs.Corners.{Made}
 use Rattle.planes_faces.proofs.point_keys.Given as goal
 

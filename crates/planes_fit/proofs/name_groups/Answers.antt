@@ -8,7 +8,7 @@ use Rattle.planes_fit.proofs.Naming.{assigned_more, assigned_none}
 use Rattle.planes_fit.proofs.name_groups.Goals as goal
 
 pub loop-g-init : goal.loop-g-init
-loop-g-init c = (omega arith, (refl, assigned_none _ _ _ (length c.args.group_of.now) c.clear_u32.ensures))
+loop-g-init c = (omega arith, (refl, assigned_none _ _ _ (length c.args.group_of.now) (c.fill.ensures.after (λ y e. e))))
 
 pub offset_bounds-offsets-g : goal.offset_bounds-offsets-g
 offset_bounds-offsets-g c =
@@ -61,7 +61,7 @@ overflow_cast-g c = omega (arith, c.requires.ng_le_most_triangles, c.loop-g-test
 
 pub name_group-requires : goal.name_group-requires
 name_group-requires c =
-    below_more _ _ _ (omega (arith, c.requires.np_in_bounds, c.loop-g.invariant.1.0, c.clear_u32.auto.area)) (c.requires.grouped.below _ c.loop-g-test.true)
+    below_more _ _ _ (omega (arith, c.requires.np_in_bounds, c.loop-g.invariant.1.0, c.fill.auto.self)) (c.requires.grouped.below _ c.loop-g-test.true)
 
 pub loop-g-smaller : goal.loop-g-smaller
 loop-g-smaller c = omega (arith, c.loop-g-test.true)
@@ -76,13 +76,10 @@ loop-g-preserved c = (
 )
 
 pub shape_of-group_of : goal.shape_of-group_of
-shape_of-group_of c = c.loop-g.invariant.1.0 ∙ c.clear_u32.auto.area
+shape_of-group_of c = c.loop-g.invariant.1.0 ∙ c.fill.auto.self
 
 pub returns : goal.returns
 returns c = record {
   by_index = λ p g h. c.loop-g.invariant.1.1.is p g (omega (arith, h, c.loop-g-test.false));
   by_index_2 = λ p. omega (arith, c.loop-g.invariant.1.1.bound p, c.loop-g.invariant.0);
 }
-
-pub clear_u32-requires : goal.clear_u32-requires
-clear_u32-requires c = tt

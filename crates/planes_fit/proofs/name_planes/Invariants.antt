@@ -1,5 +1,4 @@
 -- `planes_fit::name_planes` meets its contract: the triangles so far have their plane's number.
-use Prim.Native.Nat.{◌-◌}
 use Rattle.planes_fit.proofs.Naming.{Planed}
 use Rattle.planes_fit.proofs.name_planes.Given as goal
 

@@ -1,5 +1,4 @@
 -- `planes_fit::put_planes` meets its contract: the rows so far are stored.
-use Prim.Native.Nat.{◌-◌}
 use Rattle.columns.specs.Columns.{triangle_at_of}
 use Rattle.planes_fit.specs.Rows.{plane_row_in}
 use Rattle.planes_fit.proofs.Planes.{Placed}

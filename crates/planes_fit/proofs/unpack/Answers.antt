@@ -8,10 +8,10 @@ loop-i-init c = unpacked_none _
 
 
 pub loop-i-preserved : goal.loop-i-preserved
-loop-i-preserved c = unpacked_more _ _ _ c.loop-i.invariant c.loop-i-test.true
+loop-i-preserved c = unpacked_more _ _ _ c.loop-i.invariant (omega (arith, c.loop-i.invariant.len, c.loop-i-test.true))
 
 pub shape_of-words : goal.shape_of-words
 shape_of-words c = c.loop-i.invariant.len
 
 pub returns : goal.returns
-returns c = unpacked_all _ _ _ c.loop-i.invariant c.loop-i-test.false
+returns c = unpacked_all _ _ _ c.loop-i.invariant (omega (arith, c.loop-i.invariant.len, c.loop-i-test.false))

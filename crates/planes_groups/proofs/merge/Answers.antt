@@ -50,7 +50,7 @@ pub grow_groups-requires : goal.grow_groups-requires
 grow_groups-requires c =
     let a = c.args in
     let w = c.requires.np_in_bounds_3 in
-    let e = c.clear_u32.ensures in
+    let e = c.fill.ensures.after (λ y e. e) in
     let room = length_front a.queue.now c.adjacency.new.vsorted (3 * a.m) c.adjacency.auto.vsorted in record {
       n_in_bounds = c.requires.n_in_bounds;
       np_in_bounds = c.requires.np_in_bounds;
@@ -75,7 +75,7 @@ pub shape_of-astarts : goal.shape_of-astarts
 shape_of-astarts c = c.adjacency.auto.starts
 
 pub shape_of-assigned : goal.shape_of-assigned
-shape_of-assigned c = c.grow_groups.auto.assigned ∙ c.clear_u32.auto.area
+shape_of-assigned c = c.grow_groups.auto.assigned ∙ c.fill.auto.self
 
 pub shape_of-queue : goal.shape_of-queue
 shape_of-queue c =
@@ -89,7 +89,7 @@ shape_of-offsets c = c.grow_groups.auto.offsets
 pub returns : goal.returns
 returns c =
     let a = c.args in
-    let e = c.clear_u32.ensures in
+    let e = c.fill.ensures.after (λ y e. e) in
     let f : ℕ → ℕ → Bool = takes_in a.triangles.now a.handles.now a.n a.rows.now a.tsorted.now a.tstarts.now a.least a.most in record {
       upper_bound = c.grow_groups.ensures.upper_bound;
       grouped = c.grow_groups.ensures.grouped;
@@ -97,6 +97,3 @@ returns c =
           c.grow_groups.ensures.by_index adj (rows_adjacent a.np c.adjacency.new.sorted c.adjacency.new.starts (is_joined a.numbers.now a.n a.vertices a.of.now a.m a.np) adj c.adjacency.ensures.by_index same)
           ∙ ap (groups_from a.np adj f (take a.np a.order.now)) (ap (free_of a.np) e ∙ free_all a.np (length a.assigned.now) c.requires.np_in_bounds_3.0);
     }
-
-pub clear_u32-requires : goal.clear_u32-requires
-clear_u32-requires c = tt

@@ -1,6 +1,6 @@
 -- `planes_groups::seed_keys` meets its contract: the loop holds that the keys of the first patches are there.
 use mathlib.Core.Path.{◌≡◌}
-use Prim.Native.Nat.{ℕ, ◌+◌, ◌-◌, ◌*◌, ◌≤◌, ◌<◌}
+use Prim.Native.Nat.{ℕ, ◌+◌, ◌*◌, ◌≤◌, ◌<◌}
 use lib.ListN.{length, get_or, take}
 use lib.Ieee.{nan}
 use Rattle.order.specs.Runs.{head_or, up_to}

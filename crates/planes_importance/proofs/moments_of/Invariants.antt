@@ -1,7 +1,6 @@
 -- `planes_importance::moments_of` meets its contract: the triangles from here on give what all give.
 use mathlib.Core.Path.{◌≡◌}
 use mathlib.Core.List.{foldl}
-use Prim.Native.Nat.{◌-◌}
 use lib.ListN.{length, drop}
 use Rattle.columns.specs.Columns.{triangle_at_of}
 use Rattle.planes_importance.specs.Importance.{moment_of}

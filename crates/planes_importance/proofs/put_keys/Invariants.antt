@@ -1,7 +1,6 @@
 -- `planes_importance::put_keys` meets its contract: the planes so far have their keys.
 use mathlib.Core.Path.{◌≡◌}
 use mathlib.Core.List.{map}
-use Prim.Native.Nat.{◌-◌}
 use lib.ListN.{length, take}
 use Rattle.order.specs.Runs.{up_to}
 use Rattle.geometry.specs.declared.Aabb.{Aabb}

@@ -1,6 +1,6 @@
 -- `planes_importance::scene_box` meets its contract: the box so far is that of the triangles so far.
 use mathlib.Core.Path.{◌≡◌}
-use Prim.Native.Nat.{◌-◌, ◌≤◌}
+use Prim.Native.Nat.{◌≤◌}
 use Rattle.planes_patches.specs.Triangles.{triangles_in}
 use Rattle.planes_importance.specs.Importance.{scene_box_of}
 use Rattle.planes_importance.proofs.scene_box.Given as goal

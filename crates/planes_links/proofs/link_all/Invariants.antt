@@ -1,6 +1,6 @@
 -- `planes_links::link_all` meets its contract: the loop keeps `Added` of what the first patches are linked to.
 use mathlib.Core.Path.{◌≡◌}
-use Prim.Native.Nat.{◌+◌, ◌-◌, ◌*◌, ◌≤◌}
+use Prim.Native.Nat.{◌+◌, ◌*◌, ◌≤◌}
 use lib.ListN.{length, take}
 use Rattle.planes_links.specs.Words.{lows}
 use Rattle.planes_links.proofs.Linking.{Added, links_some}

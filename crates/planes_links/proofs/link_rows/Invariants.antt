@@ -1,6 +1,6 @@
 -- `planes_links::link_rows` meets its contract: the loop keeps `Told` of the rows so far.
 use mathlib.Core.Path.{◌≡◌}
-use Prim.Native.Nat.{◌-◌, ◌*◌, ◌≤◌}
+use Prim.Native.Nat.{◌*◌, ◌≤◌}
 use lib.ListN.{length, get_or}
 use Rattle.planes_links.specs.Words.{row_in}
 use Rattle.planes_links.specs.Links.{is_linked}

@@ -9,7 +9,7 @@ use Rattle.planes_patches.proofs.coplanar_patches.Goals as goal
 
 pub loop-t-init : goal.loop-t-init
 loop-t-init c =
-    let a = c.args in filling_none (triangles_in a.triangles.now a.handles.now a.n a.m) a.first.now a.m a.rows.now a.of.now a.cells.now c.clear_u32.new.area a.next.now (length a.heads.now) c.requires.heads_len.0 c.clear_u32.ensures
+    let a = c.args in filling_none (triangles_in a.triangles.now a.handles.now a.n a.m) a.first.now a.m a.rows.now a.of.now a.cells.now c.fill.new.self a.next.now (length a.heads.now) c.requires.heads_len.0 (c.fill.ensures.after (λ y e. e))
 
 pub turn-np-requires : goal.turn-np-requires
 turn-np-requires c =
@@ -55,6 +55,3 @@ returns c =
       by_index_2 = all.1.1;
       rest = (same_length, same-length-2, same-length-3);
     }
-
-pub clear_u32-requires : goal.clear_u32-requires
-clear_u32-requires c = tt

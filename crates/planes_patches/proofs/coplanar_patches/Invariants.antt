@@ -1,5 +1,4 @@
 -- `planes_patches::coplanar_patches` meets its contract: the loop holds that the areas have the patches of the triangles before t (`Filling`).
-use Prim.Native.Nat.{◌-◌}
 use Rattle.planes_patches.specs.Triangles.{triangles_in}
 use Rattle.planes_patches.proofs.Filling.{Filling}
 use Rattle.planes_patches.proofs.coplanar_patches.Given as goal

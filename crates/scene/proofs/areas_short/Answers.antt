@@ -15,6 +15,8 @@ overflow_mul-i c = omega (arith, small c.loop-i.i c.args.t c.wide-room.result)
 pub overflow_mul-i-in-loop-i : goal.overflow_mul-i-in-loop-i
 overflow_mul-i-in-loop-i c = omega (arith, small c.loop-i.i c.args.t c.wide-room.result)
 
+pub overflow_add-i : goal.overflow_add-i
+overflow_add-i c = omega (arith, small c.loop-i.i c.args.t c.wide-room.result)
 
 pub overflow_add-i-in-loop-i : goal.overflow_add-i-in-loop-i
 overflow_add-i-in-loop-i c = omega (arith, small c.loop-i.i c.args.t c.wide-room.result)

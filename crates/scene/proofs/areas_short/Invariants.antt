@@ -1,6 +1,6 @@
 -- `scene::areas_short` meets its contract: a loop over the table, where from area i on one is short just where one of all is.
 use mathlib.Core.Path.{◌≡◌}
-use Prim.Native.Nat.{◌-◌, ◌≤◌}
+use Prim.Native.Nat.{◌≤◌}
 use lib.ListN.{drop}
 use Rattle.scene.specs.Areas.{area_table, short_in, short_of}
 use Rattle.scene.proofs.areas_short.Given as goal

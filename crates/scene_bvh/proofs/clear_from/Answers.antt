@@ -6,10 +6,7 @@ use Rattle.scene_bvh.proofs.Handles.{cleared_is}
 use Rattle.scene_bvh.proofs.clear_from.Goals as goal
 
 pub shape_of-handles : goal.shape_of-handles
-shape_of-handles c = let a = c.args in same_len_mid a.m (length a.handles.now - a.m) a.handles.now c.clear_u32.new.area c.clear_u32.auto.area
+shape_of-handles c = let a = c.args in same_len_mid a.m (length a.handles.now - a.m) a.handles.now c.fill.new.self c.fill.auto.self
 
 pub returns : goal.returns
-returns c = let a = c.args in cleared_is a.m a.handles.now c.clear_u32.new.area c.clear_u32.ensures
-
-pub clear_u32-requires : goal.clear_u32-requires
-clear_u32-requires c = tt
+returns c = let a = c.args in cleared_is a.m a.handles.now c.fill.new.self (c.fill.ensures.after (λ y e. e))

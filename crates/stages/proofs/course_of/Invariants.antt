@@ -1,5 +1,5 @@
 -- `stages::course_of` meets its contract: the first k planes are there, and the images of their beginnings.
-use Prim.Native.Nat.{◌-◌, ◌≤◌}
+use Prim.Native.Nat.{◌≤◌}
 use lib.ListN.{length}
 use Rattle.vector.specs.declared.Vec3.{Vec3}
 use Rattle.stages.specs.Paths.{Coursed}

@@ -1,6 +1,6 @@
 -- `stages::lengths_from` meets its contract: the first k are copied.
 use mathlib.Core.Path.{◌≡◌}
-use Prim.Native.Nat.{◌-◌, ◌≤◌}
+use Prim.Native.Nat.{◌≤◌}
 use lib.ListN.{length, take}
 use Rattle.stages.proofs.lengths_from.Given as goal
 

@@ -1,5 +1,5 @@
 -- `stages::put_points` meets its contract: the points before k stand in their places.
-use Prim.Native.Nat.{ℕ, ◌-◌, ◌≤◌, ◌<◌}
+use Prim.Native.Nat.{ℕ, ◌≤◌, ◌<◌}
 use mathlib.Core.Path.{◌≡◌}
 use lib.ListN.{length, get_or}
 use Rattle.mirror.specs.Plane.{no_point}

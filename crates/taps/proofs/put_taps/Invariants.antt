@@ -1,5 +1,5 @@
 -- `taps::put_taps` meets its contract: what is left to store gives the same area from each turn on.
-use Prim.Native.Nat.{◌≤◌, ◌-◌, ◌*◌}
+use Prim.Native.Nat.{◌≤◌, ◌*◌}
 use mathlib.Core.Path.{◌≡◌}
 use lib.ListN.{length}
 use lib.Seq.{sets}

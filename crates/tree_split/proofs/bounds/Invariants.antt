@@ -1,6 +1,6 @@
 -- `tree_split::bounds` meets its contract: what is gathered so far is the box of the triangles so far.
 use mathlib.Core.Path.{◌≡◌}
-use Prim.Native.Nat.{◌-◌, ◌≤◌}
+use Prim.Native.Nat.{◌≤◌}
 use lib.ListN.{length, take}
 use Rattle.tree_split.specs.Split.{aabb_at_of, bounds_of}
 use Rattle.tree_split.proofs.bounds.Given as goal

@@ -1,6 +1,6 @@
 -- `tree_split::centroid_aabb` meets its contract: what is gathered so far is the box of the centroids so far.
 use mathlib.Core.Path.{◌≡◌}
-use Prim.Native.Nat.{◌-◌, ◌≤◌}
+use Prim.Native.Nat.{◌≤◌}
 use lib.ListN.{length, take}
 use Rattle.geometry.specs.Aabb.{from_point_of}
 use Rattle.tree_split.specs.Split.{centroid_at_of, bounds_of}

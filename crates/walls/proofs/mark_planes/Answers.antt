@@ -1,5 +1,5 @@
 -- `walls::mark_planes` meets its contract. The loop's invariant: the bytes before p are those of their planes.
-use Prim.Native.Nat.{◌<◌}
+use Prim.Native.Nat.{◌<◌, ◌≤◌}
 use mathlib.Core.Path.{refl, sym, ◌∙◌}
 use native.Mathlib.Omega.{arith}
 use lib.ListN.{length, length-set}
@@ -16,10 +16,10 @@ lies_on-requires c = let i = c.loop-p.invariant in let l = i.1 in let h = c.loop
 
 pub loop-p-preserved : goal.loop-p-preserved
 loop-p-preserved c = let a = c.args in let i = c.loop-p.invariant in let l = i.1 in let h = c.loop-p-test.true in
-    let g : c.loop-p.p < length a.on.now = omega (arith, l, h) in (
+    let g : c.loop-p.p < length a.on.now = omega (arith, l, h) in let here : c.loop-p.p < length c.loop-p.on = omega (arith, l, h) in (
       omega (arith, l, h),
       length-set c.loop-p.on c.loop-p.p c.lies_on.result ∙ l,
-      λ members edges. mark_more c.loop-p.on (on_bytes (planes_in a.floats.now a.words.now members edges (length a.on.now)) a.source) c.loop-p.p c.lies_on.result h (i.2 members edges) (c.lies_on.ensures members edges (length a.on.now) g),
+      λ members edges. mark_more c.loop-p.on (on_bytes (planes_in a.floats.now a.words.now members edges (length a.on.now)) a.source) c.loop-p.p c.lies_on.result here (i.2 members edges) (c.lies_on.ensures members edges (length a.on.now) g),
     )
 
 pub shape_of-on : goal.shape_of-on
@@ -27,5 +27,5 @@ shape_of-on c = c.loop-p.invariant.1
 
 pub returns : goal.returns
 returns c = let a = c.args in let i = c.loop-p.invariant in λ members edges.
-    let e = marks_length a.floats.now a.words.now members edges (length a.on.now) a.source in
-    mark_all c.loop-p.on (on_bytes (planes_in a.floats.now a.words.now members edges (length a.on.now)) a.source) c.loop-p.p (i.1 ∙ sym e) c.loop-p-test.false (i.2 members edges)
+    let end : length c.loop-p.on ≤ c.loop-p.p = omega (arith, i.1, c.loop-p-test.false) in let e = marks_length a.floats.now a.words.now members edges (length a.on.now) a.source in
+    mark_all c.loop-p.on (on_bytes (planes_in a.floats.now a.words.now members edges (length a.on.now)) a.source) c.loop-p.p (i.1 ∙ sym e) end (i.2 members edges)

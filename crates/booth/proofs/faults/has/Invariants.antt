@@ -1,5 +1,4 @@
 -- `booth::faults::has` meets its contract: each turn is one byte more.
-use Prim.Native.Nat.{◌-◌}
 use lib.ListN.{length}
 use Rattle.booth.proofs.faults.has.Given as goal
 

@@ -1,5 +1,4 @@
 -- `booth::heading::count_outside` meets its contract: each turn is one float more.
-use Prim.Native.Nat.{◌-◌}
 use Rattle.booth.proofs.heading.count_outside.Given as goal
 
 abbrev pub invariant-loop-k : goal.invariant-loop-k

@@ -1,5 +1,4 @@
 -- `booth::names::meets` meets its contract: each turn is one wall more.
-use Prim.Native.Nat.{◌-◌}
 use Rattle.booth.proofs.names.meets.Given as goal
 
 abbrev pub invariant-loop-k : goal.invariant-loop-k

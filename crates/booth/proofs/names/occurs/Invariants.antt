@@ -1,5 +1,4 @@
 -- `booth::names::occurs` meets its contract: each turn is one tap more.
-use Prim.Native.Nat.{◌-◌}
 use Rattle.booth.proofs.names.occurs.Given as goal
 
 abbrev pub invariant-loop-i : goal.invariant-loop-i

@@ -1,5 +1,4 @@
 -- `booth::remarks::mesh_place` meets its contract: each turn is one token more.
-use Prim.Native.Nat.{◌-◌}
 use lib.ListN.{length}
 use Rattle.booth.proofs.remarks.mesh_place.Given as goal
 

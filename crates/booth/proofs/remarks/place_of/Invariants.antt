@@ -1,5 +1,4 @@
 -- `booth::remarks::place_of` meets its contract: each turn is one byte more.
-use Prim.Native.Nat.{◌-◌}
 use lib.ListN.{length}
 use Rattle.booth.proofs.remarks.place_of.Given as goal
 

@@ -1,5 +1,4 @@
 -- `booth::tags::mesh_of` meets its contract: each turn is one mesh more.
-use Prim.Native.Nat.{◌-◌}
 use lib.ListN.{length}
 use Rattle.booth.proofs.tags.mesh_of.Given as goal
 

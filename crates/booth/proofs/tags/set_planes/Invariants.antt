@@ -1,5 +1,4 @@
 -- `booth::tags::set_planes` meets its contract: each turn is one plane more.
-use Prim.Native.Nat.{◌-◌}
 use mathlib.Core.Path.{◌≡◌}
 use lib.ListN.{length}
 use Rattle.booth.proofs.tags.set_planes.Given as goal

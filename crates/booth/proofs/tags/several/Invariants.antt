@@ -1,5 +1,4 @@
 -- `booth::tags::several` meets its contract: each turn is one triangle more.
-use Prim.Native.Nat.{◌-◌}
 use Rattle.booth.proofs.tags.several.Given as goal
 
 abbrev pub invariant-loop-k : goal.invariant-loop-k

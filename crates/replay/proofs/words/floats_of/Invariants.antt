@@ -1,5 +1,4 @@
 -- `replay::words::floats_of` meets its contract: each index is below the length, and each turn brings it nearer.
-use Prim.Native.Nat.{◌-◌}
 use mathlib.Core.Path.{◌≡◌}
 use lib.ListN.{length}
 use Rattle.replay.proofs.words.floats_of.Given as goal

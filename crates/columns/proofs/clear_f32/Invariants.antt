@@ -1,9 +1,0 @@
--- `columns::clear_f32` meets its contract: a loop from the front, by the laws of proofs/Clearing.antt.
-use Prim.Native.Nat.{◌-◌}
-use lib.ListN.{length}
-use Rattle.float.specs.Literals.{zero32}
-use Rattle.columns.proofs.Clearing.{Clearing}
-use Rattle.columns.proofs.clear_f32.Given as goal
-
-abbrev pub invariant-loop-i : goal.invariant-loop-i
-invariant-loop-i l = Clearing zero32 l.initial.area l.area l.i
