@@ -7,7 +7,8 @@ use Rattle.float.specs.Literals.{one32}
 use Rattle.mirror.specs.Rows.{planes_in}
 use Rattle.bounces.specs.Bounces.{plane_on}
 use Rattle.bounces.specs.Areas.{point_in}
-use Rattle.bounces.specs.declared.Turn.TheVariants.{NotCrossed, OffSurface, On}
+use Rattle.std.specs.Prelude.{Ok, Err}
+use Rattle.std.proofs.lemmas.Result.{err_from_is_err_and}
 use Rattle.bounces.proofs.Laws.{fate_none, fate_next}
 use Rattle.bounces.proofs.fate_back.Goals as goal
 
@@ -36,17 +37,12 @@ turn_on-requires c = record {
   p_lt_count = c.requires.by_index (c.loop-k.k - 1) (omega (arith, c.loop-k.invariant.0, c.loop-k-test.true));
 }
 
-pub returns-in-NotCrossed : goal.returns-in-NotCrossed
-returns-in-NotCrossed c =
-    λ tri fade h. sym (c.loop-k.invariant.1 tri fade h ∙ fate_next tri fade (plane_on (planes_in c.args.plane_floats.now c.args.plane_words.now c.args.plane_triangles.now c.args.plane_edges.now c.args.count) c.args.seq.now) (point_in c.args.images.now)
-    c.loop-k.k c.loop-k.prev one32 [] [] c.loop-k-test.true c.vec_in-target.result NotCrossed c.vec_in-target.ensures (sym c.in-NotCrossed.is
-    ∙ c.turn_on.ensures tri fade h))
-
-pub returns-in-OffSurface : goal.returns-in-OffSurface
-returns-in-OffSurface c =
-    λ tri fade h. sym (c.loop-k.invariant.1 tri fade h ∙ fate_next tri fade (plane_on (planes_in c.args.plane_floats.now c.args.plane_words.now c.args.plane_triangles.now c.args.plane_edges.now c.args.count) c.args.seq.now) (point_in c.args.images.now)
-    c.loop-k.k c.loop-k.prev one32 [] [] c.loop-k-test.true c.vec_in-target.result OffSurface c.vec_in-target.ensures (sym c.in-OffSurface.is
-    ∙ c.turn_on.ensures tri fade h))
+pub returns-in_err-prev : goal.returns-in_err-prev
+returns-in_err-prev c = λ tri fade h.
+    let lost = err_from_is_err_and c.from_residual.result c.from_residual.ensures.1 in
+    rw (lost.1, lost.2)
+    (sym (c.loop-k.invariant.1 tri fade h ∙ fate_next tri fade (plane_on (planes_in c.args.plane_floats.now c.args.plane_words.now c.args.plane_triangles.now c.args.plane_edges.now c.args.count) c.args.seq.now) (point_in c.args.images.now)
+    c.loop-k.k c.loop-k.prev one32 [] [] c.loop-k-test.true c.vec_in-target.result (Err c.in_err-prev.field-0.0) c.vec_in-target.ensures (sym c.in_err-prev.was ∙ c.turn_on.ensures tri fade h)))
 
 pub loop-k-smaller : goal.loop-k-smaller
 loop-k-smaller c = omega (arith, c.loop-k-test.true)
@@ -55,7 +51,7 @@ pub loop-k-preserved : goal.loop-k-preserved
 loop-k-preserved c = (
   omega (arith, c.loop-k.invariant.0),
   λ tri fade h. c.loop-k.invariant.1 tri fade h ∙ fate_next tri fade (plane_on (planes_in c.args.plane_floats.now c.args.plane_words.now c.args.plane_triangles.now c.args.plane_edges.now c.args.count) c.args.seq.now) (point_in c.args.images.now) c.loop-k.k c.loop-k.prev one32 [] []
-      c.loop-k-test.true c.vec_in-target.result (On c.in-On.q) c.vec_in-target.ensures (sym c.in-On.is ∙ c.turn_on.ensures tri fade h),
+      c.loop-k-test.true c.vec_in-target.result (Ok c.in_ok-prev.prev) c.vec_in-target.ensures (sym c.in_ok-prev.was ∙ c.turn_on.ensures tri fade h),
 )
 
 pub returns : goal.returns

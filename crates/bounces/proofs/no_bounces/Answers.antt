@@ -3,4 +3,4 @@ use mathlib.Core.Path.{refl}
 use Rattle.bounces.proofs.no_bounces.Goals as goal
 
 pub returns : goal.returns
-returns c = (record { points_room = refl; tris_room = refl; good = refl }, refl)
+returns c = (record { points_room = refl; tris_room = refl }, refl)

@@ -20,7 +20,6 @@ returns c =
         record {
           points_room = simp length-set going.points_room;
           tris_room = simp length-set going.tris_room;
-          good = going.good;
         },
         refl,
       );

@@ -46,7 +46,7 @@ returns-in_default-surface c =
       plane_row a.plane_floats.now a.plane_words.now a.plane_triangles.now a.plane_edges.now a.count a.p c.requires.p_lt_count,
       ← c.plane_at-side.ensures,
       ← c.crossing.ensures (tris_of row a.plane_triangles.now) (border_of row a.plane_edges.now),
-      c.in-At.is,
+      c.in-Some.is,
       locate_surface,
       ← rw again at (c.surface.ensures tri (border_of row a.plane_edges.now) (rw c.plane_at-plane.ensures (h _ c.requires.p_lt_count))),
       c.in_default-surface.is,
@@ -63,10 +63,10 @@ returns c =
       plane_row a.plane_floats.now a.plane_words.now a.plane_triangles.now a.plane_edges.now a.count a.p c.requires.p_lt_count,
       ← c.plane_at-side.ensures,
       ← c.crossing.ensures (tris_of row a.plane_triangles.now) (border_of row a.plane_edges.now),
-      c.in-At.is,
+      c.in-Some.is,
       locate_surface,
       ← rw again at (c.surface.ensures tri (border_of row a.plane_edges.now) (rw c.plane_at-plane.ensures (h _ c.requires.p_lt_count))),
-      c.in-Inside.is,
+      c.in-Some-surface.is,
     )
 
 pub crossing-requires : goal.crossing-requires
