@@ -81,16 +81,9 @@ fn bounce_on(
 {
     let plane = mirror::plane_at(plane_floats, plane_words, p);
     let b = mirror::crossing(plane, prev, target).ok_or(Lost::NotCrossed)?;
-    mirror::locate_on_plane(
-        triangles,
-        n,
-        plane,
-        plane_triangles,
-        plane_edges,
-        fade,
-        b,
+    mirror::locate_on_plane(triangles, n, plane, plane_triangles, plane_edges, fade, b).ok_or(
+        Lost::OffSurface,
     )
-    .ok_or(Lost::OffSurface)
 }
 
 // A trail with bounce k.

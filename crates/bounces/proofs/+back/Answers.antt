@@ -12,12 +12,6 @@ returns-then-k-eq0 t c = record {
   going_2 = c.requires.going;
 }
 
-pub bounce_on-requires : goal.bounce_on-requires
-bounce_on-requires t c = let pre = c.requires in record {
-  planes_lent = pre.planes_lent;
-  p_lt_count = pre.by_index _ (omega (arith, c.if-k-eq0.false, pre.k_le_order.0));
-}
-
 pub returns-in_err-i-clause-by_index_2 : goal.returns-in_err-i-clause-by_index_2
 returns-in_err-i-clause-by_index_2 t c = λ tri h.
     let lost = err_from_is_err_and c.from_residual.result c.from_residual.ensures.1 in

@@ -1,15 +1,11 @@
 -- `bounces::bounce_on` meets its contract: the plane's row, its crossing and its point.
 use mathlib.Core.Path.{sym, ◌∙◌}
 use Rattle.std.proofs.lemmas.Result.{err_from_is_err_and}
-use native.Mathlib.Omega.{arith}
 use Rattle.mirror.specs.Rows.{tris_of, border_of}
 use Rattle.bounces.specs.Areas.{PlanesRead}
 use Rattle.bounces.specs.Bounces.{bounce_of}
 use Rattle.bounces.proofs.Laws.{plane_row, crossed_err, crossed_ok}
 use Rattle.bounces.proofs.bounce_on.Goals as goal
-
-pub plane_at-plane-requires : goal.plane_at-plane-requires
-plane_at-plane-requires c = (omega (arith, c.requires.planes_lent.held.floats_room, c.requires.p_lt_count), omega (arith, c.requires.planes_lent.held.words_room, c.requires.p_lt_count))
 
 pub returns-in_err-b : goal.returns-in_err-b
 unfolding bounce_of
@@ -25,12 +21,6 @@ returns-in_err-b c = λ tri h.
       lost.2,
     ) (crossed_err _ c.crossing.result _ (sym c.ok_or.ensures.value ∙ c.in_err-b.was))
 
-pub locate_on_plane-requires : goal.locate_on_plane-requires
-locate_on_plane-requires c = record {
-  n_in_bounds = c.requires.planes_lent.columns_room;
-  runs_in = rw c.plane_at-plane.ensures (c.requires.planes_lent.held.runs _ c.requires.p_lt_count);
-}
-
 pub returns : goal.returns
 unfolding bounce_of PlanesRead
 returns c = λ tri h.
@@ -43,6 +33,3 @@ returns c = λ tri h.
       crossed_ok c.crossing.result _ (sym c.ok_or.ensures.value ∙ c.in_ok-b.was),
       ← c.locate_on_plane.ensures tri (rw c.plane_at-plane.ensures (h _ c.requires.p_lt_count)),
     ) c.ok_or-2.ensures.value
-
-pub crossing-requires : goal.crossing-requires
-crossing-requires c = tt
