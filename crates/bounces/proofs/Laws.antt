@@ -12,17 +12,17 @@ use Rattle.float.proofs.Numbers.{by_order}
 use Rattle.vector.specs.declared.Vec3.{Vec3}
 use Rattle.geometry.specs.declared.Triangle.{Triangle}
 use Rattle.mirror.specs.Plane.{Plane, no_point, nth_plane}
+use Rattle.mirror.specs.Locate.{Located}
 use Rattle.mirror.specs.Mirror.{mirror_of}
 use Rattle.mirror.specs.Rows.{row_of, tris_of, border_of, row_plane, plane_in, planes_in}
 use Rattle.mirror.proofs.Laws.{plane_at_lem}
 use Rattle.bounces.specs.Image.{image_of}
-use Rattle.bounces.specs.declared.Bounce.{Bounce}
-use Rattle.bounces.specs.declared.Bounce.TheVariants.{NotCrossed, OffSurface, On}
+use Rattle.std.specs.Prelude.{Option, None, Some, Result, Ok, Err, ok_or}
+use Rattle.bounces.specs.declared.Lost.{Lost}
+use Rattle.bounces.specs.declared.Lost.TheVariants.{NotCrossed, OffSurface}
 use Rattle.bounces.specs.declared.Trail.{Trail}
-use Rattle.bounces.specs.declared.Turn.{Turn}
-use Rattle.bounces.specs.declared.Turn.TheVariants as turn
-use Rattle.bounces.specs.Bounces.{bounce_of, turn_of, Bounces, then_of, back_of}
-use Rattle.bounces.specs.Areas.{made_fate, not_crossed_fate, off_surface_fate, fate_of, trail_of}
+use Rattle.bounces.specs.Bounces.{Bounce, crossed_of, bounce_of, turn_of, Bounces, then_of, back_of}
+use Rattle.bounces.specs.Areas.{fate_of, trail_of}
 
 pub never : {A : Type 0} (x m : ℕ) → x ≡ suc m → x ≡ 0 → A
 never x m a b = let no : ⊥ = omega arith in absurd no
@@ -66,14 +66,24 @@ slice_put l x d k n h fits =
     ap (drop (suc k)) (take-set-lt n l k x h) ∙ drop-set-lt (suc k) (take n l) k x (omega arith) in
     rw (cons, get_or-set_same l k x d (omega arith), tail, add-one)
 
+-- ---- a bounce, by whether its plane is crossed
+
+pub crossed_err : (locate : Vec3 → Located) (o : Option Vec3) (e : Lost) → ok_or o NotCrossed ≡ Err e → Err e ≡ crossed_of locate o
+crossed_err locate None e h = grind arith
+crossed_err locate (Some b) e h = grind arith
+
+pub crossed_ok : (o : Option Vec3) (b : Vec3) → ok_or o NotCrossed ≡ Ok b → o ≡ Some b
+crossed_ok None b h = grind arith
+crossed_ok (Some c) b h = grind arith
+
 -- ---- the ways that a turn back goes
 
 module _ (tri : ℕ → Triangle) (fade : Float) (plane : ℕ → Plane) (image : ℕ → Vec3) where
   pub back_none :
-      (t : Trail) (k n : ℕ) (prev : Vec3) → k ≡ 0 → t.fate ≡ made_fate →
-      trail_of t n ≡ back_of tri fade plane image k prev t.weight (slice k n t.points) (slice k n t.tris)
+      (t : Trail) (k n : ℕ) (prev : Vec3) → k ≡ 0 →
+      trail_of (Ok t) n ≡ back_of tri fade plane image k prev t.weight (slice k n t.points) (slice k n t.tris)
   unfolding trail_of back_of
-  back_none t k n prev z f = rw (z, f)
+  back_none t k n prev z = rw z
 
   module _ (k : ℕ) (prev : Vec3) (weight : Float) (ps : List Vec3) (is : List ℕ) (b : Bounce)
       (some : k ≡ 0 → ⊥) (turn : b ≡ bounce_of tri fade (plane (k - 1)) prev (image k)) where
@@ -86,16 +96,13 @@ module _ (tri : ℕ → Triangle) (fade : Float) (plane : ℕ → Plane) (image 
       opened zero ne e = absurd (ne refl)
       opened (suc k) ne e = let l : suc k - 1 ≡ k = omega arith in rw (e, l)
 
-    pub back_not_crossed : (r : Trail) (n : ℕ) → r.fate ≡ not_crossed_fate → b ≡ NotCrossed → trail_of r n ≡ back_of tri fade plane image k prev weight ps is
+    pub back_lost : (e : Lost) (n : ℕ) → b ≡ Err e → trail_of (Err e) n ≡ back_of tri fade plane image k prev weight ps is
     unfolding trail_of
-    back_not_crossed r n f h = rw (f, back_step, h)
-
-    pub back_off_surface : (r : Trail) (n : ℕ) → r.fate ≡ off_surface_fate → b ≡ OffSurface → trail_of r n ≡ back_of tri fade plane image k prev weight ps is
-    unfolding trail_of
-    back_off_surface r n f h = rw (f, back_step, h)
+    back_lost NotCrossed n h = rw (back_step, h)
+    back_lost OffSurface n h = rw (back_step, h)
 
     pub back_on :
-        (i : ℕ) (w : Float) (q : Vec3) → b ≡ On i w q →
+        (i : ℕ) (w : Float) (q : Vec3) → b ≡ Ok (i, w, q) →
         back_of tri fade plane image (k - 1) q (mul binary32 weight w) (q ∷ ps) (i ∷ is) ≡ back_of tri fade plane image k prev weight ps is
     back_on i w q h = rw (back_step, h)
 
@@ -115,22 +122,21 @@ module _ (tri : ℕ → Triangle) (fade : Float) (plane : ℕ → Plane) (image 
         fate_of (back_of tri fade plane image k q v qs js) ≡ fate_of (back_of tri fade plane image k q v' qs' js')) →
         fate_of (then_of (λ i u q. back_of tri fade plane image k q (mul binary32 w u) (q ∷ ps) (i ∷ is)) b)
         ≡ fate_of (then_of (λ i u q. back_of tri fade plane image k q (mul binary32 w' u) (q ∷ ps') (i ∷ is')) b)
-    by NotCrossed f = refl
-    by OffSurface f = refl
-    by (On i u q) f = f q (mul binary32 w u) (mul binary32 w' u) (q ∷ ps) (q ∷ ps') (i ∷ is) (i ∷ is')
+    by (Err NotCrossed) f = refl
+    by (Err OffSurface) f = refl
+    by (Ok (i, u, q)) f = f q (mul binary32 w u) (mul binary32 w' u) (q ∷ ps) (q ∷ ps') (i ∷ is) (i ∷ is')
 
-  pub fate_none : (k : ℕ) (prev : Vec3) (w : Float) (ps : List Vec3) (is : List ℕ) → k ≡ 0 → fate_of (back_of tri fade plane image k prev w ps is) ≡ made_fate
+  pub fate_none : (k : ℕ) (prev : Vec3) (w : Float) (ps : List Vec3) (is : List ℕ) → k ≡ 0 → fate_of (back_of tri fade plane image k prev w ps is) ≡ Ok tt
   unfolding fate_of back_of
   fate_none k prev w ps is z = rw z
 
   module _ (k : ℕ) (prev : Vec3) (w : Float) (ps : List Vec3) (is : List ℕ) (some : 0 < k) where
     -- by the turn on plane k - 1
-    abbrev next : Turn → Type 0
-    next turn.NotCrossed = fate_of (back_of tri fade plane image k prev w ps is) ≡ not_crossed_fate
-    next turn.OffSurface = fate_of (back_of tri fade plane image k prev w ps is) ≡ off_surface_fate
-    next (turn.On q) = fate_of (back_of tri fade plane image k prev w ps is) ≡ fate_of (back_of tri fade plane image (k - 1) q w ps is)
+    abbrev next : Result Vec3 Lost → Type 0
+    next (Err e) = fate_of (back_of tri fade plane image k prev w ps is) ≡ Err e
+    next (Ok q) = fate_of (back_of tri fade plane image k prev w ps is) ≡ fate_of (back_of tri fade plane image (k - 1) q w ps is)
 
-    pub fate_next : (v : Vec3) (t : Turn) → v ≡ image k → t ≡ turn_of (bounce_of tri fade (plane (k - 1)) prev v) → next t
+    pub fate_next : (v : Vec3) (t : Result Vec3 Lost) → v ≡ image k → t ≡ turn_of (bounce_of tri fade (plane (k - 1)) prev v) → next t
     unfolding fate_of
     fate_next v t at e =
         subst⁻¹ next (e ∙ ap (λ (u : Vec3). turn_of (bounce_of tri fade (plane (k - 1)) prev u)) at) (by (bounce_of tri fade (plane (k - 1)) prev (image k)) refl)
@@ -141,16 +147,16 @@ module _ (tri : ℕ → Triangle) (fade : Float) (plane : ℕ → Plane) (image 
         step b f = back_step tri fade plane image k prev w ps is b (λ z. omega arith) f
 
         by : (b : Bounce) → b ≡ bounce_of tri fade (plane (k - 1)) prev (image k) → next (turn_of b)
-        by NotCrossed f = ap fate_of (step NotCrossed f)
-        by OffSurface f = ap fate_of (step OffSurface f)
-        by (On i u q) f = ap fate_of (step (On i u q) f) ∙ fate_any (k - 1) q (mul binary32 w u) w (q ∷ ps) ps (i ∷ is) is
+        by (Err NotCrossed) f = ap fate_of (step (Err NotCrossed) f)
+        by (Err OffSurface) f = ap fate_of (step (Err OffSurface) f)
+        by (Ok (i, u, q)) f = ap fate_of (step (Ok (i, u, q)) f) ∙ fate_any (k - 1) q (mul binary32 w u) w (q ∷ ps) ps (i ∷ is) is
 
 -- ---- what a way back depends on
 
 then_ext : (f g : ℕ → Float → Vec3 → Bounces) (b : Bounce) → ((i : ℕ) (w : Float) (q : Vec3) → f i w q ≡ g i w q) → then_of f b ≡ then_of g b
-then_ext f g NotCrossed same = refl
-then_ext f g OffSurface same = refl
-then_ext f g (On i w q) same = same i w q
+then_ext f g (Err NotCrossed) same = refl
+then_ext f g (Err OffSurface) same = refl
+then_ext f g (Ok (i, w, q)) same = same i w q
 
 module _ (tri : ℕ → Triangle) (fade : Float) (plane plane' : ℕ → Plane) (image image' : ℕ → Vec3) where
   pub back_ext :

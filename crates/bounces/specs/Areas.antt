@@ -1,10 +1,12 @@
 -- What the functions ask of the areas, and what a trail of bounces reads as.
-use Rattle.std.specs.Prelude.{ℕ, ◌*◌, ◌≤◌, ◌<◌, eqb, Float, length, take, ◌≡◌, cond, List}
+use Rattle.std.specs.Prelude.{ℕ, ◌*◌, ◌≤◌, ◌<◌, Float, length, take, ◌≡◌, List, Result, Ok, Err}
 use Rattle.sequences.specs.Allowed.{most_order}
 use Rattle.geometry.specs.declared.Triangle.{Triangle}
 use Rattle.columns.specs.Columns.{column_count}
 use Rattle.vector.specs.declared.Vec3.{Vec3}
 use Rattle.mirror.specs.Rows.{vec_of_floats, row_of, tris_of, PlanesHeld, AllRead}
+use Rattle.bounces.specs.declared.Lost.{Lost}
+use Rattle.bounces.specs.declared.Lost.TheVariants.{NotCrossed, OffSurface}
 use Rattle.bounces.specs.declared.Trail.{Trail}
 use Rattle.bounces.specs.Bounces.{Bounces, not_crossed, off_surface, made}
 
@@ -21,21 +23,11 @@ PlanesRead tri columns n floats words members count = (p : ℕ) → p < count �
 abbrev pub max_order : ℕ
 max_order = most_order
 
--- the fates of a trail: all bounces made, a plane not crossed, a point off the surface
-abbrev pub made_fate : ℕ
-made_fate = 0
-
-abbrev pub not_crossed_fate : ℕ
-not_crossed_fate = 2
-
-abbrev pub off_surface_fate : ℕ
-off_surface_fate = 3
-
--- the fate of bounces
-unfoldable pub fate_of : Bounces → ℕ
-fate_of not_crossed = not_crossed_fate
-fate_of off_surface = off_surface_fate
-fate_of (made points tris weight) = made_fate
+-- whether all bounces are made, or what the first that fails fails by
+unfoldable pub fate_of : Bounces → Result (Unit {0}) Lost
+fate_of not_crossed = Err NotCrossed
+fate_of off_surface = Err OffSurface
+fate_of (made points tris weight) = Ok tt
 
 -- floats of a point, and point k of an area of points
 abbrev pub point_floats : ℕ
@@ -44,12 +36,13 @@ point_floats = 3
 abbrev pub point_in : List Float → ℕ → Vec3
 point_in l k = vec_of_floats l (point_floats * k)
 
--- what a trail of n bounces says
-unfoldable pub trail_of : Trail → ℕ → Bounces
-trail_of t n = cond (eqb t.fate made_fate) (made (take n t.points) (take n t.tris) t.weight) (cond (eqb t.fate not_crossed_fate) not_crossed off_surface)
+-- what a trail of n bounces says, or what one that fails says
+unfoldable pub trail_of : Result Trail Lost → ℕ → Bounces
+trail_of (Ok t) n = made (take n t.points) (take n t.tris) t.weight
+trail_of (Err NotCrossed) n = not_crossed
+trail_of (Err OffSurface) n = off_surface
 
--- a trail that goes on
+-- a trail has room for the longest sequence
 pub record Going (t : Trail) : Type 0 where
   pub points_room : length t.points ≡ max_order
   pub tris_room : length t.tris ≡ max_order
-  pub good : t.fate ≡ made_fate

@@ -1,5 +1,5 @@
 -- The first loop of `validate_image_path`, from the listener back to the source: the bounce on each plane, the last plane first.
-use Rattle.std.specs.Prelude.{ℕ, zero, suc, Float, length, get_or, List, [], ◌∷◌}
+use Rattle.std.specs.Prelude.{ℕ, zero, suc, Float, length, get_or, List, [], ◌∷◌, Option, None, Some, Result, Ok, Err, ok_or}
 use Rattle.std.specs.Float.{binary32}
 use Rattle.std.specs.Float.Ieee.{mul}
 use Rattle.float.specs.Literals.{one32}
@@ -7,34 +7,30 @@ use Rattle.vector.specs.declared.Vec3.{Vec3}
 use Rattle.geometry.specs.declared.Triangle.{Triangle}
 use Rattle.mirror.specs.Plane.{Plane, nth_plane}
 use Rattle.mirror.specs.Mirror.{crossing_of}
-use Rattle.mirror.specs.Locate.{locate_on_plane_of}
-use Rattle.mirror.specs.declared.PlaneCrossing.{PlaneCrossing}
-use Rattle.mirror.specs.declared.PlaneCrossing.TheVariants.{Nowhere, At}
-use Rattle.mirror.specs.declared.Located.{Located}
-use Rattle.mirror.specs.declared.Located.TheVariants as located
-use Rattle.bounces.specs.declared.Bounce.{Bounce}
-use Rattle.bounces.specs.declared.Bounce.TheVariants.{NotCrossed, OffSurface, On}
-use Rattle.bounces.specs.declared.Turn.{Turn}
-use Rattle.bounces.specs.declared.Turn.TheVariants as turn
+use Rattle.mirror.specs.Locate.{Located, locate_on_plane_of}
+use Rattle.bounces.specs.declared.Lost.{Lost}
+use Rattle.bounces.specs.declared.Lost.TheVariants.{NotCrossed, OffSurface}
 use Rattle.bounces.specs.Image.{image_at}
 
-abbrev pub located_of : Located → Bounce
-located_of located.Off = OffSurface
-located_of (located.On i w q) = On i w q
+-- one bounce: the triangle, the edge weight and the point
+abbrev pub Bounce : Type 0
+Bounce = Result (ℕ × Float × Vec3) Lost
 
-abbrev pub crossed_of : (Vec3 → Located) → PlaneCrossing → Bounce
-crossed_of locate Nowhere = NotCrossed
-crossed_of locate (At b) = located_of (locate b)
+abbrev pub located_of : Located → Bounce
+located_of l = ok_or l OffSurface
+
+abbrev pub crossed_of : (Vec3 → Located) → Option Vec3 → Bounce
+crossed_of locate None = Err NotCrossed
+crossed_of locate (Some b) = located_of (locate b)
 
 -- one turn of the loop: the segment from `prev` to the image `target` must cross the plane, and on its surface
 unfoldable pub bounce_of : (ℕ → Triangle) → Float → Plane → Vec3 → Vec3 → Bounce
 bounce_of tri fade plane prev target = crossed_of (locate_on_plane_of tri fade plane) (crossing_of plane prev target)
 
 -- the same by its point alone
-abbrev pub turn_of : Bounce → Turn
-turn_of NotCrossed = turn.NotCrossed
-turn_of OffSurface = turn.OffSurface
-turn_of (On i w q) = turn.On q
+abbrev pub turn_of : Bounce → Result Vec3 Lost
+turn_of (Err e) = Err e
+turn_of (Ok (i, w, q)) = Ok q
 
 -- all turns: a plane is not crossed, or a point is off the surface, or `pts`, `tri_of` (source side first) and `edge_w`
 pub data Bounces : Type 0 where
@@ -42,9 +38,9 @@ pub data Bounces : Type 0 where
   made : List Vec3 → List ℕ → Float → Bounces
 
 abbrev pub then_of : (ℕ → Float → Vec3 → Bounces) → Bounce → Bounces
-then_of on NotCrossed = not_crossed
-then_of on OffSurface = off_surface
-then_of on (On i w q) = on i w q
+then_of on (Err NotCrossed) = not_crossed
+then_of on (Err OffSurface) = off_surface
+then_of on (Ok (i, w, q)) = on i w q
 
 -- `for k in (1..=n).rev()`, with k turns left: plane k - 1 of the sequence, and the image in its first k planes
 unfoldable pub back_of : (ℕ → Triangle) → Float → (ℕ → Plane) → (ℕ → Vec3) → ℕ → Vec3 → Float → List Vec3 → List ℕ → Bounces

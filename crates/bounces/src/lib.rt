@@ -1,7 +1,7 @@
 // The bounces of a path by way of a sequence of planes, found from the listener back to the source, and the images that they aim at.
 #![tactic(auto)]
 
-ghost use Rattle.std.specs.Prelude.{◌≡◌, List, [], ◌∷◌, ℕ, ◌+◌, ◌*◌, ◌<◌, ◌≤◌, length, get_or, Float};
+ghost use Rattle.std.specs.Prelude.{◌≡◌, List, [], ◌∷◌, ℕ, ◌+◌, ◌*◌, ◌<◌, ◌≤◌, length, get_or, Float, IfOk};
 ghost use Rattle.std.proofs.Math.Seq.{slice};
 ghost use Rattle.std.specs.Float.{binary32};
 ghost use Rattle.std.specs.Float.Ieee.{mul};
@@ -12,44 +12,26 @@ ghost use Rattle.mirror.specs.Mirror.{mirror_of};
 ghost use Rattle.mirror.specs.Rows.{plane_float_count, plane_word_count, planes_in};
 ghost use Rattle.bounces.specs.Image.{lies_on_of};
 ghost use Rattle.bounces.specs.Bounces.{bounce_of, turn_of, back_of, plane_on};
-ghost use Rattle.bounces.specs.Areas.{PlanesLent, PlanesRead, max_order, made_fate, trail_of, fate_of, point_in, point_floats, Going};
+ghost use Rattle.bounces.specs.Areas.{PlanesLent, PlanesRead, max_order, trail_of, fate_of, point_in, point_floats, Going};
 
-use mirror::{Located, PlaneCrossing, Spot};
 use vector::Vec3;
-
-// What a trail's fate is where all its bounces are made.
-pub const MADE: u32 = 0;
-
-pub const NOT_CROSSED: u32 = 2;
-
-pub const OFF_SURFACE: u32 = 3;
 
 // Floats of a point in an area.
 const POINT_FLOATS: usize = 3;
 
-// One bounce: the triangle, the edge weight and the point.
+// What a bounce fails by: the segment does not cross its plane, or the point lies off the plane's surface.
 #[derive(Clone, Copy)]
-pub enum Bounce {
+pub enum Lost {
     NotCrossed,
     OffSurface,
-    On(usize, f32, Vec3),
 }
 
-// One bounce by its point alone.
-#[derive(Clone, Copy)]
-pub enum Turn {
-    NotCrossed,
-    OffSurface,
-    On(Vec3),
-}
-
-// The bounces found so far, source side first, and the product of their weights. The fate is 0, or that of the first bounce that failed.
+// The bounces found so far, source side first, and the product of their weights.
 #[derive(Clone, Copy)]
 pub struct Trail {
     pub points: [Vec3; 8],
     pub tris: [usize; 8],
     pub weight: f32,
-    pub fate: u32,
 }
 
 // ---- images
@@ -75,7 +57,7 @@ pub fn next_image(plane_floats: &[f32], plane_words: &[u32], p: usize, image: Ve
 
 // ---- bounces
 
-// The bounce on plane p, between `prev` and the image `target`.
+// The bounce on plane p, between `prev` and the image `target`: the triangle, the edge weight and the point.
 fn bounce_on(
     triangles: &[f32],
     n: usize,
@@ -88,7 +70,7 @@ fn bounce_on(
     p: usize,
     prev: Vec3,
     target: Vec3,
-) -> Bounce
+) -> Result<(usize, f32, Vec3), Lost>
     requires planes_lent { PlanesLent triangles.now n plane_floats.now plane_words.now plane_triangles.now plane_edges.now count }
     requires p_lt_count { p < count }
     ensures { (tri : ℕ → Triangle) →
@@ -98,29 +80,10 @@ fn bounce_on(
         prev target }
 {
     let plane = mirror::plane_at(plane_floats, plane_words, p);
-    let PlaneCrossing::At(b) = mirror::crossing(plane, prev, target) else {
-        return Bounce::NotCrossed;
-    };
-    let Located::On(i, w, q) = mirror::locate_on_plane(
-        triangles,
-        n,
-        plane,
-        plane_triangles,
-        plane_edges,
-        fade,
-        b,
-    ) else {
-        return Bounce::OffSurface;
-    };
-    Bounce::On(i, w, q)
-}
-
-fn failed(t: Trail, fate: u32) -> Trail
-    ensures { result.fate ≡ fate }
-{
-    let mut u = t;
-    u.fate = fate;
-    u
+    let b = mirror::crossing(plane, prev, target).ok_or(Lost::NotCrossed)?;
+    mirror::locate_on_plane(triangles, n, plane, plane_triangles, plane_edges, fade, b).ok_or(
+        Lost::OffSurface,
+    )
 }
 
 // A trail with bounce k.
@@ -152,7 +115,6 @@ pub fn no_bounces() -> Trail
         points,
         tris,
         weight: 1.0,
-        fate: 0,
     }
 }
 
@@ -172,7 +134,7 @@ pub fn back(
     k: usize,
     prev: Vec3,
     t: Trail,
-) -> Trail
+) -> Result<Trail, Lost>
     requires planes_lent { PlanesLent triangles.now n plane_floats.now plane_words.now plane_triangles.now plane_edges.now count }
     requires k_le_order { (k ≤ order) × (order ≤ max_order) }
     requires by_index { (j : ℕ) → j < order → get_or seq j 0 < count }
@@ -182,15 +144,15 @@ pub fn back(
         trail_of result order ≡ back_of tri fade (plane_on
         (planes_in plane_floats.now plane_words.now plane_triangles.now plane_edges.now count) seq) (λ j.
         get_or images j no_point) k prev t.weight (slice k order t.points) (slice k order t.tris) }
-    ensures going_2 { result.fate ≡ made_fate → Going result }
+    ensures going_2 { IfOk result Going }
 {
     if k == 0 {
-        return t;
+        return Ok(t);
     }
     let d = k - 1;
     let p = seq[d] as usize;
     let target = images[k];
-    match bounce_on(
+    let (i, w, q) = bounce_on(
         triangles,
         n,
         plane_floats,
@@ -202,26 +164,23 @@ pub fn back(
         p,
         prev,
         target,
-    ) {
-        Bounce::NotCrossed => failed(t, NOT_CROSSED),
-        Bounce::OffSurface => failed(t, OFF_SURFACE),
-        Bounce::On(i, w, q) => back(
-            triangles,
-            n,
-            plane_floats,
-            plane_words,
-            plane_triangles,
-            plane_edges,
-            count,
-            fade,
-            seq,
-            images,
-            order,
-            d,
-            q,
-            put(t, d, i, w, q),
-        ),
-    }
+    )?;
+    back(
+        triangles,
+        n,
+        plane_floats,
+        plane_words,
+        plane_triangles,
+        plane_edges,
+        count,
+        fade,
+        seq,
+        images,
+        order,
+        d,
+        q,
+        put(t, d, i, w, q),
+    )
 }
 
 // ---- the first bounce that fails
@@ -239,7 +198,7 @@ fn turn_on(
     p: usize,
     prev: Vec3,
     target: Vec3,
-) -> Turn
+) -> Result<Vec3, Lost>
     requires planes_lent { PlanesLent triangles.now n plane_floats.now plane_words.now plane_triangles.now plane_edges.now count }
     requires p_lt_count { p < count }
     ensures { (tri : ℕ → Triangle) (fade : Float) →
@@ -249,17 +208,17 @@ fn turn_on(
         prev target) }
 {
     let side = mirror::plane_at(plane_floats, plane_words, p);
-    let PlaneCrossing::At(b) = mirror::crossing(side, prev, target) else {
-        return Turn::NotCrossed;
+    let Some(b) = mirror::crossing(side, prev, target) else {
+        return Err(Lost::NotCrossed);
     };
     let plane = mirror::plane_at(plane_floats, plane_words, p);
-    let Spot::Inside(_, q) = mirror::surface(triangles, n, plane, plane_triangles, b) else {
-        return Turn::OffSurface;
+    let Some((_, q)) = mirror::surface(triangles, n, plane, plane_triangles, b) else {
+        return Err(Lost::OffSurface);
     };
-    Turn::On(q)
+    Ok(q)
 }
 
-// The fate of the bounces on the first `order` planes, whose images stand in `images`. Nothing is kept of them: of the sequences that a search
+// Whether all bounces on the first `order` planes are made, whose images stand in `images`. Nothing is kept of them: of the sequences that a search
 // visits nearly all fail here, most at the first or second bounce.
 pub fn fate_back(
     triangles: &[f32],
@@ -273,7 +232,7 @@ pub fn fate_back(
     images: &[f32],
     order: usize,
     listener: Vec3,
-) -> u32
+) -> Result<(), Lost>
     requires planes_lent { PlanesLent triangles.now n plane_floats.now plane_words.now plane_triangles.now plane_edges.now count }
     requires order_in_bounds { (order ≤ length seq.now) × (point_floats * order + point_floats ≤ length images.now) }
     requires by_index { (j : ℕ) → j < order → get_or seq.now j 0 < count }
@@ -289,7 +248,7 @@ pub fn fate_back(
         let target = mirror::vec_in(images, POINT_FLOATS * k);
         k -= 1;
         let p = seq[k] as usize;
-        match turn_on(
+        prev = turn_on(
             triangles,
             n,
             plane_floats,
@@ -300,11 +259,7 @@ pub fn fate_back(
             p,
             prev,
             target,
-        ) {
-            Turn::NotCrossed => return NOT_CROSSED,
-            Turn::OffSurface => return OFF_SURFACE,
-            Turn::On(q) => prev = q,
-        }
+        )?;
     }
-    MADE
+    Ok(())
 }

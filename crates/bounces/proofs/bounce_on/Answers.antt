@@ -1,45 +1,25 @@
 -- `bounces::bounce_on` meets its contract: the plane's row, its crossing and its point.
-use native.Mathlib.Omega.{arith}
+use mathlib.Core.Path.{sym, ◌∙◌}
+use Rattle.std.proofs.lemmas.Result.{err_from_is_err_and}
 use Rattle.mirror.specs.Rows.{tris_of, border_of}
 use Rattle.bounces.specs.Areas.{PlanesRead}
 use Rattle.bounces.specs.Bounces.{bounce_of}
-use Rattle.bounces.proofs.Laws.{plane_row}
+use Rattle.bounces.proofs.Laws.{plane_row, crossed_err, crossed_ok}
 use Rattle.bounces.proofs.bounce_on.Goals as goal
 
-pub plane_at-plane-requires : goal.plane_at-plane-requires
-plane_at-plane-requires c = (omega (arith, c.requires.planes_lent.held.floats_room, c.requires.p_lt_count), omega (arith, c.requires.planes_lent.held.words_room, c.requires.p_lt_count))
-
-pub returns-in_default : goal.returns-in_default
+pub returns-in_err-b : goal.returns-in_err-b
 unfolding bounce_of
-returns-in_default c = λ tri h.
+returns-in_err-b c = λ tri h.
+    let lost = err_from_is_err_and c.from_residual.result c.from_residual.ensures.1 in
     let a = c.args in
     let row = c.plane_at-plane.result in
     rw (
       plane_row a.plane_floats.now a.plane_words.now a.plane_triangles.now a.plane_edges.now a.count a.p c.requires.p_lt_count,
       ← c.plane_at-plane.ensures,
       ← c.crossing.ensures (tris_of row a.plane_triangles.now) (border_of row a.plane_edges.now),
-      c.in_default.is,
-    )
-
-pub locate_on_plane-requires : goal.locate_on_plane-requires
-locate_on_plane-requires c = record {
-  n_in_bounds = c.requires.planes_lent.columns_room;
-  runs_in = rw c.plane_at-plane.ensures (c.requires.planes_lent.held.runs _ c.requires.p_lt_count);
-}
-
-pub returns-in_default-locate_on_plane : goal.returns-in_default-locate_on_plane
-unfolding bounce_of PlanesRead
-returns-in_default-locate_on_plane c = λ tri h.
-    let a = c.args in
-    let row = c.plane_at-plane.result in
-    rw (
-      plane_row a.plane_floats.now a.plane_words.now a.plane_triangles.now a.plane_edges.now a.count a.p c.requires.p_lt_count,
-      ← c.plane_at-plane.ensures,
-      ← c.crossing.ensures (tris_of row a.plane_triangles.now) (border_of row a.plane_edges.now),
-      c.in-At.is,
-      ← c.locate_on_plane.ensures tri (rw c.plane_at-plane.ensures (h _ c.requires.p_lt_count)),
-      c.in_default-locate_on_plane.is,
-    )
+      lost.1,
+      lost.2,
+    ) (crossed_err _ c.crossing.result _ (sym c.ok_or.ensures.value ∙ c.in_err-b.was))
 
 pub returns : goal.returns
 unfolding bounce_of PlanesRead
@@ -50,10 +30,6 @@ returns c = λ tri h.
       plane_row a.plane_floats.now a.plane_words.now a.plane_triangles.now a.plane_edges.now a.count a.p c.requires.p_lt_count,
       ← c.plane_at-plane.ensures,
       ← c.crossing.ensures (tris_of row a.plane_triangles.now) (border_of row a.plane_edges.now),
-      c.in-At.is,
+      crossed_ok c.crossing.result _ (sym c.ok_or.ensures.value ∙ c.in_ok-b.was),
       ← c.locate_on_plane.ensures tri (rw c.plane_at-plane.ensures (h _ c.requires.p_lt_count)),
-      c.in-On.is,
-    )
-
-pub crossing-requires : goal.crossing-requires
-crossing-requires c = tt
+    ) c.ok_or-2.ensures.value

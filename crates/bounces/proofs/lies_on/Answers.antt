@@ -4,9 +4,6 @@ use Rattle.bounces.specs.Image.{lies_on_of}
 use Rattle.bounces.proofs.Laws.{plane_row}
 use Rattle.bounces.proofs.lies_on.Goals as goal
 
-pub plane_at-requires : goal.plane_at-requires
-plane_at-requires c = c.requires
-
 pub returns : goal.returns
 unfolding lies_on_of
 returns c = λ members edges count h.
@@ -16,9 +13,3 @@ returns c = λ members edges count h.
       ← c.signed_distance.ensures (tris_of c.plane_at.result members) (border_of c.plane_at.result edges),
       ← c.abs.ensures,
     )
-
-pub signed_distance-requires : goal.signed_distance-requires
-signed_distance-requires c = tt
-
-pub abs-requires : goal.abs-requires
-abs-requires c = tt

@@ -6,12 +6,6 @@ use Rattle.mirror.specs.Plane.{no_point}
 use Rattle.bounces.proofs.Laws.{slice_put}
 use Rattle.bounces.proofs.put.Goals as goal
 
-pub bounds-u-k : goal.bounds-u-k
-bounds-u-k c = omega (arith, c.requires.0, c.requires.1.points_room)
-
-pub bounds-u-k-2 : goal.bounds-u-k-2
-bounds-u-k-2 c = omega (arith, c.requires.0, c.requires.1.tris_room)
-
 pub returns : goal.returns
 returns c =
     let going = c.requires.1 in
@@ -20,7 +14,6 @@ returns c =
         record {
           points_room = simp length-set going.points_room;
           tris_room = simp length-set going.tris_room;
-          good = going.good;
         },
         refl,
       );

@@ -1,15 +1,11 @@
 -- `bounces::turn_on` meets its contract: the plane's row, its crossing and its spot.
 use mathlib.Core.Path.{◌≡◌, sym, ◌∙◌}
-use native.Mathlib.Omega.{arith}
-use Rattle.mirror.specs.Rows.{tris_of, border_of, RunsIn}
+use Rattle.mirror.specs.Rows.{tris_of, border_of}
 use Rattle.mirror.proofs.Laws.{locate_surface}
 use Rattle.bounces.specs.Areas.{PlanesRead}
 use Rattle.bounces.specs.Bounces.{bounce_of}
 use Rattle.bounces.proofs.Laws.{plane_row}
 use Rattle.bounces.proofs.turn_on.Goals as goal
-
-pub plane_at-side-requires : goal.plane_at-side-requires
-plane_at-side-requires c = (omega (arith, c.requires.planes_lent.held.floats_room, c.requires.p_lt_count), omega (arith, c.requires.planes_lent.held.words_room, c.requires.p_lt_count))
 
 pub returns-in_default : goal.returns-in_default
 unfolding bounce_of
@@ -24,17 +20,6 @@ returns-in_default c =
       c.in_default.is,
     )
 
-pub plane_at-plane-requires : goal.plane_at-plane-requires
-plane_at-plane-requires c =
-    (omega (arith, c.requires.planes_lent.held.floats_room, c.requires.p_lt_count), omega (arith, c.requires.planes_lent.held.words_room, c.requires.p_lt_count))
-
-pub surface-requires : goal.surface-requires
-surface-requires c =
-    let runs : RunsIn c.plane_at-plane.result c.args.n c.args.plane_triangles.now c.args.plane_edges.now = rw c.plane_at-plane.ensures (c.requires.planes_lent.held.runs _ c.requires.p_lt_count) in record {
-      n_in_bounds = c.requires.planes_lent.columns_room;
-      count_in_bounds = (runs.members_room, runs.below);
-    }
-
 pub returns-in_default-surface : goal.returns-in_default-surface
 unfolding bounce_of PlanesRead
 returns-in_default-surface c =
@@ -46,7 +31,7 @@ returns-in_default-surface c =
       plane_row a.plane_floats.now a.plane_words.now a.plane_triangles.now a.plane_edges.now a.count a.p c.requires.p_lt_count,
       ← c.plane_at-side.ensures,
       ← c.crossing.ensures (tris_of row a.plane_triangles.now) (border_of row a.plane_edges.now),
-      c.in-At.is,
+      c.in-Some.is,
       locate_surface,
       ← rw again at (c.surface.ensures tri (border_of row a.plane_edges.now) (rw c.plane_at-plane.ensures (h _ c.requires.p_lt_count))),
       c.in_default-surface.is,
@@ -63,11 +48,8 @@ returns c =
       plane_row a.plane_floats.now a.plane_words.now a.plane_triangles.now a.plane_edges.now a.count a.p c.requires.p_lt_count,
       ← c.plane_at-side.ensures,
       ← c.crossing.ensures (tris_of row a.plane_triangles.now) (border_of row a.plane_edges.now),
-      c.in-At.is,
+      c.in-Some.is,
       locate_surface,
       ← rw again at (c.surface.ensures tri (border_of row a.plane_edges.now) (rw c.plane_at-plane.ensures (h _ c.requires.p_lt_count))),
-      c.in-Inside.is,
+      c.in-Some-surface.is,
     )
-
-pub crossing-requires : goal.crossing-requires
-crossing-requires c = tt
