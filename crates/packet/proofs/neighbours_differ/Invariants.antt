@@ -1,7 +1,7 @@
 -- `packet::neighbours_differ` meets its contract: what is left to compare gives the same answer from each turn on.
 use Prim.Native.Nat.{◌≤◌, ◌-◌}
 use mathlib.Core.Path.{◌≡◌}
-use lib.ListN.{length, drop}
+use lib.ListN.{drop}
 use Rattle.packet.specs.Helpers.{none_repeats}
 use Rattle.packet.proofs.neighbours_differ.Given as goal
 
