@@ -4,7 +4,7 @@
 // the other's is read.
 #![tactic(auto)]
 
-ghost use Rattle.std.specs.Prelude.{◌+◌, ◌≤◌, ◌≡◌, length, replicate};
+ghost use Rattle.std.specs.Prelude.{◌+◌, ◌≤◌, ◌≡◌, length, replicate, true};
 ghost use Rattle.std.specs.Float.{nan};
 ghost use Rattle.float.specs.Literals.{zero32};
 ghost use Rattle.clearing.specs.Zero.{Zeros, ZeroFloats, SceneZero};
@@ -18,7 +18,55 @@ const QUARTER: usize = 16;
 // Of both runs.
 const PAIR: usize = 128;
 
-// ---- u64
+// ---- any element
+
+// What an area is cleared to, and a test of two runs of it at once.
+trait Clear: Copy {
+    ghost zero: { Self };
+
+    // What is read of an area past its end.
+    ghost past: { Self };
+
+    fn zero() -> Self
+        ensures { result ≡ zero };
+
+    // True only where the 64 from `near` on and the 64 from `far` on are zero.
+    fn are_zero(area: &[Self], near: usize, far: usize) -> bool
+        requires { (near + 64 ≤ length area.now) × (far + 64 ≤ length area.now) }
+        ensures { result ≡ true → Run zero past area.now near 64 × Run zero past area.now far 64 };
+}
+
+fn blank<T: Clear>(area: &mut [T], from: usize, to: usize)
+    requires { (from ≤ to) × (to ≤ length area.old) }
+    ensures { Wiped T.zero T.past area.old area.new from to }
+{
+    for i in from..to {
+        area[i] = T::zero();
+    }
+}
+
+fn wipe_both<T: Clear>(area: &mut [T], near: usize, far: usize)
+    requires { (near + 64 ≤ length area.old) × (far + 64 ≤ length area.old) }
+    ensures { WipedBoth T.zero T.past area.old area.new near far }
+{
+    if T::are_zero(area, near, far) {
+        return;
+    }
+    blank(area, near, near + SPAN);
+    blank(area, far, far + SPAN);
+}
+
+fn wipe<T: Clear>(area: &mut [T])
+    ensures { area.new ≡ replicate (length area.old) T.zero }
+{
+    let m = area.len() / PAIR;
+    for k in 0..m {
+        wipe_both(area, SPAN * k, SPAN * (m + k));
+    }
+    blank(area, PAIR * m, area.len());
+}
+
+// ---- u64: `|` of a type parameter says nothing of the bits, so the whole numbers have a test each
 
 // Zero only where the 64 from `near` on and the 64 from `far` on are.
 fn marks_u64(area: &[u64], near: usize, far: usize) -> u64
@@ -32,34 +80,18 @@ fn marks_u64(area: &[u64], near: usize, far: usize) -> u64
     marks
 }
 
-fn blank_u64(area: &mut [u64], from: usize, to: usize)
-    requires { (from ≤ to) × (to ≤ length area.old) }
-    ensures { Wiped 0 0 area.old area.new from to }
-{
-    for i in from..to {
-        area[i] = 0;
-    }
-}
+impl Clear for u64 {
+    ghost zero = { 0 };
 
-fn wipe_both_u64(area: &mut [u64], near: usize, far: usize)
-    requires { (near + 64 ≤ length area.old) × (far + 64 ≤ length area.old) }
-    ensures { WipedBoth 0 0 area.old area.new near far }
-{
-    if marks_u64(area, near, far) == 0 {
-        return;
-    }
-    blank_u64(area, near, near + SPAN);
-    blank_u64(area, far, far + SPAN);
-}
+    ghost past = { 0 };
 
-fn wipe_u64(area: &mut [u64])
-    ensures { area.new ≡ replicate (length area.old) 0 }
-{
-    let m = area.len() / PAIR;
-    for k in 0..m {
-        wipe_both_u64(area, SPAN * k, SPAN * (m + k));
+    fn zero() -> u64 {
+        0
     }
-    blank_u64(area, PAIR * m, area.len());
+
+    fn are_zero(area: &[u64], near: usize, far: usize) -> bool {
+        marks_u64(area, near, far) == 0
+    }
 }
 
 // ---- u32
@@ -76,34 +108,18 @@ fn marks_u32(area: &[u32], near: usize, far: usize) -> u32
     marks
 }
 
-fn blank_u32(area: &mut [u32], from: usize, to: usize)
-    requires { (from ≤ to) × (to ≤ length area.old) }
-    ensures { Wiped 0 0 area.old area.new from to }
-{
-    for i in from..to {
-        area[i] = 0;
-    }
-}
+impl Clear for u32 {
+    ghost zero = { 0 };
 
-fn wipe_both_u32(area: &mut [u32], near: usize, far: usize)
-    requires { (near + 64 ≤ length area.old) × (far + 64 ≤ length area.old) }
-    ensures { WipedBoth 0 0 area.old area.new near far }
-{
-    if marks_u32(area, near, far) == 0 {
-        return;
-    }
-    blank_u32(area, near, near + SPAN);
-    blank_u32(area, far, far + SPAN);
-}
+    ghost past = { 0 };
 
-fn wipe_u32(area: &mut [u32])
-    ensures { area.new ≡ replicate (length area.old) 0 }
-{
-    let m = area.len() / PAIR;
-    for k in 0..m {
-        wipe_both_u32(area, SPAN * k, SPAN * (m + k));
+    fn zero() -> u32 {
+        0
     }
-    blank_u32(area, PAIR * m, area.len());
+
+    fn are_zero(area: &[u32], near: usize, far: usize) -> bool {
+        marks_u32(area, near, far) == 0
+    }
 }
 
 // ---- f32
@@ -143,34 +159,18 @@ fn marks_f32(area: &[f32], near: usize, far: usize) -> u32
     marks
 }
 
-fn blank_f32(area: &mut [f32], from: usize, to: usize)
-    requires { (from ≤ to) × (to ≤ length area.old) }
-    ensures { Wiped zero32 nan area.old area.new from to }
-{
-    for i in from..to {
-        area[i] = 0.0;
-    }
-}
+impl Clear for f32 {
+    ghost zero = { zero32 };
 
-fn wipe_both_f32(area: &mut [f32], near: usize, far: usize)
-    requires { (near + 64 ≤ length area.old) × (far + 64 ≤ length area.old) }
-    ensures { WipedBoth zero32 nan area.old area.new near far }
-{
-    if marks_f32(area, near, far) == 0 {
-        return;
-    }
-    blank_f32(area, near, near + SPAN);
-    blank_f32(area, far, far + SPAN);
-}
+    ghost past = { nan };
 
-fn wipe_f32(area: &mut [f32])
-    ensures { area.new ≡ replicate (length area.old) zero32 }
-{
-    let m = area.len() / PAIR;
-    for k in 0..m {
-        wipe_both_f32(area, SPAN * k, SPAN * (m + k));
+    fn zero() -> f32 {
+        0.0
     }
-    blank_f32(area, PAIR * m, area.len());
+
+    fn are_zero(area: &[f32], near: usize, far: usize) -> bool {
+        marks_f32(area, near, far) == 0
+    }
 }
 
 // ---- the areas
@@ -178,35 +178,35 @@ fn wipe_f32(area: &mut [f32])
 pub fn clear_keys(keys: &mut [u64], low_keys: &mut [u64], words: &mut [u64], scratch: &mut [u64])
     ensures { Zeros keys.new × Zeros low_keys.new × Zeros words.new × Zeros scratch.new }
 {
-    wipe_u64(keys);
-    wipe_u64(low_keys);
-    wipe_u64(words);
-    wipe_u64(scratch);
+    wipe(keys);
+    wipe(low_keys);
+    wipe(words);
+    wipe(scratch);
 }
 
 pub fn clear_lists(a: &mut [u32], b: &mut [u32], c: &mut [u32], d: &mut [u32], e: &mut [u32])
     ensures { Zeros a.new × Zeros b.new × Zeros c.new × Zeros d.new × Zeros e.new }
 {
-    wipe_u32(a);
-    wipe_u32(b);
-    wipe_u32(c);
-    wipe_u32(d);
-    wipe_u32(e);
+    wipe(a);
+    wipe(b);
+    wipe(c);
+    wipe(d);
+    wipe(e);
 }
 
 pub fn clear_pair(a: &mut [u32], b: &mut [u32])
     ensures { Zeros a.new × Zeros b.new }
 {
-    wipe_u32(a);
-    wipe_u32(b);
+    wipe(a);
+    wipe(b);
 }
 
 pub fn clear_floats(a: &mut [f32], b: &mut [f32], c: &mut [f32])
     ensures { ZeroFloats a.new × ZeroFloats b.new × ZeroFloats c.new }
 {
-    wipe_f32(a);
-    wipe_f32(b);
-    wipe_f32(c);
+    wipe(a);
+    wipe(b);
+    wipe(c);
 }
 
 // The areas of the triangles and their tree.
@@ -219,9 +219,9 @@ pub fn clear_scene(
 )
     ensures { SceneZero triangles.new handles.new tree.new nodes.new leaf_order.new }
 {
-    wipe_f32(triangles);
-    wipe_u32(handles);
-    wipe_f32(tree);
-    wipe_u32(nodes);
-    wipe_u32(leaf_order);
+    wipe(triangles);
+    wipe(handles);
+    wipe(tree);
+    wipe(nodes);
+    wipe(leaf_order);
 }

@@ -260,12 +260,10 @@ fn name_groups(queue: &[u32], offsets: &[u32], np: usize, ng: usize, group_of: &
     ensures by_index_2 { (p : ℕ) → get_or group_of.new p 0 ≤ ng }
 {
     group_of.fill(0);
-    let mut g = 0;
-    while g < ng {
+    for g in 0..ng {
         let from = offsets[g] as usize;
         let to = offsets[g + 1] as usize;
-        g += 1;
-        name_group(&queue[from..to], g as u32, group_of);
+        name_group(&queue[from..to], (g + 1) as u32, group_of);
     }
 }
 

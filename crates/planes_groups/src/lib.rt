@@ -122,11 +122,9 @@ fn each_alone(order: &[u32], np: usize, queue: &mut [u32], offsets: &mut [u32])
     ensures np_after { groups_in queue.new offsets.new np ≡ map (λ p. p ∷ []) (take np order.now) }
 {
     offsets[0] = 0;
-    let mut i = 0;
-    while i < np {
+    for i in 0..np {
         queue[i] = order[i];
-        i += 1;
-        offsets[i] = i as u32;
+        offsets[i + 1] = (i + 1) as u32;
     }
 }
 
@@ -201,16 +199,12 @@ fn is_within(
     ensures { result ≡ all_by (λ i. all_by (lies_near normal offset most) (corners_of (triangle_at_of triangles.now handles.now n i)))
         (lows tris.now) }
 {
-    let count = tris.len();
-    let mut i = 0;
-    while i < count {
-        let at = (tris[i] % MOST_TRIANGLES) as usize;
+    for tri in tris {
+        let at = (*tri % MOST_TRIANGLES) as usize;
         let t = columns::triangle_at(triangles, handles, n, at);
-        if is_triangle_near(t, normal, offset, most) {
-            i += 1;
-            continue;
+        if !is_triangle_near(t, normal, offset, most) {
+            return false;
         }
-        return false;
     }
     true
 }
@@ -286,23 +280,21 @@ fn let_in(
         LetIn np (takes_in triangles.now handles.now n rows.now tsorted.now tstarts.now least most seed)
         adj assigned.old queue.old from assigned.new queue.new result }
 {
-    let count = row.len();
     let mut tail = from;
-    let mut i = 0;
-    while i < count {
-        let q = row[i] % MOST_TRIANGLES;
+    for patch in row {
+        let q = *patch % MOST_TRIANGLES;
         let at = q as usize;
-        i += 1;
         if assigned[at] != 0 {
             continue;
         }
-        if takes(
+        if !takes(
             triangles, handles, n, rows, np, tsorted, tstarts, least, most, seed, at,
         ) {
-            assigned[at] = mark;
-            queue[tail] = q;
-            tail += 1;
+            continue;
         }
+        assigned[at] = mark;
+        queue[tail] = q;
+        tail += 1;
     }
     tail
 }
@@ -343,6 +335,7 @@ fn grow(
 {
     let mut head = from;
     let mut tail = to;
+    // Each turn can lengthen the queue, so no `for`.
     while head < tail {
         let p = queue[head] as usize;
         head += 1;
@@ -462,10 +455,8 @@ fn grow_groups(
     offsets[0] = 0;
     let mut ng = 0;
     let mut tail = 0;
-    let mut i = 0;
-    while i < np {
+    for i in 0..np {
         let s = order[i];
-        i += 1;
         if assigned[s as usize] != 0 {
             continue;
         }

@@ -43,13 +43,10 @@ fn compact(words: &[u64], sorted: &mut [u32]) -> usize
     ensures upper_bound { result ≤ length words.now }
     ensures sorted_after { take result sorted.new ≡ dedup (map upper words.now) }
 {
-    let n = words.len();
     let mut last: u64 = 0x1_0000_0000;
     let mut k = 0;
-    let mut i = 0;
-    while i < n {
-        let w = words[i] >> 32;
-        i += 1;
+    for word in words {
+        let w = *word >> 32;
         if w == last {
             continue;
         }
@@ -84,6 +81,7 @@ fn row_starts(sorted: &[u32], rows: usize, offsets: &mut [u32])
 {
     let mut r = 0;
     let mut i = 0;
+    // A turn takes a step in one of two lists, so no `for`.
     while r <= rows {
         if is_before(sorted, i, r * ROW) {
             i += 1;
@@ -146,11 +144,9 @@ fn patch_words(of: &[u32], m: usize, np: u32, words: &mut [u64]) -> usize
     ensures by_index { (p t : ℕ) → t < most_triangles → has (word_of p t) (uppers words.new result) ≡ any_by (λ i. eqb t i && is_of of.now np p i) (up_to m) }
 {
     let mut k = 0;
-    let mut i = 0;
-    while i < m {
+    for i in 0..m {
         let p = of[i];
         let t = i as u32;
-        i += 1;
         if p >= np {
             continue;
         }
@@ -207,13 +203,11 @@ fn vertex_words(
         has (word_of v q) (uppers words.new result) ≡ any_by (has_corner numbers.now n of.now np v q) (up_to m) }
 {
     let mut k = 0;
-    let mut i = 0;
-    while i < m {
+    for i in 0..m {
         let p = of[i];
         let a = numbers[i];
         let b = numbers[n + i];
         let c = numbers[2 * n + i];
-        i += 1;
         if p >= np {
             continue;
         }
@@ -232,12 +226,9 @@ fn link_from(p: u32, row: &[u32], words: &mut [u64], from: usize) -> usize
     ensures by_index { (a b : ℕ) → b < most_triangles →
         has (word_of a b) (uppers words.new result) ≡ has (word_of a b) (uppers words.old from) || links_from p (lows row.now) a b }
 {
-    let n = row.len();
     let mut k = from;
-    let mut j = 0;
-    while j < n {
-        let q = row[j] % MOST_TRIANGLES;
-        j += 1;
+    for patch in row {
+        let q = *patch % MOST_TRIANGLES;
         if q == p {
             continue;
         }
@@ -255,8 +246,8 @@ fn link_all(row: &[u32], words: &mut [u64], from: usize) -> usize
         has (word_of a b) (uppers words.new result) ≡ has (word_of a b) (uppers words.old from) || links_all (lows row.now) a b }
 {
     let mut k = from;
-    for i in 0..row.len() {
-        let p = row[i] % MOST_TRIANGLES;
+    for patch in row {
+        let p = *patch % MOST_TRIANGLES;
         k = link_from(p, row, words, k);
     }
     k

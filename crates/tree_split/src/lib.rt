@@ -92,9 +92,7 @@ fn suffix_areas(extents: &[f32], n: usize, part: &[u32], areas: &mut [f32])
         get_or areas.new k nan ≡ surface_area_of (suffix_of (aabb_at_of extents.now) (drop k part.now)) }
 {
     let mut acc = geometry::new_empty();
-    let mut i = part.len();
-    while i > 0 {
-        i -= 1;
+    for i in (0..part.len()).rev() {
         let t = part[i] as usize;
         acc = geometry::union(acc, aabb_at(extents, t));
         areas[i] = geometry::surface_area(acc);
@@ -144,15 +142,14 @@ fn sweep(
     let m = part.len();
     let mut acc = geometry::new_empty();
     let mut s = c;
-    let mut k = 0;
-    while k + 1 < m {
+    for k in 0..m - 1 {
         let t = part[k] as usize;
         acc = geometry::union(acc, aabb_at(extents, t));
-        k += 1;
+        let left = k + 1;
         s = better(
-            cost(geometry::surface_area(acc), areas[k], k, m),
+            cost(geometry::surface_area(acc), areas[left], left, m),
             axis,
-            k,
+            left,
             s,
         );
     }

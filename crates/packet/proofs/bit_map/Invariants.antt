@@ -7,6 +7,3 @@ use Rattle.packet.proofs.bit_map.Given as goal
 
 abbrev pub invariant-loop-k : goal.invariant-loop-k
 invariant-loop-k l = (l.k ≤ 8) × (l.m ≡ bits_of_gains (window l.at l.k l.taps))
-
-abbrev pub decreases-loop-k : goal.decreases-loop-k
-decreases-loop-k l = l.k

@@ -22,7 +22,6 @@ offset_bounds-area-at c = omega (arith, c.well_formed, c.requires, c.loop-k-test
 pub bounds-area-at : goal.bounds-area-at
 bounds-area-at c = omega (arith, c.requires, c.loop-k-test.true, c.loop-k.invariant.len)
 
-
 pub loop-k-preserved : goal.loop-k-preserved
 loop-k-preserved c = copied_more _ _ _ _ _ _ _ c.loop-k.invariant c.loop-k-test.true c.requires refl
 

@@ -1,5 +1,4 @@
 -- `planes_fit::copy_f32` meets its contract: the values so far stand in the area.
-use lib.ListN.{length}
 use lib.Ieee.{nan}
 use Rattle.planes_fit.proofs.Copying.{Copied}
 use Rattle.planes_fit.proofs.copy_f32.Given as goal

@@ -1,5 +1,4 @@
 -- `planes_fit::copy_u32` meets its contract: the values so far stand in the area.
-use lib.ListN.{length}
 use Rattle.planes_fit.proofs.Copying.{Copied}
 use Rattle.planes_fit.proofs.copy_u32.Given as goal
 

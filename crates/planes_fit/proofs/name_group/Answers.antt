@@ -18,7 +18,6 @@ pub bounds-group_of-p : goal.bounds-group_of-p
 unfolding Below
 bounds-group_of-p c = omega (arith, c.requires _ c.loop-k-test.true, c.loop-k.invariant.len)
 
-
 pub loop-k-preserved : goal.loop-k-preserved
 loop-k-preserved c = named_more _ _ _ _ _ c.loop-k.invariant c.loop-k-test.true c.requires
 

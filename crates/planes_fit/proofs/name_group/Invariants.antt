@@ -1,5 +1,4 @@
 -- `planes_fit::name_group` meets its contract: the patches so far have the number.
-use lib.ListN.{length}
 use Rattle.planes_fit.proofs.Naming.{Named}
 use Rattle.planes_fit.proofs.name_group.Given as goal
 

@@ -19,7 +19,6 @@ offset_bounds-plane_of-t c =
 pub bounds-plane_of-t : goal.bounds-plane_of-t
 bounds-plane_of-t c = omega (arith, c.requires.m_in_bounds, c.requires.m_in_bounds_2, c.loop-t-test.true, c.loop-t.invariant.len)
 
-
 pub loop-t-preserved : goal.loop-t-preserved
 loop-t-preserved c =
     planed_more _ _ _ _ _ _ _ c.loop-t.invariant c.loop-t-test.true (omega (arith, c.requires.m_in_bounds, c.requires.m_in_bounds_2, c.loop-t-test.true)) (omega (

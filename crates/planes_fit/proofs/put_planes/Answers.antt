@@ -129,7 +129,6 @@ put_plane-requires c =
           c.plane_row-r.ensures (omega arith) (omega arith);
     }
 
-
 pub loop-g-preserved : goal.loop-g-preserved
 unfolding plane_row_in
 loop-g-preserved c = placed_more _ _ _ _ _ _ _ _ _ c.loop-g.invariant c.loop-g-test.true c.put_plane.auto.plane_floats

@@ -13,7 +13,6 @@ pub triangle_at-requires : goal.triangle_at-requires
 unfolding Below
 triangle_at-requires c = let p = c.requires in (p.n_in_bounds, p.n_in_bounds_2, p.below _ c.loop-k-test.true)
 
-
 pub loop-k-preserved : goal.loop-k-preserved
 loop-k-preserved c = rw (c.reach-s.ensures, c.triangle_at.ensures) (sym (fold_step _ _ _ _ c.loop-k-test.true) ∙ c.loop-k.invariant)
 

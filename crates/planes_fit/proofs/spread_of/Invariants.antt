@@ -1,7 +1,7 @@
 -- `planes_fit::spread_of` meets its contract: the triangles from here on give what all give.
 use mathlib.Core.Path.{◌≡◌}
 use mathlib.Core.List.{foldl}
-use lib.ListN.{drop, length}
+use lib.ListN.{drop}
 use Rattle.columns.specs.Columns.{triangle_at_of}
 use Rattle.planes_fit.specs.Fit.{reach_of}
 use Rattle.planes_fit.proofs.spread_of.Given as goal

@@ -12,7 +12,6 @@ pub row_at-requires : goal.row_at-requires
 unfolding Below
 row_at-requires c = let p = c.requires in let b = p.below _ c.loop-k-test.true in omega (arith, p.np_in_bounds, b)
 
-
 pub loop-k-preserved : goal.loop-k-preserved
 loop-k-preserved c = rw (c.add_patch-s.ensures, c.row_at.ensures) (sym (fold_step _ _ _ _ c.loop-k-test.true) ∙ c.loop-k.invariant)
 

@@ -1,7 +1,7 @@
 -- `planes_fit::sums_of` meets its contract: the patches from here on give what all give.
 use mathlib.Core.Path.{◌≡◌}
 use mathlib.Core.List.{foldl}
-use lib.ListN.{drop, length}
+use lib.ListN.{drop}
 use Rattle.planes_patches.specs.Rows.{row_in}
 use Rattle.planes_fit.specs.Rows.{summed_of}
 use Rattle.planes_fit.proofs.sums_of.Given as goal

@@ -6,7 +6,6 @@ use Rattle.planes_fit.proofs.unpack.Goals as goal
 pub loop-i-init : goal.loop-i-init
 loop-i-init c = unpacked_none _
 
-
 pub loop-i-preserved : goal.loop-i-preserved
 loop-i-preserved c = unpacked_more _ _ _ c.loop-i.invariant (omega (arith, c.loop-i.invariant.len, c.loop-i-test.true))
 

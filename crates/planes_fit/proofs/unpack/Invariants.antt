@@ -1,5 +1,4 @@
 -- `planes_fit::unpack` meets its contract: the words so far are done.
-use lib.ListN.{length}
 use Rattle.planes_fit.proofs.Naming.{Unpacked}
 use Rattle.planes_fit.proofs.unpack.Given as goal
 

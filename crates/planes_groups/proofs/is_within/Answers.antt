@@ -12,37 +12,34 @@ use Rattle.planes_links.proofs.Linking.{low_at_lem, lows_length}
 use Rattle.planes_groups.proofs.Taking.{all_next, all_stop, all_end, low_below}
 use Rattle.planes_groups.proofs.is_within.Goals as goal
 
-pub loop-i-init : goal.loop-i-init
-loop-i-init c = (omega arith, refl)
-
-pub bounds-tris-i : goal.bounds-tris-i
-bounds-tris-i c = c.loop-i-test.true
+pub loop-tri-init : goal.loop-tri-init
+loop-tri-init c = (omega arith, refl)
 
 pub triangle_at-t-requires : goal.triangle_at-t-requires
 triangle_at-t-requires c =
-    (c.requires.n_in_bounds.0, c.requires.n_in_bounds.1, low_below c.args.n c.args.tris.now c.loop-i.i c.requires.below c.loop-i-test.true)
+    (c.requires.n_in_bounds.0, c.requires.n_in_bounds.1, low_below c.args.n c.args.tris.now c.loop-tri.tri-index c.requires.below c.loop-tri-test.true)
 
-pub loop-i-preserved : goal.loop-i-preserved
-loop-i-preserved c =
+pub loop-tri-preserved : goal.loop-tri-preserved
+loop-tri-preserved c =
     let a = c.args in
     let f : ℕ → Bool = λ t. all_by (lies_near a.normal a.offset a.most) (corners_of (triangle_at_of a.triangles.now a.handles.now a.n t)) in (
       omega arith,
-      all_next f (lows a.tris.now) c.loop-i.i (rw (lows_length a.tris.now) c.loop-i-test.true)
-          (ap f (low_at_lem a.tris.now c.loop-i.i) ∙ rw (← c.triangle_at-t.ensures, ← c.is_triangle_near.ensures) c.if-is_triangle_near.true) ∙ c.loop-i.invariant.1,
+      all_next f (lows a.tris.now) c.loop-tri.tri-index (rw (lows_length a.tris.now) c.loop-tri-test.true)
+          (ap f (low_at_lem a.tris.now c.loop-tri.tri-index) ∙ rw (← c.triangle_at-t.ensures, ← c.is_triangle_near.ensures) c.if-not-is_triangle_near.false) ∙ c.loop-tri.invariant.1,
     )
 
-pub returns-in-loop-i : goal.returns-in-loop-i
-returns-in-loop-i c =
+pub returns-then-not-is_triangle_near : goal.returns-then-not-is_triangle_near
+returns-then-not-is_triangle_near c =
     let a = c.args in
     let f : ℕ → Bool = λ t. all_by (lies_near a.normal a.offset a.most) (corners_of (triangle_at_of a.triangles.now a.handles.now a.n t)) in
-    all_stop f (lows a.tris.now) c.loop-i.i (rw (lows_length a.tris.now) c.loop-i-test.true)
-    (ap f (low_at_lem a.tris.now c.loop-i.i) ∙ rw (← c.triangle_at-t.ensures, ← c.is_triangle_near.ensures) c.if-is_triangle_near.false) ∙ c.loop-i.invariant.1
+    all_stop f (lows a.tris.now) c.loop-tri.tri-index (rw (lows_length a.tris.now) c.loop-tri-test.true)
+    (ap f (low_at_lem a.tris.now c.loop-tri.tri-index) ∙ rw (← c.triangle_at-t.ensures, ← c.is_triangle_near.ensures) c.if-not-is_triangle_near.true) ∙ c.loop-tri.invariant.1
 
 pub returns : goal.returns
 returns c =
     let a = c.args in
     let f : ℕ → Bool = λ t. all_by (lies_near a.normal a.offset a.most) (corners_of (triangle_at_of a.triangles.now a.handles.now a.n t)) in
-    all_end f (lows a.tris.now) c.loop-i.i (rw (lows_length a.tris.now) c.loop-i-test.false) ∙ c.loop-i.invariant.1
+    all_end f (lows a.tris.now) c.loop-tri.tri-index (rw (lows_length a.tris.now) c.loop-tri-test.false) ∙ c.loop-tri.invariant.1
 
 pub is_triangle_near-requires : goal.is_triangle_near-requires
 is_triangle_near-requires c = tt

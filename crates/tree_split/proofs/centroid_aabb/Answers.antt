@@ -17,7 +17,6 @@ pub centroid_at-requires : goal.centroid_at-requires
 unfolding Below
 centroid_at-requires c = let p = c.requires.n_in_bounds in let h = c.requires.below c.loop-i.i c.loop-i-test.true in omega arith
 
-
 pub loop-i-preserved : goal.loop-i-preserved
 loop-i-preserved c = (omega arith, rw (c.union-acc.ensures, c.from_point.ensures, c.centroid_at.ensures, c.loop-i.invariant.1) (sym (law.bounds_step _ _ c.loop-i.i c.loop-i-test.true)))
 

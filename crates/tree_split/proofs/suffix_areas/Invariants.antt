@@ -11,6 +11,3 @@ abbrev pub invariant-loop-i : goal.invariant-loop-i
 invariant-loop-i l =
     (l.i ≤ length l.part) × (length l.areas ≡ length l.initial.areas) × (l.acc ≡ suffix_of (aabb_at_of l.extents) (drop l.i l.part))
     × ((k : ℕ) → l.i ≤ k → k < length l.part → get_or l.areas k nan ≡ surface_area_of (suffix_of (aabb_at_of l.extents) (drop k l.part)))
-
-abbrev pub decreases-loop-i : goal.decreases-loop-i
-decreases-loop-i l = l.i

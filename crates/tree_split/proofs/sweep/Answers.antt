@@ -24,15 +24,15 @@ unfolding Below
 aabb_at-requires c =
     let p = c.requires.n_in_bounds in let h = c.requires.below c.loop-k.k (omega arith) in omega arith
 
-pub overflow_add-k-in-loop-k : goal.overflow_add-k-in-loop-k
-overflow_add-k-in-loop-k c = omega (arith, c.well_formed.1.1.1.0.0, c.loop-k-test.true)
+pub overflow_add-left : goal.overflow_add-left
+overflow_add-left c = omega (arith, c.well_formed.1.1.1.0.0, c.loop-k-test.true)
 
-pub offset_bounds-areas-k : goal.offset_bounds-areas-k
-offset_bounds-areas-k c =
+pub offset_bounds-areas-left : goal.offset_bounds-areas-left
+offset_bounds-areas-left c =
     let g = c.well_formed.1.1.1.1.0 in let i = c.loop-k.invariant.0 in let p = c.requires.part_in_bounds in let t = c.loop-k-test.true in scaled_Fits (c.loop-k.k + 1) (length c.args.areas.now) 4 (omega arith) (omega (arith, c.well_formed.1.1.1.1.0.0))
 
-pub bounds-areas-k : goal.bounds-areas-k
-bounds-areas-k c = let p = c.requires.part_in_bounds in let t = c.loop-k-test.true in omega arith
+pub bounds-areas-left : goal.bounds-areas-left
+bounds-areas-left c = let p = c.requires.part_in_bounds in let t = c.loop-k-test.true in omega arith
 
 pub cost-requires : goal.cost-requires
 cost-requires c = let p = c.requires.part_nonzero in let t = c.loop-k-test.true in omega arith

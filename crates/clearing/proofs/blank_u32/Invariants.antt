@@ -1,9 +1,0 @@
--- `clearing::blank_u32` meets its contract: what lies before i became zero, and what was zero stays so.
-use Prim.Native.Nat.{◌≤◌}
-use mathlib.Core.Path.{◌≡◌}
-use lib.ListN.{length}
-use Rattle.clearing.specs.Runs.{Wiped}
-use Rattle.clearing.proofs.blank_u32.Given as goal
-
-abbrev pub invariant-loop-i : goal.invariant-loop-i
-invariant-loop-i l = (l.i ≤ l.to) × (length l.area ≡ length l.initial.area) × Wiped 0 0 l.initial.area l.area l.from l.i
