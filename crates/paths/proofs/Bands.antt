@@ -16,8 +16,8 @@ use Rattle.bands.specs.declared.Band8.{Band8}
 use Rattle.bands.specs.declared.DistanceModel.{DistanceModel}
 use Rattle.bands.specs.Band8.{splat_of, zeros_of, mul_of, scale_of}
 use Rattle.bands.specs.Distance.{gain_of}
-use Rattle.tree_trace.specs.declared.Hit.{Hit}
-use Rattle.tree_trace.specs.declared.Hit.TheVariants.{Nothing, At}
+use Rattle.tree_trace.specs.declared.RayHit.{RayHit}
+use Rattle.std.specs.Prelude.{Option, None, Some}
 use Rattle.segments.specs.declared.Transmission.{Transmission}
 use Rattle.segments.specs.Materials.{clamped_of, transmission_of_handle, coefficient_of, coefficients_of, reflection_of_handle}
 use Rattle.segments.specs.Segment.{visibility_rays, probe_count, transmission, segment_ray_of, after_of, occlusion_eps, walk_of, segment_transmission_of, offset_of, mid_of, add_part_of, probe_of, probes_of, segment_soft_transmission_of}
@@ -132,14 +132,14 @@ reflection8 materials handle =
 
 -- ---- segments
 
-module _ (trace : Ray → Hit) (pass : ℕ → Band8) (all : (h : ℕ) → NotNegative8 (pass h)) where
+module _ (trace : Ray → Option RayHit) (pass : ℕ → Band8) (all : (h : ℕ) → NotNegative8 (pass h)) where
   turn8 :
       (on : Vec3 → Float → Band8 → Transmission) (r : Float) (g : Band8) (n : ℕ) →
       ((p : Vec3) (x : Float) (f : Band8) → NotNegative8 f → NotNegative8 (on p x f).gain) → NotNegative8 g →
-      (b : Bool) (h : Hit) → NotNegative8 (cond b (after_of pass on r g n h) (transmission g n)).gain
+      (b : Bool) (h : Option RayHit) → NotNegative8 (cond b (after_of pass on r g n h) (transmission g n)).gain
   turn8 on r g n more k false h = k
-  turn8 on r g n more k true Nothing = k
-  turn8 on r g n more k true (At h) = more h.point (sub binary32 r h.distance) (mul_of g (pass h.material_handle)) (mul8 g (pass h.material_handle) k (all h.material_handle))
+  turn8 on r g n more k true None = k
+  turn8 on r g n more k true (Some h) = more h.point (sub binary32 r h.distance) (mul_of g (pass h.material_handle)) (mul8 g (pass h.material_handle) k (all h.material_handle))
 
   walk8 : (dir : Vec3) (left : ℕ) (o : Vec3) (r : Float) (g : Band8) (n : ℕ) → NotNegative8 g → NotNegative8 (walk_of trace pass dir left o r g n).gain
   unfolding walk_of

@@ -18,10 +18,10 @@ use Rattle.segments.specs.Materials.{transmission_of_handle}
 use Rattle.segments.specs.Segment.{segment_soft_transmission_of}
 use Rattle.segments.specs.Areas.{trace_in}
 use Rattle.segments.proofs.Laws.{soft_bound}
-use Rattle.bounces.specs.declared.Bounce.{Bounce}
-use Rattle.bounces.specs.declared.Bounce.TheVariants.{NotCrossed, OffSurface, On}
+use Rattle.bounces.specs.declared.Lost.TheVariants.{NotCrossed, OffSurface}
+use Rattle.std.specs.Prelude.{Ok, Err}
 use Rattle.bounces.specs.Image.{image_of, image_at}
-use Rattle.bounces.specs.Bounces.{bounce_of, Bounces, not_crossed, off_surface, made, then_of, back_of, plane_on, bounces_of}
+use Rattle.bounces.specs.Bounces.{Bounce, bounce_of, Bounces, not_crossed, off_surface, made, then_of, back_of, plane_on, bounces_of}
 use Rattle.paths.specs.declared.Way.{Way}
 use Rattle.paths.specs.declared.Fate.TheVariants.{TooFar}
 use Rattle.paths.specs.Visibility.{start_of, go_of, go_all_of, way_of}
@@ -35,9 +35,9 @@ Long n off_surface = Unit {0}
 Long n (made points tris weight) = length points ≡ n
 
 then_long : (n : ℕ) (f : ℕ → Float → Vec3 → Bounces) (b : Bounce) → ((i : ℕ) (w : Float) (q : Vec3) → Long n (f i w q)) → Long n (then_of f b)
-then_long n f NotCrossed all = tt
-then_long n f OffSurface all = tt
-then_long n f (On i w q) all = all i w q
+then_long n f (Err NotCrossed) all = tt
+then_long n f (Err OffSurface) all = tt
+then_long n f (Ok (i, w, q)) all = all i w q
 
 pub back_long :
     (tri : ℕ → Triangle) (fade : Float) (plane : ℕ → Plane) (image : ℕ → Vec3) (k : ℕ) (prev : Vec3) (weight : Float) (ps : List Vec3) (is : List ℕ) (n : ℕ) →

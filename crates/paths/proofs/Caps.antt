@@ -24,22 +24,14 @@ use Rattle.bands.specs.declared.Band8.{Band8}
 use Rattle.bands.specs.declared.DistanceModel.{DistanceModel}
 use Rattle.bands.specs.Band8.{splat_of, zeros_of, mul_of, scale_of, sum_of_squares_of}
 use Rattle.bands.specs.Distance.{gain_of}
-use Rattle.tree_trace.specs.declared.Hit.{Hit}
-use Rattle.tree_trace.specs.declared.Hit.TheVariants.{Nothing, At}
+use Rattle.tree_trace.specs.declared.RayHit.{RayHit}
+use Rattle.std.specs.Prelude.{Option, None, Some, Ok, Err}
 use Rattle.mirror.specs.Border.{smooth_of, weight_of, border_distance_of}
 use Rattle.mirror.specs.Plane.{Edge, Plane}
 use Rattle.mirror.specs.Mirror.{crossing_of}
-use Rattle.mirror.specs.Locate.{contains_in_box_of, spot_of, weighed_of, locate_on_plane_of}
-use Rattle.mirror.specs.declared.PlaneCrossing.{PlaneCrossing}
-use Rattle.mirror.specs.declared.PlaneCrossing.TheVariants as crossing
-use Rattle.mirror.specs.declared.PlaneCrossing.TheVariants.{Nowhere}
-use Rattle.mirror.specs.declared.Spot.{Spot}
-use Rattle.mirror.specs.declared.Spot.TheVariants.{Outside, Inside}
-use Rattle.mirror.specs.declared.Located.{Located}
-use Rattle.mirror.specs.declared.Located.TheVariants as located
-use Rattle.bounces.specs.declared.Bounce.{Bounce}
-use Rattle.bounces.specs.declared.Bounce.TheVariants.{NotCrossed, OffSurface, On}
-use Rattle.bounces.specs.Bounces.{located_of, crossed_of, bounce_of, Bounces, not_crossed, off_surface, made, then_of, back_of}
+use Rattle.mirror.specs.Locate.{Spot, Located, contains_in_box_of, spot_of, weighed_of, locate_on_plane_of}
+use Rattle.bounces.specs.declared.Lost.TheVariants.{NotCrossed, OffSurface}
+use Rattle.bounces.specs.Bounces.{Bounce, located_of, crossed_of, bounce_of, Bounces, not_crossed, off_surface, made, then_of, back_of}
 use Rattle.segments.specs.declared.Transmission.{Transmission}
 use Rattle.segments.specs.Materials.{clamped_of, transmission_of_handle, coefficient_of, coefficients_of, reflection_of_handle}
 use Rattle.segments.specs.Segment.{visibility_rays, probe_count, transmission, segment_ray_of, after_of, occlusion_eps, walk_of, segment_transmission_of, offset_of, mid_of, add_part_of, probe_of, probes_of, segment_soft_transmission_of}
@@ -47,7 +39,7 @@ use Rattle.paths.specs.declared.Way.{Way}
 use Rattle.paths.specs.Visibility.{start_of, go_of, go_all_of, way_of}
 use Rattle.air.specs.declared.Air.{Air}
 use Rattle.air.specs.Air.{steps_of, factor_of_steps, band_of, bands_of, air_gain_of, millimetres_of}
-use Rattle.air.proofs.Nothing.{factor_most}
+use Rattle.air.proofs.None.{factor_most}
 use Rattle.air.proofs.Value.{band_value}
 use Rattle.paths.specs.Gains.{reflected_of, gains_of}
 use Rattle.paths.proofs.Most.{Most, Exact, value_most, mul_most, add_most, ninth_most, most_more, exact_power, exact_eighths, exact_small, exact_times, clamp_most, one_most, zero_is_most, less_most, sqrt_most}
@@ -189,14 +181,14 @@ reflected8 materials tri is = fold8 (λ i. reflection_of_handle materials (tri i
 
 -- ---- segments
 
-module _ (trace : Ray → Hit) (pass : ℕ → Band8) (all : (h : ℕ) → Most8 1 1 (pass h)) where
+module _ (trace : Ray → Option RayHit) (pass : ℕ → Band8) (all : (h : ℕ) → Most8 1 1 (pass h)) where
   turn8 :
       (on : Vec3 → Float → Band8 → Transmission) (r : Float) (g : Band8) (n : ℕ) →
       ((p : Vec3) (x : Float) (f : Band8) → Most8 1 1 f → Most8 1 1 (on p x f).gain) → Most8 1 1 g →
-      (b : Bool) (h : Hit) → Most8 1 1 (cond b (after_of pass on r g n h) (transmission g n)).gain
+      (b : Bool) (h : Option RayHit) → Most8 1 1 (cond b (after_of pass on r g n h) (transmission g n)).gain
   turn8 on r g n more k false h = k
-  turn8 on r g n more k true Nothing = k
-  turn8 on r g n more k true (At h) = more h.point (sub binary32 r h.distance) (mul_of g (pass h.material_handle)) (unit8 g (pass h.material_handle) k (all h.material_handle))
+  turn8 on r g n more k true None = k
+  turn8 on r g n more k true (Some h) = more h.point (sub binary32 r h.distance) (mul_of g (pass h.material_handle)) (unit8 g (pass h.material_handle) k (all h.material_handle))
 
   walk8 : (dir : Vec3) (left : ℕ) (o : Vec3) (r : Float) (g : Band8) (n : ℕ) → Most8 1 1 g → Most8 1 1 (walk_of trace pass dir left o r g n).gain
   unfolding walk_of
@@ -309,13 +301,12 @@ weight_most es fade p = picked (lt zero32 fade)
     picked false = most_more 1 1 3 1 (some 0) (omega arith) one32 one_most
 
 abbrev LocatedMost : Located → Type 0
-LocatedMost located.Off = Unit {0}
-LocatedMost (located.On i w q) = Most 3 1 w
+LocatedMost None = Unit {0}
+LocatedMost (Some (i, w, q)) = Most 3 1 w
 
 abbrev BounceMost : Bounce → Type 0
-BounceMost NotCrossed = Unit {0}
-BounceMost OffSurface = Unit {0}
-BounceMost (On i w q) = Most 3 1 w
+BounceMost (Err e) = Unit {0}
+BounceMost (Ok (i, w, q)) = Most 3 1 w
 
 abbrev pub WeightMost : ℕ → Bounces → Type 0
 WeightMost p not_crossed = Unit {0}
@@ -325,21 +316,21 @@ WeightMost p (made points tris w) = Most p 1 w
 located_most : (tri : ℕ → Triangle) (fade : Float) (plane : Plane) (p : Vec3) → LocatedMost (locate_on_plane_of tri fade plane p)
 unfolding locate_on_plane_of
 located_most tri fade plane p = picked (contains_in_box_of plane p) (spot_of tri plane p) where
-  picked : (b : Bool) (s : Spot) → LocatedMost (cond b (weighed_of (weight_of plane.border fade) s) located.Off)
+  picked : (b : Bool) (s : Spot) → LocatedMost (cond b (weighed_of (weight_of plane.border fade) s) None)
   picked false s = tt
-  picked true Outside = tt
-  picked true (Inside i q) = weight_most plane.border fade q
+  picked true None = tt
+  picked true (Some (i, q)) = weight_most plane.border fade q
 
 bounce_most : (tri : ℕ → Triangle) (fade : Float) (plane : Plane) (prev target : Vec3) → BounceMost (bounce_of tri fade plane prev target)
 unfolding bounce_of
 bounce_most tri fade plane prev target = picked (crossing_of plane prev target) where
   placed : (l : Located) → LocatedMost l → BounceMost (located_of l)
-  placed located.Off h = tt
-  placed (located.On i w q) h = h
+  placed None h = tt
+  placed (Some (i, w, q)) h = h
 
-  picked : (c : PlaneCrossing) → BounceMost (crossed_of (locate_on_plane_of tri fade plane) c)
-  picked Nowhere = tt
-  picked (crossing.At b) = placed (locate_on_plane_of tri fade plane b) (located_most tri fade plane b)
+  picked : (c : Option Vec3) → BounceMost (crossed_of (locate_on_plane_of tri fade plane) c)
+  picked None = tt
+  picked (Some b) = placed (locate_on_plane_of tri fade plane b) (located_most tri fade plane b)
 
 powers : (i : ℕ) → i ≤ 8 → (0 < 3 ^ i) × (3 ^ i ≤ 8192)
 powers zero h = (omega arith, omega arith)
@@ -356,9 +347,9 @@ powers (suc (suc (suc (suc (suc (suc (suc (suc (suc k))))))))) h = absurd (let n
 module _ (tri : ℕ → Triangle) (fade : Float) (plane : ℕ → Plane) (image : ℕ → Vec3) where
   then_most :
       (p : ℕ) (f : ℕ → Float → Vec3 → Bounces) (b : Bounce) → BounceMost b → ((i : ℕ) (w : Float) (q : Vec3) → Most 3 1 w → WeightMost p (f i w q)) → WeightMost p (then_of f b)
-  then_most p f NotCrossed h all = tt
-  then_most p f OffSurface h all = tt
-  then_most p f (On i w q) h all = all i w q h
+  then_most p f (Err NotCrossed) h all = tt
+  then_most p f (Err OffSurface) h all = tt
+  then_most p f (Ok (i, w, q)) h all = all i w q h
 
   heavier : (j : ℕ) (weight w : Float) → suc j ≤ 8 → Most (3 ^ j) 1 weight → Most 3 1 w → Most (3 ^ suc j) 1 (mul binary32 weight w)
   heavier j weight w small h g =

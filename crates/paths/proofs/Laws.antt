@@ -18,6 +18,7 @@ use Rattle.scene.specs.declared.Settings.{Settings}
 use Rattle.mirror.specs.Plane.{Plane, no_point, nth_plane}
 use Rattle.segments.specs.declared.Transmission.{Transmission}
 use Rattle.bounces.specs.Image.{image_of, image_at}
+use Rattle.std.specs.Prelude.{Ok}
 use Rattle.bounces.specs.Bounces.{Bounces, not_crossed, off_surface, made, back_of, plane_on, bounces_of}
 use Rattle.bounces.specs.Areas.{max_order, fate_of}
 use Rattle.bounces.proofs.Laws.{back_ext}
@@ -119,12 +120,12 @@ module _ (s : Settings) (planes : List Plane) (tri : ℕ → Triangle) (t : Tree
   -- where not all bounces are made no ray is traced, whatever the distance
   pub path_lost :
       {A : Type 0} (f : Verdict → A) (x : A) → f (verdict TooFar 0) ≡ x → f (verdict NotCrossed 0) ≡ x → f (verdict OffSurface 0) ≡ x →
-      (fate_of (back_of tri s.reflection_edge_fade (plane_on planes seq) image n listener one32 [] []) ≡ 0 → ⊥) →
+      (fate_of (back_of tri s.reflection_edge_fade (plane_on planes seq) image n listener one32 [] []) ≡ Ok tt → ⊥) →
       f (path_of s planes tri t materials source listener (take n seq)) ≡ x
   unfolding bounced_of fate_of
   path_lost {A} f x far uncrossed off ne = by (le (distance3_of listener (image n)) s.max_reflection_distance) refl where
     bounced :
-        (b : Bounces) → (fate_of b ≡ 0 → ⊥) →
+        (b : Bounces) → (fate_of b ≡ Ok tt → ⊥) →
         f (bounced_of (soft_in s.crossing_limit s.probe_radius tri t materials) s materials tri n source listener b) ≡ x
     bounced not_crossed k = uncrossed
     bounced off_surface k = off

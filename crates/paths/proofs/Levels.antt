@@ -18,18 +18,11 @@ use Rattle.geometry.specs.Triangle.{three}
 use Rattle.mirror.specs.Border.{smooth_of, weight_of, border_distance_of}
 use Rattle.mirror.specs.Plane.{Edge, Plane}
 use Rattle.mirror.specs.Mirror.{crossing_of}
-use Rattle.mirror.specs.Locate.{contains_in_box_of, spot_of, weighed_of, locate_on_plane_of}
-use Rattle.mirror.specs.declared.PlaneCrossing.{PlaneCrossing}
-use Rattle.mirror.specs.declared.PlaneCrossing.TheVariants as crossing
-use Rattle.mirror.specs.declared.PlaneCrossing.TheVariants.{Nowhere}
-use Rattle.mirror.specs.declared.Spot.{Spot}
-use Rattle.mirror.specs.declared.Spot.TheVariants.{Outside, Inside}
-use Rattle.mirror.specs.declared.Located.{Located}
-use Rattle.mirror.specs.declared.Located.TheVariants as located
+use Rattle.mirror.specs.Locate.{Spot, Located, contains_in_box_of, spot_of, weighed_of, locate_on_plane_of}
 use Rattle.geometry.specs.declared.Triangle.{Triangle}
-use Rattle.bounces.specs.declared.Bounce.{Bounce}
-use Rattle.bounces.specs.declared.Bounce.TheVariants.{NotCrossed, OffSurface, On}
-use Rattle.bounces.specs.Bounces.{located_of, crossed_of, bounce_of, Bounces, not_crossed, off_surface, made, then_of, back_of}
+use Rattle.bounces.specs.declared.Lost.TheVariants.{NotCrossed, OffSurface}
+use Rattle.std.specs.Prelude.{Option, None, Some, Ok, Err}
+use Rattle.bounces.specs.Bounces.{Bounce, located_of, crossed_of, bounce_of, Bounces, not_crossed, off_surface, made, then_of, back_of}
 use Rattle.vector.specs.declared.Vec3.{Vec3}
 use Rattle.paths.proofs.Signs.{NotNegative, round_false, mul_not_negative, clamp_not_negative, one_not_negative}
 
@@ -132,13 +125,12 @@ weight_not_negative es fade p = picked (lt zero32 fade) where
 -- ---- the bounces
 
 abbrev LocatedWeight : Located → Type 0
-LocatedWeight located.Off = Unit {0}
-LocatedWeight (located.On i w q) = NotNegative w
+LocatedWeight None = Unit {0}
+LocatedWeight (Some (i, w, q)) = NotNegative w
 
 abbrev BounceWeight : Bounce → Type 0
-BounceWeight NotCrossed = Unit {0}
-BounceWeight OffSurface = Unit {0}
-BounceWeight (On i w q) = NotNegative w
+BounceWeight (Err e) = Unit {0}
+BounceWeight (Ok (i, w, q)) = NotNegative w
 
 abbrev pub Weight : Bounces → Type 0
 Weight not_crossed = Unit {0}
@@ -148,27 +140,27 @@ Weight (made points tris w) = NotNegative w
 located_weight : (tri : ℕ → Triangle) (fade : Float) (plane : Plane) (p : Vec3) → LocatedWeight (locate_on_plane_of tri fade plane p)
 unfolding locate_on_plane_of
 located_weight tri fade plane p = picked (contains_in_box_of plane p) (spot_of tri plane p) where
-  picked : (b : Bool) (s : Spot) → LocatedWeight (cond b (weighed_of (weight_of plane.border fade) s) located.Off)
+  picked : (b : Bool) (s : Spot) → LocatedWeight (cond b (weighed_of (weight_of plane.border fade) s) None)
   picked false s = tt
-  picked true Outside = tt
-  picked true (Inside i q) = weight_not_negative plane.border fade q
+  picked true None = tt
+  picked true (Some (i, q)) = weight_not_negative plane.border fade q
 
 bounce_weight : (tri : ℕ → Triangle) (fade : Float) (plane : Plane) (prev target : Vec3) → BounceWeight (bounce_of tri fade plane prev target)
 unfolding bounce_of
 bounce_weight tri fade plane prev target = picked (crossing_of plane prev target) where
   placed : (l : Located) → LocatedWeight l → BounceWeight (located_of l)
-  placed located.Off h = tt
-  placed (located.On i w q) h = h
+  placed None h = tt
+  placed (Some (i, w, q)) h = h
 
-  picked : (c : PlaneCrossing) → BounceWeight (crossed_of (locate_on_plane_of tri fade plane) c)
-  picked Nowhere = tt
-  picked (crossing.At b) = placed (locate_on_plane_of tri fade plane b) (located_weight tri fade plane b)
+  picked : (c : Option Vec3) → BounceWeight (crossed_of (locate_on_plane_of tri fade plane) c)
+  picked None = tt
+  picked (Some b) = placed (locate_on_plane_of tri fade plane b) (located_weight tri fade plane b)
 
 module _ (tri : ℕ → Triangle) (fade : Float) (plane : ℕ → Plane) (image : ℕ → Vec3) where
   then_weight : (f : ℕ → Float → Vec3 → Bounces) (b : Bounce) → BounceWeight b → ((i : ℕ) (w : Float) (q : Vec3) → NotNegative w → Weight (f i w q)) → Weight (then_of f b)
-  then_weight f NotCrossed h all = tt
-  then_weight f OffSurface h all = tt
-  then_weight f (On i w q) h all = all i w q h
+  then_weight f (Err NotCrossed) h all = tt
+  then_weight f (Err OffSurface) h all = tt
+  then_weight f (Ok (i, w, q)) h all = all i w q h
 
   pub back_weight : (k : ℕ) (prev : Vec3) (weight : Float) (ps : List Vec3) (is : List ℕ) → NotNegative weight → Weight (back_of tri fade plane image k prev weight ps is)
   unfolding back_of

@@ -12,6 +12,8 @@ use Rattle.segments.specs.declared.Transmission.{Transmission}
 use Rattle.segments.specs.Materials.{transmission_of_handle}
 use Rattle.segments.specs.Segment.{segment_soft_transmission_of}
 use Rattle.segments.specs.Areas.{trace_in}
+use Rattle.bounces.specs.declared.Lost.{Lost}
+use Rattle.bounces.specs.declared.Lost.TheVariants as lost
 use Rattle.bounces.specs.Image.{image_of}
 use Rattle.bounces.specs.Bounces.{Bounces, not_crossed, off_surface, made, bounces_of}
 use Rattle.paths.specs.declared.Way.{Way}
@@ -23,6 +25,11 @@ use Rattle.paths.specs.Gains.{usable_of, reflected_of, gains_of, arrived_of}
 
 abbrev pub verdict : Fate → ℕ → Verdict
 verdict f n = record { fate = f; rays = n }
+
+-- the fate of a path with a bounce that fails
+abbrev pub lost_of : Lost → Fate
+lost_of lost.NotCrossed = NotCrossed
+lost_of lost.OffSurface = OffSurface
 
 -- `pts[n - 1]`: the bounce next to the listener
 abbrev pub last_of : List Vec3 → ℕ → Vec3

@@ -2,7 +2,7 @@
 // (`validate_image_path`, `path_candidate`).
 #![tactic(auto)]
 
-ghost use Rattle.std.specs.Prelude.{◌≡◌, ℕ, ◌+◌, ◌*◌, ◌^◌, ◌<◌, ◌≤◌, length, get_or, take};
+ghost use Rattle.std.specs.Prelude.{◌≡◌, ℕ, ◌+◌, ◌*◌, ◌^◌, ◌<◌, ◌≤◌, length, get_or, take, IfOk};
 ghost use Rattle.geometry.specs.declared.Triangle.{Triangle};
 ghost use Rattle.tree_build.specs.Tree.{Tree};
 ghost use Rattle.scene.specs.Limits.{most_crossings};
@@ -11,15 +11,15 @@ ghost use Rattle.mirror.specs.Rows.{planes_in};
 ghost use Rattle.segments.specs.Materials.{material_floats};
 ghost use Rattle.segments.specs.Areas.{TreeReads, Traceable};
 ghost use Rattle.bounces.specs.Image.{image_of};
-ghost use Rattle.bounces.specs.Areas.{max_order, made_fate, trail_of, Going};
+ghost use Rattle.bounces.specs.Areas.{max_order, trail_of, Going};
 ghost use Rattle.paths.specs.Visibility.{start_of, go_of, way_of};
 ghost use Rattle.paths.specs.Gains.{usable_of, reflected_of, gains_of, rejected_of, candidate_of, arrived_of};
-ghost use Rattle.paths.specs.Path.{verdict, bounced_of, path_of};
+ghost use Rattle.paths.specs.Path.{verdict, lost_of, bounced_of, path_of};
 ghost use Rattle.paths.specs.Areas.{soft_in, SceneLent, ReadAs};
 
 use air::Air;
 use bands::{Band8, DistanceModel};
-use bounces::Trail;
+use bounces::{Lost, Trail};
 use scene::Settings;
 use vector::Vec3;
 
@@ -58,6 +58,17 @@ pub enum Fate {
     Blocked,
     Faint,
     Passed(PathCandidate),
+}
+
+impl From<Lost> for Fate {
+    ghost from_gives = { λ lost fate. fate ≡ lost_of lost };
+
+    fn from(lost: Lost) -> Fate {
+        match lost {
+            Lost::NotCrossed => Fate::NotCrossed,
+            Lost::OffSurface => Fate::OffSurface,
+        }
+    }
 }
 
 #[derive(Clone, Copy)]
@@ -275,7 +286,7 @@ fn counted(fate: Fate, rays: u32) -> Verdict
     Verdict { fate, rays }
 }
 
-// A trail of `order` bounces: what is in the way, and what arrives.
+// A trail of `order` bounces, if all are made: what is in the way, and what arrives.
 fn judge(
     padded: &[f32],
     nodes: &[u32],
@@ -285,58 +296,54 @@ fn judge(
     nodes_count: usize,
     materials: &[f32],
     s: Settings,
-    trail: Trail,
+    trail: Result<Trail, Lost>,
     order: usize,
     source: Vec3,
     listener: Vec3,
 ) -> Verdict
     requires traceable { Traceable padded.now nodes.now leaf_order.now leaves.now handles.now nodes_count materials.now }
     requires order_nonzero { (0 < order) × (order ≤ max_order) × (s.crossing_limit ≤ most_crossings) }
-    requires going { trail.fate ≡ made_fate → Going trail }
+    requires going { IfOk trail Going }
     ensures by_index { (tri : ℕ → Triangle) (t : Tree) →
         TreeReads padded.now nodes.now leaf_order.now leaves.now handles.now tri t →
         result ≡ bounced_of (soft_in s.crossing_limit s.probe_radius tri t materials.now) s materials.now tri order source listener (trail_of trail order) }
     ensures rays_bound { result.rays ≤ 18 * (s.crossing_limit + 1) * (order + 1) }
 {
-    let fate = trail.fate;
-    if fate == 0 {
-        let points = trail.points;
-        let tris = trail.tris;
-        let way = go_all(
-            padded,
-            nodes,
-            leaf_order,
-            leaves,
-            handles,
-            nodes_count,
-            materials,
-            s.crossing_limit,
-            s.probe_radius,
-            points,
-            order,
-            source,
-            listener,
+    let made = match trail {
+        Ok(made) => made,
+        Err(lost) => return counted(Fate::from(lost), 0),
+    };
+    let points = made.points;
+    let way = go_all(
+        padded,
+        nodes,
+        leaf_order,
+        leaves,
+        handles,
+        nodes_count,
+        materials,
+        s.crossing_limit,
+        s.probe_radius,
+        points,
+        order,
+        source,
+        listener,
+    );
+    if usable(way.total, s.max_reflection_distance) {
+        let last = points[order - 1];
+        let g = gains(
+            s.distance_model,
+            s.air,
+            reflected(handles, materials, made.tris, order),
+            way.total,
+            made.weight,
         );
-        if usable(way.total, s.max_reflection_distance) {
-            let last = points[order - 1];
-            let g = gains(
-                s.distance_model,
-                s.air,
-                reflected(handles, materials, tris, order),
-                way.total,
-                trail.weight,
-            );
-            return counted(
-                arrived(s, last, listener, way.total, trail.weight, g, way.gain),
-                way.rays,
-            );
-        }
-        return counted(Fate::TooLong, way.rays);
+        return counted(
+            arrived(s, last, listener, way.total, made.weight, g, way.gain),
+            way.rays,
+        );
     }
-    if fate == bounces::NOT_CROSSED {
-        return counted(Fate::NotCrossed, 0);
-    }
-    counted(Fate::OffSurface, 0)
+    counted(Fate::TooLong, way.rays)
 }
 
 // The path by way of the first `order` planes of `seq`, whose images stand in `images`.

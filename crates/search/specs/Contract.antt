@@ -1,5 +1,5 @@
 -- What the search's functions ask and promise.
-use Rattle.std.specs.Prelude.{ℕ, ◌+◌, ◌-◌, ◌*◌, ◌≤◌, ◌<◌, ◌≡◌, Bool, true, false, not, cond, List, [], ◌∷◌, ◌++◌, length, get_or, take, set, ltb, eqb, Float}
+use Rattle.std.specs.Prelude.{ℕ, ◌+◌, ◌-◌, ◌*◌, ◌≤◌, ◌<◌, ◌≡◌, Bool, true, false, not, cond, List, [], ◌∷◌, ◌++◌, length, get_or, take, set, ltb, eqb, Float, Ok}
 use Rattle.std.specs.Float.Ieee.{lt, le}
 use Rattle.geometry.specs.declared.Triangle.{Triangle}
 use Rattle.tree_build.specs.Tree.{Tree}
@@ -10,7 +10,7 @@ use Rattle.scene.specs.Limits.{most_crossings}
 use Rattle.mirror.specs.Plane.{Plane}
 use Rattle.mirror.specs.Rows.{planes_in}
 use Rattle.float.specs.Literals.{one32}
-use Rattle.bounces.specs.Areas.{PlanesRead, max_order, made_fate, fate_of, point_floats, point_in}
+use Rattle.bounces.specs.Areas.{PlanesRead, max_order, fate_of, point_floats, point_in}
 use Rattle.bounces.specs.Bounces.{back_of, plane_on}
 use Rattle.bounces.specs.Image.{image_of}
 use Rattle.sequences.specs.Allowed.{most, most_planes, may, upto, at}
@@ -82,7 +82,7 @@ Beyond far b = (x : Float) → lt b x ≡ true → le (sqrt_of x) far ≡ false
 abbrev pub Lost : List Float → ℕ → List Float → List ℕ → List ℕ → List Float → ℕ → List ℕ → List Float → ℕ → Vec3 → Type 0
 Lost columns n floats words members edges count seq images len listener =
     (tri : ℕ → Triangle) (fade : Float) → PlanesRead tri columns n floats words members count →
-    fate_of (back_of tri fade (plane_on (planes_in floats words members edges count) seq) (point_in images) len listener one32 [] []) ≡ made_fate → ⊥
+    fate_of (back_of tri fade (plane_on (planes_in floats words members edges count) seq) (point_in images) len listener one32 [] []) ≡ Ok tt → ⊥
 
 -- no path takes more rays, by any limit and order that are allowed: what keeps the count of rays from wrapping
 abbrev pub most_path_rays : ℕ

@@ -323,7 +323,7 @@ fn made(
     ensures { result ≡ false → Lost triangles.now n plane_floats.now plane_words.now plane_triangles.now
         plane_edges.now count seq.now images.now len listener }
 {
-    let fate = bounces::fate_back(
+    bounces::fate_back(
         triangles,
         n,
         plane_floats,
@@ -335,11 +335,8 @@ fn made(
         images,
         len,
         listener,
-    );
-    if fate != bounces::MADE {
-        return false;
-    }
-    true
+    )
+    .is_ok()
 }
 
 // Visits the first `len` planes: where a bounce fails, the image is only counted.

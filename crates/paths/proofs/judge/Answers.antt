@@ -1,96 +1,51 @@
--- `paths::judge` meets its contract, by the trail's fate and the tests of the way.
-use mathlib.Core.Path.{◌≡◌}
-use native.Mathlib.Omega.{arith}
-use borrow.Author.Tests.{eq-eqb, ne_eqb}
+-- `paths::judge` meets its contract, by whether all bounces are made and the tests of the way.
+use mathlib.Core.Path.{◌≡◌, refl, sym}
+use Prim.Native.Nat.{ℕ}
+use Rattle.std.specs.Prelude.{Err}
 use lib.ListN.{take}
 use Rattle.bounces.specs.Areas.{trail_of}
+use Rattle.bounces.specs.Bounces.{Bounces, not_crossed, off_surface}
+use Rattle.bounces.specs.declared.Lost.{Lost}
+use Rattle.bounces.specs.declared.Lost.TheVariants as lost
+use Rattle.paths.specs.declared.Fate.TheVariants.{NotCrossed, OffSurface}
+use Rattle.paths.specs.declared.Verdict.{Verdict}
 use Rattle.paths.specs.Visibility.{way_of}
-use Rattle.paths.specs.Path.{bounced_of}
+use Rattle.paths.specs.Path.{verdict, lost_of, bounced_of}
 use Rattle.paths.specs.Areas.{soft_in}
 use Rattle.paths.proofs.Laws.{last_taken}
 use Rattle.paths.proofs.judge.Goals as goal
 
-pub go_all-way-requires : goal.go_all-way-requires
-go_all-way-requires c =
-    let h = c.requires in record {
-      traceable = h.traceable;
-      order_le_max_order = (h.order_nonzero.1, (h.going c.if-fate-eq0.true).points_room);
-      max_order_bound = omega (arith, h.order_nonzero.2);
-    }
+-- what a bounce that fails says of its path
+told : (e : Lost) (on : Bounces → Verdict) (n : ℕ) → on not_crossed ≡ verdict NotCrossed 0 → on off_surface ≡ verdict OffSurface 0 → verdict (lost_of e) 0 ≡ on (trail_of (Err e) n)
+unfolding trail_of
+told lost.NotCrossed on n p q = sym p
+told lost.OffSurface on n p q = sym q
 
-pub overflow_sub-last : goal.overflow_sub-last
-overflow_sub-last c = omega (arith, c.requires.order_nonzero)
+pub returns-in-Err-clause-by_index : goal.returns-in-Err-clause-by_index
+unfolding bounced_of
+returns-in-Err-clause-by_index c = λ tri t h.
+    let a = c.args in
+    rw (c.in-Err.is, c.counted.ensures, c.from.ensures)
+    (told c.in-Err.lost (bounced_of (soft_in a.s.crossing_limit a.s.probe_radius tri t a.materials.now) a.s a.materials.now tri a.order a.source a.listener) a.order refl refl)
 
-pub offset_bounds-points-order : goal.offset_bounds-points-order
-offset_bounds-points-order c = omega (arith, c.requires.order_nonzero)
-
-pub bounds-points-order : goal.bounds-points-order
-bounds-points-order c = omega (arith, c.requires.order_nonzero)
-
-pub reflected-requires : goal.reflected-requires
-reflected-requires c = record {
-  order_le_max_order = (c.requires.order_nonzero.1, (c.requires.going c.if-fate-eq0.true).tris_room);
-  by_index = c.requires.traceable.materials_room;
-}
-
-pub returns-then-usable : goal.returns-then-usable
+pub returns-then-usable-clause-by_index : goal.returns-then-usable-clause-by_index
 unfolding bounced_of trail_of
-returns-then-usable c =
-    let a = c.args in record {
-      by_index = λ tri t h.
-          let way : c.go_all-way.result ≡ way_of (soft_in a.s.crossing_limit a.s.probe_radius tri t a.materials.now) a.listener a.source (take a.order a.trail.points) = c.go_all-way.ensures.by_index tri t h in
-          rw (
-            eq-eqb _ _ c.if-fate-eq0.true,
-            ← way,
-            ← c.usable.ensures,
-            c.if-usable.true,
-            ← c.reflected.ensures tri h.handles_of,
-            ← c.gains-g.ensures,
-            last_taken a.trail.points a.order c.requires.order_nonzero.0,
-            ← c.arrived.ensures,
-            ← c.counted.ensures,
-          );
-      rays_bound = rw c.counted.ensures c.go_all-way.ensures.rays_bound;
-    }
+returns-then-usable-clause-by_index c = λ tri t h.
+    let a = c.args in
+    let points = c.in-Ok.made.points in
+    let way : c.go_all-way.result ≡ way_of (soft_in a.s.crossing_limit a.s.probe_radius tri t a.materials.now) a.listener a.source (take a.order points) = c.go_all-way.ensures.by_index tri t h in
+    rw (
+      c.in-Ok.is,
+      ← way,
+      ← c.usable.ensures,
+      c.if-usable.true,
+      ← c.reflected.ensures tri h.handles_of,
+      ← c.gains-g.ensures,
+      last_taken points a.order c.requires.order_nonzero.0,
+      ← c.arrived.ensures,
+      ← c.counted-then-usable.ensures,
+    )
 
-pub returns-then-fate-eq0 : goal.returns-then-fate-eq0
+pub returns-clause-by_index : goal.returns-clause-by_index
 unfolding bounced_of trail_of
-returns-then-fate-eq0 c = record {
-  by_index = λ tri t h. rw (eq-eqb _ _ c.if-fate-eq0.true, ← c.go_all-way.ensures.by_index tri t h, ← c.usable.ensures, c.if-usable.false, ← c.counted-then-fate-eq0.ensures);
-  rays_bound = rw c.counted-then-fate-eq0.ensures c.go_all-way.ensures.rays_bound;
-}
-
-pub returns-then-fate-eq-NOT_CROSSED : goal.returns-then-fate-eq-NOT_CROSSED
-unfolding bounced_of trail_of
-returns-then-fate-eq-NOT_CROSSED c = record {
-  by_index = λ tri t h. rw (ne_eqb _ _ c.if-fate-eq0.false, eq-eqb _ _ c.if-fate-eq-NOT_CROSSED.true, ← c.counted-then-fate-eq-NOT_CROSSED.ensures);
-  rays_bound = rw c.counted-then-fate-eq-NOT_CROSSED.ensures (omega arith);
-}
-
-pub returns : goal.returns
-unfolding bounced_of trail_of
-returns c = record {
-  by_index = λ tri t h. rw (ne_eqb _ _ c.if-fate-eq0.false, ne_eqb _ _ c.if-fate-eq-NOT_CROSSED.false, ← c.counted-2.ensures);
-  rays_bound = rw c.counted-2.ensures (omega arith);
-}
-
-pub usable-requires : goal.usable-requires
-usable-requires c = tt
-
-pub gains-g-requires : goal.gains-g-requires
-gains-g-requires c = tt
-
-pub arrived-requires : goal.arrived-requires
-arrived-requires c = tt
-
-pub counted-requires : goal.counted-requires
-counted-requires c = tt
-
-pub counted-requires-then-fate-eq0 : goal.counted-requires-then-fate-eq0
-counted-requires-then-fate-eq0 c = tt
-
-pub counted-requires-then-fate-eq-NOT_CROSSED : goal.counted-requires-then-fate-eq-NOT_CROSSED
-counted-requires-then-fate-eq-NOT_CROSSED c = tt
-
-pub counted-requires-2 : goal.counted-requires-2
-counted-requires-2 c = tt
+returns-clause-by_index c = λ tri t h. rw (c.in-Ok.is, ← c.go_all-way.ensures.by_index tri t h, ← c.usable.ensures, c.if-usable.false, ← c.counted-2.ensures)
