@@ -37,7 +37,6 @@ returns-then-contains c =
     c.contains.ensures ∙ rw (c.corner_at.ensures, c.edges_at.ensures, c.dots_at.ensures) (contains_read a.triangles.now a.n i (tri i) a.p (h k c.loop-k-test.true)) in
     rw (← c.loop-k.invariant tri h, find_step tri a.plane_triangles.now k a.p c.loop-k-test.true, ← e, c.if-contains.true)
 
-
 pub loop-k-preserved : goal.loop-k-preserved
 unfolding AllRead
 loop-k-preserved c =

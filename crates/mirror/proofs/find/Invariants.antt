@@ -1,7 +1,7 @@
 -- `mirror::find` meets its contract: the triangles from here on give what all give.
 use mathlib.Core.Path.{◌≡◌}
 use Prim.Native.Nat.{ℕ}
-use lib.ListN.{length, drop}
+use lib.ListN.{drop}
 use Rattle.geometry.specs.declared.Triangle.{Triangle}
 use Rattle.mirror.specs.Locate.{find_of}
 use Rattle.mirror.specs.Rows.{AllRead}

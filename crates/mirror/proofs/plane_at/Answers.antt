@@ -75,13 +75,9 @@ pub bounds-plane_words-w : goal.bounds-plane_words-w
 unfolding row_of
 bounds-plane_words-w c = search rules
 
-pub wide-requires : goal.wide-requires
+pub overflow_add-result-4 : goal.overflow_add-result-4
 unfolding row_of
-wide-requires c = tt
-
-pub overflow_add-w : goal.overflow_add-w
-unfolding row_of
-overflow_add-w c = search rules
+overflow_add-result-4 c = search rules
 
 pub offset_bounds-plane_words-w-2 : goal.offset_bounds-plane_words-w-2
 unfolding row_of
@@ -91,13 +87,9 @@ pub bounds-plane_words-w-2 : goal.bounds-plane_words-w-2
 unfolding row_of
 bounds-plane_words-w-2 c = search rules
 
-pub wide-requires-2 : goal.wide-requires-2
+pub overflow_add-result-5 : goal.overflow_add-result-5
 unfolding row_of
-wide-requires-2 c = tt
-
-pub overflow_add-w-2 : goal.overflow_add-w-2
-unfolding row_of
-overflow_add-w-2 c = search rules
+overflow_add-result-5 c = search rules
 
 pub offset_bounds-plane_words-w-3 : goal.offset_bounds-plane_words-w-3
 unfolding row_of
@@ -107,13 +99,9 @@ pub bounds-plane_words-w-3 : goal.bounds-plane_words-w-3
 unfolding row_of
 bounds-plane_words-w-3 c = search rules
 
-pub wide-requires-3 : goal.wide-requires-3
+pub overflow_add-result-6 : goal.overflow_add-result-6
 unfolding row_of
-wide-requires-3 c = tt
-
-pub overflow_add-w-3 : goal.overflow_add-w-3
-unfolding row_of
-overflow_add-w-3 c = search rules
+overflow_add-result-6 c = search rules
 
 pub offset_bounds-plane_words-w-4 : goal.offset_bounds-plane_words-w-4
 unfolding row_of
@@ -123,13 +111,9 @@ pub bounds-plane_words-w-4 : goal.bounds-plane_words-w-4
 unfolding row_of
 bounds-plane_words-w-4 c = search rules
 
-pub wide-requires-4 : goal.wide-requires-4
+pub overflow_add-result-7 : goal.overflow_add-result-7
 unfolding row_of
-wide-requires-4 c = tt
-
-pub overflow_add-result-4 : goal.overflow_add-result-4
-unfolding row_of
-overflow_add-result-4 c = search rules
+overflow_add-result-7 c = search rules
 
 pub offset_bounds-plane_words-w-5 : goal.offset_bounds-plane_words-w-5
 unfolding row_of
@@ -145,8 +129,4 @@ returns c = rw (
   ← c.vec_in.ensures,
   ← c.vec_in-2.ensures,
   ← c.vec_in-3.ensures,
-  ← c.wide.ensures,
-  ← c.wide-2.ensures,
-  ← c.wide-3.ensures,
-  ← c.wide-4.ensures,
 )

@@ -23,7 +23,6 @@ pub edges_at-requires : goal.edges_at-requires
 unfolding Below
 edges_at-requires c = (c.requires.0, c.requires.1 _ c.loop-k-test.true)
 
-
 pub loop-k-preserved : goal.loop-k-preserved
 unfolding AllRead
 loop-k-preserved c =
