@@ -55,12 +55,6 @@ fn put_extents(triangles: &[f32], handles: &[u32], n: usize, count: usize, exten
 
 // ---- their keys
 
-fn wide(x: u32) -> u64
-    ensures { result ≡ x }
-{
-    x as u64
-}
-
 // The keys of one axis. The answer is false where a centroid is not finite along it.
 fn put_keys(
     triangles: &[f32],
@@ -78,7 +72,7 @@ fn put_keys(
         let c = geometry::centroid(columns::triangle_at(triangles, handles, n, i));
         let x = vector::axis(c, k);
         if float::is_finite(x) {
-            keys[i] = wide(float::float_key(x));
+            keys[i] = float::float_key(x) as u64;
         } else {
             return false;
         }

@@ -55,12 +55,6 @@ pub struct Cost {
     pub words: u64,
 }
 
-fn wide(x: u32) -> u64
-    ensures { (result ≡ x) × (result < 4294967296) }
-{
-    x as u64
-}
-
 // From 1 to `most`.
 fn within(x: u32, most: usize) -> bool
     ensures { result ≡ spec.within x most }
@@ -154,7 +148,7 @@ fn rays_of(limit: u64, counts: [u32; MAX_IMAGE_ORDER]) -> u64
 {
     let mut rays = 0;
     for k in 0..MAX_IMAGE_ORDER {
-        rays += 18 * (limit + 1) * (k as u64 + 2) * wide(counts[k]);
+        rays += 18 * (limit + 1) * (k as u64 + 2) * counts[k] as u64;
     }
     rays
 }
@@ -178,11 +172,11 @@ pub fn query_cost(crossing_limit: u32, planes: u32, first: u32, order: u32, trip
     ensures { Forecast crossing_limit planes first order triples result }
 {
     if takes(crossing_limit, planes, first, order, triples) {
-        let m = wide(planes) - 1;
-        let all = allowed(m, wide(first), order as usize);
+        let m = planes as u64 - 1;
+        let all = allowed(m, first as u64, order as usize);
         let images = visited(all);
         let counts = counts_of(m, order as usize, images);
-        let rays = rays_of(wide(crossing_limit), counts);
+        let rays = rays_of(crossing_limit as u64, counts);
         let words = words_of(triples as usize, images as usize);
         return Cost {
             refusal: 0,

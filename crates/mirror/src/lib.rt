@@ -42,12 +42,6 @@ pub struct PlaneRow {
 
 // ---- rows
 
-fn wide(x: u32) -> usize
-    ensures { result ≡ x }
-{
-    x as usize
-}
-
 pub fn vec_in(l: &[f32], at: usize) -> Vec3
     requires { at + 3 ≤ length l.now }
     ensures { result ≡ vec_of_floats l.now at }
@@ -76,10 +70,10 @@ pub fn plane_at(plane_floats: &[f32], plane_words: &[u32], p: usize) -> PlaneRow
         aabb,
         spread: plane_floats[f + 10],
         area: plane_floats[f + 11],
-        first: wide(plane_words[w]),
-        count: wide(plane_words[w + 1]),
-        edge: wide(plane_words[w + 2]),
-        edges: wide(plane_words[w + 3]),
+        first: plane_words[w] as usize,
+        count: plane_words[w + 1] as usize,
+        edge: plane_words[w + 2] as usize,
+        edges: plane_words[w + 3] as usize,
         fitted: plane_words[w + 4] != 0,
     }
 }

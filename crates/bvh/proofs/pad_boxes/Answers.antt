@@ -14,7 +14,6 @@ box_at-requires c = let p = c.requires in let t = c.loop-i-test.true in omega ar
 pub put_box-requires : goal.put_box-requires
 put_box-requires c = let p = c.requires in let l = c.loop-i.invariant.1 in let t = c.loop-i-test.true in omega arith
 
-
 pub loop-i-preserved : goal.loop-i-preserved
 loop-i-preserved c =
     let a = c.args in

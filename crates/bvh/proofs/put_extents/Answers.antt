@@ -17,7 +17,6 @@ triangle_at-t-requires c = let p = c.requires in let t = c.loop-i-test.true in (
 pub put_extent-requires : goal.put_extent-requires
 put_extent-requires c = let p = c.requires in let l = c.loop-i.invariant.1 in let t = c.loop-i-test.true in omega arith
 
-
 pub loop-i-preserved : goal.loop-i-preserved
 unfolding aabb_of centroid_in
 loop-i-preserved c =

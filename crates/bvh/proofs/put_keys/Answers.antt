@@ -44,7 +44,6 @@ returns-else-is_finite c =
     let e : c.axis-x.result ≡ f c.loop-i.i = c.axis-x.ensures ∙ ap (λ (v : Vec3). axis_of v a.k) (c.centroid-c.ensures ∙ ap triangle.centroid_of c.triangle_at.ensures) in
     (sym (law.all_false f a.count c.loop-i.i c.loop-i-test.true (ap is_finite (sym e) ∙ sym c.is_finite.ensures ∙ c.if-is_finite.false)), λ z. law.not_both z)
 
-
 pub loop-i-preserved : goal.loop-i-preserved
 unfolding centroid_in
 loop-i-preserved c =
@@ -56,8 +55,8 @@ loop-i-preserved c =
     let t = c.loop-i-test.true in
     let e : c.axis-x.result ≡ f c.loop-i.i = c.axis-x.ensures ∙ ap (λ (v : Vec3). axis_of v a.k) (c.centroid-c.ensures ∙ ap triangle.centroid_of c.triangle_at.ensures) in (
       omega arith,
-      length-set c.loop-i.keys c.loop-i.i c.wide.result ∙ inv.1,
-      law.keys_more f c.loop-i.keys c.loop-i.i c.wide.result c.axis-x.result (omega arith) e (sym c.is_finite.ensures ∙ c.if-is_finite.true) (c.wide.ensures ∙ c.float_key.ensures) inv.2,
+      length-set c.loop-i.keys c.loop-i.i c.float_key.result ∙ inv.1,
+      law.keys_more f c.loop-i.keys c.loop-i.i c.float_key.result c.axis-x.result (omega arith) e (sym c.is_finite.ensures ∙ c.if-is_finite.true) c.float_key.ensures inv.2,
     )
 
 pub shape_of-keys : goal.shape_of-keys
@@ -77,6 +76,3 @@ axis-x-requires c = tt
 
 pub is_finite-requires : goal.is_finite-requires
 is_finite-requires c = tt
-
-pub wide-requires : goal.wide-requires
-wide-requires c = tt

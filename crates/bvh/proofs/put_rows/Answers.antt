@@ -23,7 +23,6 @@ edges_at-requires c = let p = c.requires in (p.0, p.1 c.loop-k.k c.loop-k-test.t
 pub put_row-requires : goal.put_row-requires
 put_row-requires c = let p = c.requires.2 in let l = c.loop-k.invariant.1 in let t = c.loop-k-test.true in omega arith
 
-
 pub loop-k-preserved : goal.loop-k-preserved
 loop-k-preserved c =
     let a = c.args in

@@ -1,5 +1,5 @@
 -- `cost::query_cost` meets its contract: the figures one by one, and then what they say (`forecast`).
-use mathlib.Core.Path.{sym, ap, ◌∙◌}
+use mathlib.Core.Path.{sym, ap, ◌∙◌, refl}
 use Prim.Native.Nat.{min}
 use native.Mathlib.Omega.{arith}
 use Rattle.sequences.specs.Allowed.{most}
@@ -11,28 +11,28 @@ overflow_sub-m c =
     let a = c.args in
     let t = taken a.crossing_limit a.planes a.first a.order a.triples
     (sym c.takes.ensures ∙ c.if-takes.true) in
-    let h = t.some in let e = c.wide-m.ensures.0 in omega arith
+    let h = t.some in omega arith
 
 pub allowed-all-requires : goal.allowed-all-requires
 allowed-all-requires c =
     let a = c.args in
     let t = taken a.crossing_limit a.planes a.first a.order a.triples
     (sym c.takes.ensures ∙ c.if-takes.true) in
-    let e = c.wide-m.ensures.0 in let f = c.wide.ensures.0 in (omega (arith, t.few, t.some), omega (arith, t.few, t.firsts), t.shallow)
+    (omega (arith, t.few, t.some), omega (arith, t.few, t.firsts), t.shallow)
 
 pub counts_of-counts-requires : goal.counts_of-counts-requires
 counts_of-counts-requires c =
     let a = c.args in
     let t = taken a.crossing_limit a.planes a.first a.order a.triples
     (sym c.takes.ensures ∙ c.if-takes.true) in
-    let e = c.wide-m.ensures.0 in (omega (arith, t.few, t.some), t.shallow, c.visited-images.ensures.1)
+    (omega (arith, t.few, t.some), t.shallow, c.visited-images.ensures.1)
 
 pub rays_of-rays-requires : goal.rays_of-rays-requires
 rays_of-rays-requires c =
     let a = c.args in
     let t = taken a.crossing_limit a.planes a.first a.order a.triples
     (sym c.takes.ensures ∙ c.if-takes.true) in
-    let h = t.crossed in let e = c.wide-then-takes.ensures.0 in omega arith
+    let h = t.crossed in omega arith
 
 pub words_of-words-requires : goal.words_of-words-requires
 words_of-words-requires c =
@@ -49,9 +49,9 @@ returns-then-takes c =
     let a = c.args in
     told a.crossing_limit a.planes a.first a.order a.triples
     (sym c.takes.ensures ∙ c.if-takes.true)
-    c.wide-then-takes.result c.wide-m.result c.wide.result
+    a.crossing_limit a.planes a.first
     c.visited-images.result c.counts_of-counts.result c.rays_of-rays.result c.words_of-words.result
-    c.wide-then-takes.ensures.0 c.wide-m.ensures.0 c.wide.ensures.0
+    refl refl refl
     (c.visited-images.ensures.0 ∙ ap (min most) c.allowed-all.ensures)
     c.counts_of-counts.ensures c.rays_of-rays.ensures c.words_of-words.ensures
 
@@ -64,14 +64,5 @@ returns c =
 pub takes-requires : goal.takes-requires
 takes-requires c = tt
 
-pub wide-m-requires : goal.wide-m-requires
-wide-m-requires c = tt
-
-pub wide-requires : goal.wide-requires
-wide-requires c = tt
-
 pub visited-images-requires : goal.visited-images-requires
 visited-images-requires c = tt
-
-pub wide-requires-then-takes : goal.wide-requires-then-takes
-wide-requires-then-takes c = tt

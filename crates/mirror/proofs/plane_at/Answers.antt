@@ -8,8 +8,4 @@ returns c = rw (
   ← c.vec_in.ensures,
   ← c.vec_in-2.ensures,
   ← c.vec_in-3.ensures,
-  ← c.wide.ensures,
-  ← c.wide-2.ensures,
-  ← c.wide-3.ensures,
-  ← c.wide-4.ensures,
 )

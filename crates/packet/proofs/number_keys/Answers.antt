@@ -1,13 +1,12 @@
 -- `packet::number_keys` meets its contract: what is left to store gives the same list from each turn on.
-use Prim.Native.Nat.{◌+◌, ◌*◌}
-use mathlib.Core.Path.{refl, ap, ◌∙◌}
+use mathlib.Core.Path.{refl, ap}
 use mathlib.Core.List.{map}
 use native.Mathlib.Omega.{arith}
-use lib.ListN.{length, set, length-set}
+use lib.ListN.{length, length-set}
 use lib.Seq.{sets}
 use Rattle.packet.specs.Refusals.{number_of}
 use Rattle.packet.specs.Helpers.{keys_of}
-use Rattle.packet.proofs.Areas.{taps_from, from_start}
+use Rattle.packet.proofs.Areas.{from_start}
 use Rattle.packet.proofs.Repeats.{keys_step, keys_done}
 use Rattle.packet.proofs.number_keys.Goals as goal
 
@@ -22,8 +21,7 @@ loop-i-preserved c =
     let h = c.loop-i-test.true in (
       omega arith,
       simp length-set c.loop-i.invariant.1,
-      ap (λ x. sets (set c.loop-i.keys c.loop-i.i (x * 4294967296)) (c.loop-i.i + 1) (keys_of (map number_of (taps_from (length a.keys.now) (c.loop-i.i + 1) a.taps.now)))) c.long.ensures.0
-          ∙ keys_step (length a.keys.now) c.loop-i.i a.taps.now c.loop-i.keys _ (omega arith) c.loop-i.invariant.2,
+      keys_step (length a.keys.now) c.loop-i.i a.taps.now c.loop-i.keys _ (omega arith) c.loop-i.invariant.2,
     )
 
 pub shape_of-keys : goal.shape_of-keys
