@@ -3,13 +3,9 @@
 
 use std::io;
 
-fn print_entry(rt: &impl Print, k: u32) -> io::Result<()> {
-    rt.println(k)
-}
-
 fn main(rt: HostRuntime) -> io::Result<()> {
     for s in 0..400 {
-        print_entry(&rt, air::factor_of(s))?;
+        rt.println(air::factor_of(s))?;
     }
     Ok(())
 }

@@ -17,33 +17,15 @@ const PLANES: usize = 6;
 const CROSSINGS: u32 = 8;
 
 // How many counts were compared, and how many of them differ.
-#[derive(Drop)]
+#[derive(Clone, Copy, Default)]
 struct Tally {
     counts: u32,
     differ: u32,
 }
 
-// Room for the records of 250,000 images. A function of its own, so that no proof looks into so long a list.
-fn room() -> [u8; RECORDS] {
-    [0; RECORDS]
-}
-
-fn print(rt: &impl Print, bytes: &[u8]) -> io::Result<()> {
-    rt.write_all(bytes)
-}
-
-fn print_number(rt: &impl Print, n: u64) -> io::Result<()> {
-    print(rt, b" ")?;
-    rt.print(n)
-}
-
-fn wide(x: u32) -> u64 {
-    x as u64
-}
-
 fn print_counts(rt: &impl Print, counts: [u32; MAX_IMAGE_ORDER]) -> io::Result<()> {
-    for k in 0..MAX_IMAGE_ORDER {
-        print_number(rt, wide(counts[k]))?;
+    for n in counts.iter() {
+        print!(rt; " {n}")?;
     }
     Ok(())
 }
@@ -57,29 +39,20 @@ fn show(
     order: u32,
     triples: u32,
 ) -> io::Result<()> {
-    print(rt, b"crossings, planes, first, order, triples")?;
-    print_number(rt, crossing_limit as u64)?;
-    print_number(rt, planes as u64)?;
-    print_number(rt, first as u64)?;
-    print_number(rt, order as u64)?;
-    print_number(rt, triples as u64)?;
+    println!(rt;
+        "crossings, planes, first, order, triples {crossing_limit} {planes} {first} {order} {triples}"
+    )?;
     let r = cost::query_cost(crossing_limit, planes, first, order, triples);
     print_answer(rt, r)
 }
 
 fn print_answer(rt: &impl Print, r: Cost) -> io::Result<()> {
-    print(rt, b"\n  refusal")?;
-    print_number(rt, r.refusal as u64)?;
-    print(rt, b", counts")?;
-    let counts = r.counts;
-    print_counts(rt, counts)?;
-    print(rt, b", candidates")?;
-    print_number(rt, r.candidates as u64)?;
-    print(rt, b", rays")?;
-    print_number(rt, r.rays)?;
-    print(rt, b", words")?;
-    print_number(rt, r.words)?;
-    print(rt, b"\n")
+    print!(rt; "  refusal {}, counts", r.refusal)?;
+    print_counts(rt, r.counts)?;
+    println!(rt;
+        ", candidates {}, rays {}, words {}",
+        r.candidates, r.rays, r.words
+    )
 }
 
 fn show_answers(rt: &impl Print) -> io::Result<()> {
@@ -121,23 +94,13 @@ fn mask(first: usize) -> [u8; PLANES]
     ensures { length result ≡ 6 }
 {
     let mut on = [1; PLANES];
-    for p in 0..PLANES {
-        if p >= first {
-            return on;
-        }
-        on[p] = 0;
-    }
+    on[..first.min(PLANES)].fill(0);
     on
 }
 
 // 1 where the byte at `at` says `len` planes.
 fn says(records: &[u8], at: usize, len: u8) -> u32 {
-    if at < records.len() {
-        if records[at] == len {
-            return 1;
-        }
-    }
-    0
+    u32::from(records.get(at) == Some(&len))
 }
 
 // How many of the records have `len` planes.
@@ -147,37 +110,28 @@ fn records_of(records: &[u8], total: usize, len: u8) -> u32 {
         if i >= MAX_IMAGE_NODES {
             return n;
         }
-        n = std::num::wrapping_add_u32(n, says(records, i * RECORD + MAX_IMAGE_ORDER, len));
+        n = n.wrapping_add(says(records, i * RECORD + MAX_IMAGE_ORDER, len));
     }
     n
 }
 
 fn add(a: Tally, b: Tally) -> Tally {
     Tally {
-        counts: std::num::wrapping_add_u32(a.counts, b.counts),
-        differ: std::num::wrapping_add_u32(a.differ, b.differ),
+        counts: a.counts.wrapping_add(b.counts),
+        differ: a.differ.wrapping_add(b.differ),
     }
 }
 
 fn one(same: bool) -> Tally {
-    if same {
-        return Tally {
-            counts: 1,
-            differ: 0,
-        };
-    }
     Tally {
         counts: 1,
-        differ: 1,
+        differ: u32::from(!same),
     }
 }
 
 // The eight counts against the records.
 fn compare_counts(counts: [u32; MAX_IMAGE_ORDER], records: &[u8], total: usize) -> Tally {
-    let mut t = Tally {
-        counts: 0,
-        differ: 0,
-    };
+    let mut t = Tally::default();
     for k in 0..MAX_IMAGE_ORDER {
         let n = records_of(records, total, (k + 1) as u8);
         t = add(t, one(n == counts[k]));
@@ -190,25 +144,18 @@ fn compare_order(on: &[u8], first: usize, order: usize, records: &mut [u8]) -> T
     match sequences::enumerate(on, order, records) {
         Some(total) => {
             let r = cost::query_cost(CROSSINGS, narrow(on.len()), narrow(first), narrow(order), 0);
-            let counts = r.counts;
-            compare_counts(counts, records, total)
+            compare_counts(r.counts, records, total)
         }
         None => one(false),
     }
 }
 
 fn narrow(n: usize) -> u32 {
-    if n > 1000 {
-        return 1000;
-    }
-    n as u32
+    n.min(1000) as u32
 }
 
 fn compare_orders(on: &[u8], first: usize, records: &mut [u8]) -> Tally {
-    let mut t = Tally {
-        counts: 0,
-        differ: 0,
-    };
+    let mut t = Tally::default();
     for order in 1..=MAX_IMAGE_ORDER {
         t = add(t, compare_order(on, first, order, records));
     }
@@ -218,10 +165,7 @@ fn compare_orders(on: &[u8], first: usize, records: &mut [u8]) -> Tally {
 fn compare_firsts(planes: usize, records: &mut [u8]) -> Tally
     requires { planes ≤ 6 }
 {
-    let mut t = Tally {
-        counts: 0,
-        differ: 0,
-    };
+    let mut t = Tally::default();
     for first in 0..=planes {
         let on = mask(first);
         t = add(t, compare_orders(&on[..planes], first, records));
@@ -230,10 +174,7 @@ fn compare_firsts(planes: usize, records: &mut [u8]) -> Tally
 }
 
 fn compare_planes(records: &mut [u8]) -> Tally {
-    let mut t = Tally {
-        counts: 0,
-        differ: 0,
-    };
+    let mut t = Tally::default();
     for planes in 1..=PLANES {
         t = add(t, compare_firsts(planes, records));
     }
@@ -243,11 +184,7 @@ fn compare_planes(records: &mut [u8]) -> Tally {
 fn main(rt: HostRuntime) -> io::Result<()> {
     show_answers(&rt)?;
     show_limits(&rt)?;
-    let mut records = room();
+    let mut records: [u8; RECORDS] = text::filled(0);
     let t = compare_planes(&mut records);
-    print(&rt, b"counts compared")?;
-    print_number(&rt, t.counts as u64)?;
-    print(&rt, b", different")?;
-    print_number(&rt, t.differ as u64)?;
-    print(&rt, b"\n")
+    println!(rt; "counts compared {}, different {}", t.counts, t.differ)
 }

@@ -8,6 +8,7 @@ use listing::RECORDS;
 use numbering::{BAD_NUMBER, Walls, sequence_of};
 use sequences::{MAX_IMAGE_ORDER, RECORD, enumerate};
 use std::io;
+use text::filled;
 
 const PLANES: u32 = 5;
 
@@ -16,62 +17,31 @@ const ORDERS: u32 = 4;
 const MASKS: u32 = 32;
 
 // How many numbers gave walls, how many were refused as they must be, and how many of either were not as they must be.
-#[derive(Drop)]
+#[derive(Clone, Copy)]
 struct Tally {
     compared: u64,
     refused: u64,
     differ: u64,
 }
 
-// Room for the records of 250,000 images. A function of its own, so that no proof looks into so long a list.
-fn room() -> [u8; RECORDS] {
-    [0; RECORDS]
-}
-
-fn print(rt: &impl Print, bytes: &[u8]) -> io::Result<()> {
-    rt.write_all(bytes)
-}
-
-fn print_number(rt: &impl Print, n: u64) -> io::Result<()> {
-    rt.print(n)
-}
-
 // ---- the ends of the ranges
 
-fn print_plane(rt: &impl Print, p: u8) -> io::Result<()> {
-    print(rt, b" ")?;
-    print_number(rt, p as u64)
-}
-
-fn print_planes(rt: &impl Print, planes: [u8; MAX_IMAGE_ORDER], len: usize) -> io::Result<()> {
-    for i in 0..MAX_IMAGE_ORDER {
-        if i < len {
-            print_plane(rt, planes[i])?;
-        }
+fn print_walls(rt: &impl Print, w: Walls) -> io::Result<()> {
+    if w.refusal != 0 {
+        let refusal = w.refusal;
+        return print!(rt; " refused {refusal}");
+    }
+    for p in w.planes.iter().take(w.len) {
+        print!(rt; " {p}")?;
     }
     Ok(())
 }
 
-fn print_walls(rt: &impl Print, w: Walls) -> io::Result<()> {
-    if w.refusal == 0 {
-        let planes = w.planes;
-        return print_planes(rt, planes, w.len);
-    }
-    print(rt, b" refused ")?;
-    print_number(rt, w.refusal as u64)
-}
-
 fn show(rt: &impl Print, planes: u32, order: u32, on: &[u8], number: u32) -> io::Result<()> {
-    print_number(rt, planes as u64)?;
-    print(rt, b" planes, ")?;
-    print_number(rt, on.len() as u64)?;
-    print(rt, b" bytes, order ")?;
-    print_number(rt, order as u64)?;
-    print(rt, b", number ")?;
-    print_number(rt, number as u64)?;
-    print(rt, b":")?;
+    let bytes = on.len();
+    print!(rt; "{planes} planes, {bytes} bytes, order {order}, number {number}:")?;
     print_walls(rt, sequence_of(planes, order, on, number))?;
-    print(rt, b"\n")
+    println!(rt)
 }
 
 // The source on no plane, with so many bytes.
@@ -151,8 +121,8 @@ fn agrees(w: Walls, records: &[u8], at: u32) -> bool {
 fn compared(t: Tally, so: bool) -> Tally {
     Tally {
         compared: plus(t.compared),
-        refused: t.refused,
         differ: plus_unless(t.differ, so),
+        ..t
     }
 }
 
@@ -176,9 +146,9 @@ fn compare_all(
 fn compare_none(t: Tally, order: u32, planes: u32, on: &[u8], number: u32) -> Tally {
     let w = sequence_of(planes, order, on, number);
     Tally {
-        compared: t.compared,
         refused: plus(t.refused),
         differ: plus_unless(t.differ, w.refusal == BAD_NUMBER && w.len == 0),
+        ..t
     }
 }
 
@@ -241,20 +211,15 @@ fn compare_rooms(records: &mut [u8]) -> Tally {
     t
 }
 
-fn print_tally(rt: &impl Print, t: Tally) -> io::Result<()> {
-    print_number(rt, t.compared)?;
-    print(rt, b" numbers compared, ")?;
-    print_number(rt, t.refused)?;
-    print(rt, b" refused, ")?;
-    print_number(rt, t.differ)?;
-    print(rt, b" differ\n")
-}
-
 fn main(rt: HostRuntime) -> io::Result<()> {
     let off = [0u8; 257];
     show_ends(&rt, &off)?;
     show_limits(&rt, &off)?;
     show_bytes(&rt)?;
-    let mut records = room();
-    print_tally(&rt, compare_rooms(&mut records))
+    let mut records: [u8; RECORDS] = filled(0);
+    let t = compare_rooms(&mut records);
+    let compared = t.compared;
+    let refused = t.refused;
+    let differ = t.differ;
+    println!(rt; "{compared} numbers compared, {refused} refused, {differ} differ")
 }

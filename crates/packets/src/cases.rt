@@ -1,11 +1,9 @@
 // One stored case: what the packet's reader or writer answers, and whether that is the stored answer.
-ghost use Rattle.std.specs.Prelude.{◌≡◌, ◌+◌, length};
-ghost use Rattle.packet.specs.Limits.{out_bytes, area_words};
-
 use crate::words;
 use packet::Head;
 use refusals::Refusal;
 use std::io;
+use text::filled;
 
 // What an area holds before a call.
 const FILL: u32 = 0x5a5a5a5a;
@@ -19,58 +17,14 @@ const BYTES: usize = packet::OUT_BYTES + 34;
 
 const LONGEST: usize = packet::OUT_BYTES;
 
-// A tap area before a call.
-fn fresh_words() -> [u32; WORDS]
-    ensures { length result ≡ area_words + 4 }
-{
-    [FILL; WORDS]
-}
-
-// An output area before a call.
-fn fresh_bytes() -> [u8; BYTES]
-    ensures { length result ≡ out_bytes + 34 }
-{
-    [FILL_BYTE; BYTES]
-}
-
-// Zeros, to which the start of a packet is stored.
-fn zeros() -> [u8; LONGEST]
-    ensures { length result ≡ out_bytes }
-{
-    [0u8; LONGEST]
-}
-
 // Whether the words from `from` on are as they were.
 fn words_kept(a: &[u32], from: usize) -> bool {
-    for i in from..a.len() {
-        if a[i] != FILL {
-            return false;
-        }
-    }
-    true
+    a.iter().skip(from).all(|w| *w == FILL)
 }
 
 // Whether the bytes from `from` on are as they were.
 fn bytes_kept(a: &[u8], from: usize) -> bool {
-    for i in from..a.len() {
-        if a[i] != FILL_BYTE {
-            return false;
-        }
-    }
-    true
-}
-
-// Whether `b` starts with the bytes of `a`.
-fn starts_with(b: &[u8], a: &[u8]) -> bool {
-    for i in 0..a.len() {
-        if b.len() <= i {
-            return false;
-        }
-        if a[i] != b[i] {
-            return false;
-        }
-    }
-    true
+    a.iter().skip(from).all(|b| *b == FILL_BYTE)
 }
 
 // One word more in a check: 31 times what it was, and the word, modulo a prime.
@@ -80,14 +34,7 @@ fn check_step(c: u64, w: u32) -> u64 {
 
 // The check of the first `n` words.
 fn check_words(a: &[u32], n: usize) -> u64 {
-    let mut c: u64 = 0;
-    for i in 0..n {
-        if a.len() <= i {
-            return c;
-        }
-        c = check_step(c, a[i]);
-    }
-    c
+    a.iter().take(n).fold(0, |c, w| check_step(c, *w))
 }
 
 fn print_refusal(rt: &impl Print, refusal: Refusal) -> io::Result<()> {
@@ -95,17 +42,8 @@ fn print_refusal(rt: &impl Print, refusal: Refusal) -> io::Result<()> {
     print!(rt; "refused {n}")
 }
 
-fn print_number(rt: &impl Print, name: &[u8], n: u64) -> io::Result<()> {
-    rt.write_all(name)?;
-    rt.print(n)
-}
-
 fn print_verdict(rt: &impl Print, ok: bool) -> io::Result<bool> {
-    if ok {
-        rt.write_all(b", ok\n")?;
-    } else {
-        rt.write_all(b", DIFFERS\n")?;
-    }
+    println!(rt; "{}", if ok { ", ok" } else { ", DIFFERS" })?;
     Ok(ok)
 }
 
@@ -113,21 +51,27 @@ fn print_verdict(rt: &impl Print, ok: bool) -> io::Result<bool> {
 fn print_name(rt: &impl Print, kind: &[u8], line: &[u8]) -> io::Result<usize> {
     let end = words::find(line, 2, true);
     rt.write_all(kind)?;
-    if 2 <= end {
-        if end <= line.len() {
-            rt.write_all(&line[2..end])?;
-        }
-    }
-    rt.write_all(b": ")?;
+    rt.write_all(line.get(2..end).unwrap_or(b""))?;
+    print!(rt; ": ")?;
     Ok(end)
 }
 
 // Whether the taps that were read are written again as the bytes that they were read from, and nothing more.
+<<<<<<< HEAD
 fn same_again(bytes: &[u8], head: Head, taps: &[u32]) -> bool {
     let mut out = fresh_bytes();
     match packet::write(head, taps, &mut out) {
         Ok(n) => n == bytes.len() && starts_with(&out, bytes) && bytes_kept(&out, n),
         Err(_) => false,
+=======
+fn same_again(bytes: &[u8], count: usize, images: u32, rays: u32, taps: &[u32]) -> bool {
+    let mut out: [u8; BYTES] = filled(FILL_BYTE);
+    match packet::write(count, images, rays, taps, &mut out) {
+        packet::Written::Bytes(n) => {
+            n == bytes.len() && out.starts_with(bytes) && bytes_kept(&out, n)
+        }
+        packet::Written::Refused(_) => false,
+>>>>>>> 82e84cdb66e072b0cdfd22133534303be9d7c71b
     }
 }
 
@@ -141,6 +85,7 @@ struct Expected {
     check: u64,
 }
 
+<<<<<<< HEAD
 fn print_taps(rt: &impl Print, head: Head, again: bool) -> io::Result<()> {
     print_number(rt, b"taps ", head.count as u64)?;
     print_number(rt, b" images ", head.images as u64)?;
@@ -150,6 +95,17 @@ fn print_taps(rt: &impl Print, head: Head, again: bool) -> io::Result<()> {
     } else {
         rt.write_all(b", NOT written again as the same bytes")
     }
+=======
+fn print_taps(
+    rt: &impl Print,
+    count: usize,
+    images: u32,
+    rays: u32,
+    again: bool,
+) -> io::Result<()> {
+    let not = if again { "" } else { "NOT " };
+    print!(rt; "taps {count} images {images} rays {rays}, {not}written again as the same bytes")
+>>>>>>> 82e84cdb66e072b0cdfd22133534303be9d7c71b
 }
 
 // Whether the taps read are the stored ones, and the words past them are as they were.
@@ -198,13 +154,10 @@ pub(crate) fn read_case(rt: &impl Print, line: &[u8]) -> io::Result<bool> {
         rays: f[5],
         check: f[6],
     };
-    let mut bytes = zeros();
+    let mut bytes: [u8; LONGEST] = filled(0);
     words::hex_bytes(line, at, &mut bytes);
-    let mut area = fresh_words();
-    if WORDS < words {
-        return print_verdict(rt, false);
-    }
-    if LONGEST < n {
+    let mut area: [u32; WORDS] = filled(FILL);
+    if WORDS < words || LONGEST < n {
         return print_verdict(rt, false);
     }
     let ok = try_read(rt, &bytes[..n], &mut area[..words], e)?;
@@ -220,10 +173,17 @@ fn try_write(
     refusal: u64,
     packet: &[u8],
 ) -> io::Result<bool> {
+<<<<<<< HEAD
     match packet::write(head, taps, out) {
         Ok(n) => {
             print_number(rt, b"bytes ", n as u64)?;
             Ok(refusal == 0 && n == packet.len() && starts_with(out, packet) && bytes_kept(out, n))
+=======
+    match packet::write(count, images, rays, taps, out) {
+        packet::Written::Bytes(n) => {
+            print!(rt; "bytes {n}")?;
+            Ok(refusal == 0 && n == packet.len() && out.starts_with(packet) && bytes_kept(out, n))
+>>>>>>> 82e84cdb66e072b0cdfd22133534303be9d7c71b
         }
         Err(e) => {
             print_refusal(rt, e)?;
@@ -240,18 +200,12 @@ pub(crate) fn write_case(rt: &impl Print, line: &[u8]) -> io::Result<bool> {
     let words = f[0] as usize;
     let room = f[1] as usize;
     let n = f[6] as usize;
-    let mut area = fresh_words();
+    let mut area: [u32; WORDS] = filled(FILL);
     let next = words::hex_words(line, at, &mut area);
-    let mut bytes = zeros();
+    let mut bytes: [u8; LONGEST] = filled(0);
     words::hex_bytes(line, next, &mut bytes);
-    let mut out = fresh_bytes();
-    if WORDS < words {
-        return print_verdict(rt, false);
-    }
-    if BYTES < room {
-        return print_verdict(rt, false);
-    }
-    if LONGEST < n {
+    let mut out: [u8; BYTES] = filled(FILL_BYTE);
+    if WORDS < words || BYTES < room || LONGEST < n {
         return print_verdict(rt, false);
     }
     let head = Head {

@@ -9,38 +9,35 @@ struct Found {
 
 // The place of the first byte from `at` on that is a space, or that is none.
 pub(crate) fn find(s: &[u8], at: usize, space: bool) -> usize {
-    let mut i = at;
-    while i < s.len() {
+    for i in at..s.len() {
         if (s[i] == b' ') == space {
             return i;
         }
-        i += 1;
     }
-    i
+    at.max(s.len())
 }
 
 // One decimal digit more, for numbers of at most ten digits.
 fn push_digit(n: u64, digit: u8) -> u64 {
-    if n < 1000000000 {
-        if b'0' <= digit {
-            return n * 10 + (digit - b'0') as u64;
-        }
+    if n < 1000000000 && b'0' <= digit {
+        return n * 10 + (digit - b'0') as u64;
     }
     n
 }
 
 // The decimal number at a place.
 fn number(s: &[u8], at: usize) -> Found {
-    let mut n: u64 = 0;
-    let mut i = at;
-    while i < s.len() {
+    let mut value: u64 = 0;
+    for i in at..s.len() {
         if s[i] < b'0' {
-            return Found { value: n, next: i };
+            return Found { value, next: i };
         }
-        n = push_digit(n, s[i]);
-        i += 1;
+        value = push_digit(value, s[i]);
     }
-    Found { value: n, next: i }
+    Found {
+        value,
+        next: at.max(s.len()),
+    }
 }
 
 // The numbers of the next seven words. Answers the place after them.
@@ -63,12 +60,9 @@ fn push_byte(to: &mut [u8], k: usize, digit: u8) {
 
 // The bytes in hexadecimal from `at` up to the line's end, to `to`, which is zeros.
 pub(crate) fn hex_bytes(s: &[u8], at: usize, to: &mut [u8]) {
-    let mut i = at;
     let mut k = 0;
-    while i < s.len() {
-        let d = text::hex_digit(s[i]);
-        i += 1;
-        if d < 16 {
+    for i in at..s.len() {
+        if let Some(d) = text::hex_digit(s[i]) {
             push_byte(to, k, d);
             k += 1;
         }
@@ -77,18 +71,15 @@ pub(crate) fn hex_bytes(s: &[u8], at: usize, to: &mut [u8]) {
 
 // The words in hexadecimal from `at` up to `=` or the line's end, to `to`. Answers the place after them.
 pub(crate) fn hex_words(s: &[u8], at: usize, to: &mut [u32]) -> usize {
-    let mut i = at;
-    let mut k = 0;
-    while i < s.len() {
-        let b = s[i];
-        i += 1;
-        if b == b'=' {
-            return i;
+    let part = s.get(at..).unwrap_or(b"");
+    match listing::find(part, b'=') {
+        Some(k) => {
+            text::hex_words(&part[..k], to);
+            at + k + 1
         }
-        if text::hex_digit(b) < 16 {
-            text::put_hex(to, k, b);
-            k += 1;
+        None => {
+            text::hex_words(part, to);
+            at.max(s.len())
         }
     }
-    i
 }

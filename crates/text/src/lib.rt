@@ -6,7 +6,7 @@
 // that they lie within the text.
 #![tactic(auto)]
 
-ghost use Rattle.std.specs.Prelude.{◌≡◌, ◌+◌, ◌/◌, ◌^◌, ◌<◌, ◌≤◌, true, IfSome, length, drop, fold, from_bits, slice_index, slice_index_or, slice_set};
+ghost use Rattle.std.specs.Prelude.{◌≡◌, ◌+◌, ◌/◌, ◌^◌, ◌<◌, ◌≤◌, true, IfOk, IfSome, length, drop, fold, from_bits, slice_index, slice_index_or, slice_set};
 ghost use Rattle.std.specs.Float.{binary32};
 ghost use Rattle.listing.specs.Request.{is_digit_byte, is_decimal_text};
 ghost use Rattle.listing.specs.Text.{Wrote};
@@ -15,6 +15,8 @@ ghost use Rattle.text.specs.Fixed as fixed;
 ghost use Rattle.text.specs.Lines.{line_length};
 
 use listing::{find, is_decimal, put, put_digits};
+use std::io;
+use std::io::Read;
 
 // The first number that no u32 is.
 const WORD_END: u64 = 4294967296;
@@ -383,4 +385,43 @@ pub fn next_token(s: &[u8], at: usize, line: u32) -> Token
         end: token_end(s, place.at),
         line: place.line,
     }
+}
+
+// ---- lines of hexadecimal digits
+
+// The hexadecimal digits of a text, to words that are zero, eight to a word; other bytes are passed over. Answers how many digits there are.
+pub fn hex_words(s: &[u8], words: &mut [u32]) -> usize {
+    let mut k = 0;
+    for b in s {
+        if hex_digit(*b).is_some() {
+            put_hex(words, k, *b);
+            k += 1;
+        }
+    }
+    k
+}
+
+// ---- a program's areas and input
+
+// An array of one value. A function, so that no proof looks into so long a list.
+pub fn filled<T: Copy, const N: usize>(value: T) -> [T; N]
+    ensures { length result ≡ N }
+{
+    [value; N]
+}
+
+// Reads until `buf` is full or the input ends; answers how many bytes stand at its start. No method of the library does: `read_exact` takes an early end for
+// an error, and `read_to_end` allocates.
+pub fn read_full(input: &mut impl Read, buf: &mut [u8]) -> io::Result<usize>
+    ensures { IfOk result (λ n. n ≤ length buf.new) }
+{
+    let mut done = 0;
+    while done < buf.len() {
+        let n = input.read(&mut buf[done..])?;
+        if n == 0 {
+            break;
+        }
+        done += n;
+    }
+    Ok(done)
 }

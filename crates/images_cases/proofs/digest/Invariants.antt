@@ -3,5 +3,5 @@ use Prim.Native.Nat.{◌<◌}
 use lib.ListN.{length}
 use Rattle.images_cases.proofs.digest.Given as goal
 
-abbrev pub invariant-loop-i : goal.invariant-loop-i
-invariant-loop-i l = l.sum < 4294967291
+abbrev pub invariant-loop-b : goal.invariant-loop-b
+invariant-loop-b l = l.sum < 4294967291

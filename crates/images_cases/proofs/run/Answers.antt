@@ -4,8 +4,8 @@ use lib.Seq.{length-take-le}
 use Rattle.listing.proofs.Answering.{answer_within}
 use Rattle.images_cases.proofs.run.Goals as goal
 
-pub slice_bounds-print-end-in-Head : goal.slice_bounds-print-end-in-Head
-slice_bounds-print-end-in-Head g c = answer_within _ _ _ _ _ _ _ _ c.answer.ensures c.in-Head.is
+pub slice_bounds-write_all-end : goal.slice_bounds-write_all-end
+slice_bounds-write_all-end g c = answer_within _ _ _ c.in-Some.head.total c.in-Some.head.len _ _ _ c.answer.ensures c.in-Some.is
 
-pub slice_bounds-print-end-in-Head-2 : goal.slice_bounds-print-end-in-Head-2
-slice_bounds-print-end-in-Head-2 g c = sym (length-take-le _ _ (answer_within _ _ _ _ _ _ _ _ c.answer.ensures c.in-Head.is))
+pub slice_bounds-write_all-end-in-Some : goal.slice_bounds-write_all-end-in-Some
+slice_bounds-write_all-end-in-Some g c = sym (length-take-le _ _ (answer_within _ _ _ c.in-Some.head.total c.in-Some.head.len _ _ _ c.answer.ensures c.in-Some.is))

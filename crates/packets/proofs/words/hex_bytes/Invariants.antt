@@ -1,11 +1,6 @@
--- `packets::words::hex_bytes` meets its contract: there are no more digits than bytes seen.
-use Prim.Native.Nat.{◌-◌, ◌≤◌}
-use mathlib.Core.Path.{◌≡◌}
-use lib.ListN.{length}
+-- `packets::words::hex_bytes` is safe: there are no more digits than places passed.
+use Rattle.std.proofs.Common.{◌≤◌}
 use Rattle.packets.proofs.words.hex_bytes.Given as goal
 
 abbrev pub invariant-loop-i : goal.invariant-loop-i
-invariant-loop-i l = (l.k ≤ l.i) × (length l.to ≡ length l.initial.to)
-
-abbrev pub decreases-loop-i : goal.decreases-loop-i
-decreases-loop-i l = length l.s - l.i
+invariant-loop-i l = l.k ≤ l.i

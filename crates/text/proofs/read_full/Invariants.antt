@@ -1,6 +1,6 @@
 -- `read_full` ends, since each turn leaves less to fill.
 use Rattle.std.proofs.Common.{length, ◌-◌, ◌≤◌, ◌≡◌}
-use Rattle.images.proofs.read_full.Given as goal
+use Rattle.text.proofs.read_full.Given as goal
 
 abbrev pub invariant-loop-done : goal.invariant-loop-done
 invariant-loop-done g l = (length l.buf ≡ length l.initial.buf) × (l.done ≤ length l.buf)

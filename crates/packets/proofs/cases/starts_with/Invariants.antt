@@ -1,6 +1,0 @@
--- `packets::cases::starts_with` meets its contract: each index is below the length, and each turn brings it nearer.
-use lib.ListN.{length}
-use Rattle.packets.proofs.cases.starts_with.Given as goal
-
-abbrev pub invariant-loop-i : goal.invariant-loop-i
-invariant-loop-i l = Unit {0}
