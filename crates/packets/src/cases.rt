@@ -57,21 +57,11 @@ fn print_name(rt: &impl Print, kind: &[u8], line: &[u8]) -> io::Result<usize> {
 }
 
 // Whether the taps that were read are written again as the bytes that they were read from, and nothing more.
-<<<<<<< HEAD
 fn same_again(bytes: &[u8], head: Head, taps: &[u32]) -> bool {
-    let mut out = fresh_bytes();
-    match packet::write(head, taps, &mut out) {
-        Ok(n) => n == bytes.len() && starts_with(&out, bytes) && bytes_kept(&out, n),
-        Err(_) => false,
-=======
-fn same_again(bytes: &[u8], count: usize, images: u32, rays: u32, taps: &[u32]) -> bool {
     let mut out: [u8; BYTES] = filled(FILL_BYTE);
-    match packet::write(count, images, rays, taps, &mut out) {
-        packet::Written::Bytes(n) => {
-            n == bytes.len() && out.starts_with(bytes) && bytes_kept(&out, n)
-        }
-        packet::Written::Refused(_) => false,
->>>>>>> 82e84cdb66e072b0cdfd22133534303be9d7c71b
+    match packet::write(head, taps, &mut out) {
+        Ok(n) => n == bytes.len() && out.starts_with(bytes) && bytes_kept(&out, n),
+        Err(_) => false,
     }
 }
 
@@ -85,27 +75,12 @@ struct Expected {
     check: u64,
 }
 
-<<<<<<< HEAD
 fn print_taps(rt: &impl Print, head: Head, again: bool) -> io::Result<()> {
-    print_number(rt, b"taps ", head.count as u64)?;
-    print_number(rt, b" images ", head.images as u64)?;
-    print_number(rt, b" rays ", head.rays as u64)?;
-    if again {
-        rt.write_all(b", written again as the same bytes")
-    } else {
-        rt.write_all(b", NOT written again as the same bytes")
-    }
-=======
-fn print_taps(
-    rt: &impl Print,
-    count: usize,
-    images: u32,
-    rays: u32,
-    again: bool,
-) -> io::Result<()> {
+    let count = head.count;
+    let images = head.images;
+    let rays = head.rays;
     let not = if again { "" } else { "NOT " };
     print!(rt; "taps {count} images {images} rays {rays}, {not}written again as the same bytes")
->>>>>>> 82e84cdb66e072b0cdfd22133534303be9d7c71b
 }
 
 // Whether the taps read are the stored ones, and the words past them are as they were.
@@ -173,17 +148,10 @@ fn try_write(
     refusal: u64,
     packet: &[u8],
 ) -> io::Result<bool> {
-<<<<<<< HEAD
     match packet::write(head, taps, out) {
         Ok(n) => {
-            print_number(rt, b"bytes ", n as u64)?;
-            Ok(refusal == 0 && n == packet.len() && starts_with(out, packet) && bytes_kept(out, n))
-=======
-    match packet::write(count, images, rays, taps, out) {
-        packet::Written::Bytes(n) => {
             print!(rt; "bytes {n}")?;
             Ok(refusal == 0 && n == packet.len() && out.starts_with(packet) && bytes_kept(out, n))
->>>>>>> 82e84cdb66e072b0cdfd22133534303be9d7c71b
         }
         Err(e) => {
             print_refusal(rt, e)?;
