@@ -14,8 +14,10 @@ ghost use Rattle.clearing.specs.Zero.{PlanesZero, SceneZero};
 ghost use Rattle.answer.specs.Answer.{answered_of, by_refusal, Answers};
 ghost use Rattle.answer.specs.Loaded.{Heard, Finds, Ready, AnswersLoaded};
 
+use bounces::PlaneTable;
 use scene::Settings;
 use search::Found;
+use tree_trace::FlatBvh;
 use vector::Vec3;
 
 // The refusal, or 0 and the counts: taps, images, rays, and bytes of the packet.
@@ -102,28 +104,25 @@ fn find(
     );
     let from = 12 * m;
     let to = 22 * m;
-    search::search_images(
-        &tree[0..from],
+    let bvh = FlatBvh {
+        padded: &tree[0..from],
         nodes,
-        &leaf_order[..m],
-        &tree[from..to],
+        leaf_order: &leaf_order[..m],
+        leaves: &tree[from..to],
         handles,
-        built.nodes,
-        materials,
+        count: built.nodes,
+    };
+    let planes = PlaneTable {
         triangles,
         n,
-        plane_floats,
-        plane_words,
-        plane_triangles,
-        plane_edges,
-        built.planes,
-        settings,
-        source,
-        listener,
-        order,
-        room,
-        floats,
-        numbers,
+        floats: plane_floats,
+        words: plane_words,
+        members: plane_triangles,
+        edges: plane_edges,
+        count: built.planes,
+    };
+    search::search_images(
+        &bvh, materials, &planes, settings, source, listener, order, room, floats, numbers,
     )
 }
 

@@ -4,11 +4,13 @@ use Rattle.sequences.specs.Allowed.{most_order}
 use Rattle.geometry.specs.declared.Triangle.{Triangle}
 use Rattle.columns.specs.Columns.{column_count}
 use Rattle.vector.specs.declared.Vec3.{Vec3}
-use Rattle.mirror.specs.Rows.{vec_of_floats, row_of, tris_of, PlanesHeld, AllRead}
+use Rattle.mirror.specs.Rows.{vec_of_floats, row_of, tris_of, PlanesHeld, AllRead, planes_in}
 use Rattle.bounces.specs.declared.Lost.{Lost}
 use Rattle.bounces.specs.declared.Lost.TheVariants.{NotCrossed, OffSurface}
 use Rattle.bounces.specs.declared.Trail.{Trail}
 use Rattle.bounces.specs.Bounces.{Bounces, not_crossed, off_surface, made}
+use Rattle.bounces.specs.declared.PlaneTable.{PlaneTable}
+use Rattle.mirror.specs.Plane.{Plane}
 
 -- columns of n triples, and the areas of `count` planes
 pub record PlanesLent (columns : List Float) (n : ℕ) (floats : List Float) (words members : List ℕ) (edges : List Float) (count : ℕ) : Type 0 where
@@ -46,3 +48,13 @@ trail_of (Err OffSurface) n = off_surface
 pub record Going (t : Trail) : Type 0 where
   pub points_room : length t.points ≡ max_order
   pub tris_room : length t.tris ≡ max_order
+
+-- the same of the planes that are lent; and what they read as
+abbrev pub TableLent : PlaneTable → Type 0
+TableLent p = PlanesLent p.triangles.now p.n p.floats.now p.words.now p.members.now p.edges.now p.count
+
+abbrev pub TableReads : (ℕ → Triangle) → PlaneTable → Type 0
+TableReads tri p = PlanesRead tri p.triangles.now p.n p.floats.now p.words.now p.members.now p.count
+
+abbrev pub planes_of_table : PlaneTable → List Plane
+planes_of_table p = planes_in p.floats.now p.words.now p.members.now p.edges.now p.count

@@ -12,7 +12,7 @@ ghost use Rattle.mirror.specs.Mirror.{mirror_of};
 ghost use Rattle.mirror.specs.Rows.{plane_float_count, plane_word_count, planes_in};
 ghost use Rattle.bounces.specs.Image.{lies_on_of};
 ghost use Rattle.bounces.specs.Bounces.{bounce_of, turn_of, back_of, plane_on};
-ghost use Rattle.bounces.specs.Areas.{PlanesLent, PlanesRead, max_order, trail_of, fate_of, point_in, point_floats, Going};
+ghost use Rattle.bounces.specs.Areas.{max_order, trail_of, fate_of, point_in, point_floats, Going, TableLent, TableReads, planes_of_table};
 
 use vector::Vec3;
 
@@ -32,6 +32,19 @@ pub struct Trail {
     pub points: [Vec3; 8],
     pub tris: [usize; 8],
     pub weight: f32,
+}
+
+// The planes as a bounce reads them: their rows of floats and words, their triangles and the edges of their borders, and the scene's triangles, by
+// columns of n.
+#[derive(Clone, Copy)]
+pub struct PlaneTable<'a> {
+    pub triangles: &'a [f32],
+    pub n: usize,
+    pub floats: &'a [f32],
+    pub words: &'a [u32],
+    pub members: &'a [u32],
+    pub edges: &'a [f32],
+    pub count: usize,
 }
 
 // ---- images
@@ -59,31 +72,32 @@ pub fn next_image(plane_floats: &[f32], plane_words: &[u32], p: usize, image: Ve
 
 // The bounce on plane p, between `prev` and the image `target`: the triangle, the edge weight and the point.
 fn bounce_on(
-    triangles: &[f32],
-    n: usize,
-    plane_floats: &[f32],
-    plane_words: &[u32],
-    plane_triangles: &[u32],
-    plane_edges: &[f32],
-    count: usize,
+    planes: &PlaneTable,
     fade: f32,
     p: usize,
     prev: Vec3,
     target: Vec3,
 ) -> Result<(usize, f32, Vec3), Lost>
-    requires planes_lent { PlanesLent triangles.now n plane_floats.now plane_words.now plane_triangles.now plane_edges.now count }
-    requires p_lt_count { p < count }
+    requires planes_lent { TableLent planes.now }
+    requires p_lt_count { p < planes.now.count }
     ensures { (tri : ℕ → Triangle) →
-        PlanesRead tri triangles.now n plane_floats.now plane_words.now plane_triangles.now count →
+        TableReads tri planes.now →
         result ≡ bounce_of tri fade
-        (nth_plane (planes_in plane_floats.now plane_words.now plane_triangles.now plane_edges.now count) p)
+        (nth_plane (planes_of_table planes.now) p)
         prev target }
 {
-    let plane = mirror::plane_at(plane_floats, plane_words, p);
+    let plane = mirror::plane_at(planes.floats, planes.words, p);
     let b = mirror::crossing(plane, prev, target).ok_or(Lost::NotCrossed)?;
-    mirror::locate_on_plane(triangles, n, plane, plane_triangles, plane_edges, fade, b).ok_or(
-        Lost::OffSurface,
+    mirror::locate_on_plane(
+        planes.triangles,
+        planes.n,
+        plane,
+        planes.members,
+        planes.edges,
+        fade,
+        b,
     )
+    .ok_or(Lost::OffSurface)
 }
 
 // A trail with bounce k.
@@ -120,13 +134,7 @@ pub fn no_bounces() -> Trail
 
 // The k bounces next to the source, from `prev` on, before the others of `order` bounces, which t has.
 pub fn back(
-    triangles: &[f32],
-    n: usize,
-    plane_floats: &[f32],
-    plane_words: &[u32],
-    plane_triangles: &[u32],
-    plane_edges: &[f32],
-    count: usize,
+    planes: &PlaneTable,
     fade: f32,
     seq: [u32; 8],
     images: [Vec3; 9],
@@ -135,14 +143,14 @@ pub fn back(
     prev: Vec3,
     t: Trail,
 ) -> Result<Trail, Lost>
-    requires planes_lent { PlanesLent triangles.now n plane_floats.now plane_words.now plane_triangles.now plane_edges.now count }
+    requires planes_lent { TableLent planes.now }
     requires k_le_order { (k ≤ order) × (order ≤ max_order) }
-    requires by_index { (j : ℕ) → j < order → get_or seq j 0 < count }
+    requires by_index { (j : ℕ) → j < order → get_or seq j 0 < planes.now.count }
     requires going { Going t }
     ensures by_index_2 { (tri : ℕ → Triangle) →
-        PlanesRead tri triangles.now n plane_floats.now plane_words.now plane_triangles.now count →
+        TableReads tri planes.now →
         trail_of result order ≡ back_of tri fade (plane_on
-        (planes_in plane_floats.now plane_words.now plane_triangles.now plane_edges.now count) seq) (λ j.
+        (planes_of_table planes.now) seq) (λ j.
         get_or images j no_point) k prev t.weight (slice k order t.points) (slice k order t.tris) }
     ensures going_2 { IfOk result Going }
 {
@@ -152,67 +160,29 @@ pub fn back(
     let d = k - 1;
     let p = seq[d] as usize;
     let target = images[k];
-    let (i, w, q) = bounce_on(
-        triangles,
-        n,
-        plane_floats,
-        plane_words,
-        plane_triangles,
-        plane_edges,
-        count,
-        fade,
-        p,
-        prev,
-        target,
-    )?;
-    back(
-        triangles,
-        n,
-        plane_floats,
-        plane_words,
-        plane_triangles,
-        plane_edges,
-        count,
-        fade,
-        seq,
-        images,
-        order,
-        d,
-        q,
-        put(t, d, i, w, q),
-    )
+    let (i, w, q) = bounce_on(planes, fade, p, prev, target)?;
+    back(planes, fade, seq, images, order, d, q, put(t, d, i, w, q))
 }
 
 // ---- the first bounce that fails
 
 // The bounce on plane p as in `bounce_on`, but its edges are not weighed. The row is read anew once the plane is crossed: the crossing takes four
 // of its seventeen values.
-fn turn_on(
-    triangles: &[f32],
-    n: usize,
-    plane_floats: &[f32],
-    plane_words: &[u32],
-    plane_triangles: &[u32],
-    plane_edges: &[f32],
-    count: usize,
-    p: usize,
-    prev: Vec3,
-    target: Vec3,
-) -> Result<Vec3, Lost>
-    requires planes_lent { PlanesLent triangles.now n plane_floats.now plane_words.now plane_triangles.now plane_edges.now count }
-    requires p_lt_count { p < count }
+fn turn_on(planes: &PlaneTable, p: usize, prev: Vec3, target: Vec3) -> Result<Vec3, Lost>
+    requires planes_lent { TableLent planes.now }
+    requires p_lt_count { p < planes.now.count }
     ensures { (tri : ℕ → Triangle) (fade : Float) →
-        PlanesRead tri triangles.now n plane_floats.now plane_words.now plane_triangles.now count →
+        TableReads tri planes.now →
         result ≡ turn_of (bounce_of tri fade
-        (nth_plane (planes_in plane_floats.now plane_words.now plane_triangles.now plane_edges.now count) p)
+        (nth_plane (planes_of_table planes.now) p)
         prev target) }
 {
-    let side = mirror::plane_at(plane_floats, plane_words, p);
+    let side = mirror::plane_at(planes.floats, planes.words, p);
     let Some(b) = mirror::crossing(side, prev, target) else {
         return Err(Lost::NotCrossed);
     };
-    let plane = mirror::plane_at(plane_floats, plane_words, p);
-    let Some((_, q)) = mirror::surface(triangles, n, plane, plane_triangles, b) else {
+    let plane = mirror::plane_at(planes.floats, planes.words, p);
+    let Some((_, q)) = mirror::surface(planes.triangles, planes.n, plane, planes.members, b) else {
         return Err(Lost::OffSurface);
     };
     Ok(q)
@@ -221,25 +191,19 @@ fn turn_on(
 // Whether all bounces on the first `order` planes are made, whose images stand in `images`. Nothing is kept of them: of the sequences that a search
 // visits nearly all fail here, most at the first or second bounce.
 pub fn fate_back(
-    triangles: &[f32],
-    n: usize,
-    plane_floats: &[f32],
-    plane_words: &[u32],
-    plane_triangles: &[u32],
-    plane_edges: &[f32],
-    count: usize,
+    planes: &PlaneTable,
     seq: &[u32],
     images: &[f32],
     order: usize,
     listener: Vec3,
 ) -> Result<(), Lost>
-    requires planes_lent { PlanesLent triangles.now n plane_floats.now plane_words.now plane_triangles.now plane_edges.now count }
+    requires planes_lent { TableLent planes.now }
     requires order_in_bounds { (order ≤ length seq.now) × (point_floats * order + point_floats ≤ length images.now) }
-    requires by_index { (j : ℕ) → j < order → get_or seq.now j 0 < count }
+    requires by_index { (j : ℕ) → j < order → get_or seq.now j 0 < planes.now.count }
     ensures { (tri : ℕ → Triangle) (fade : Float) →
-        PlanesRead tri triangles.now n plane_floats.now plane_words.now plane_triangles.now count →
+        TableReads tri planes.now →
         result ≡ fate_of (back_of tri fade (plane_on
-        (planes_in plane_floats.now plane_words.now plane_triangles.now plane_edges.now count)
+        (planes_of_table planes.now)
         seq.now) (point_in images.now) order listener one32 [] []) }
 {
     let mut prev = listener;
@@ -248,18 +212,7 @@ pub fn fate_back(
         let target = mirror::vec_in(images, POINT_FLOATS * k);
         k -= 1;
         let p = seq[k] as usize;
-        prev = turn_on(
-            triangles,
-            n,
-            plane_floats,
-            plane_words,
-            plane_triangles,
-            plane_edges,
-            count,
-            p,
-            prev,
-            target,
-        )?;
+        prev = turn_on(planes, p, prev, target)?;
     }
     Ok(())
 }

@@ -7,20 +7,20 @@ ghost use Rattle.geometry.specs.declared.Triangle.{Triangle};
 ghost use Rattle.tree_build.specs.Tree.{Tree};
 ghost use Rattle.scene.specs.Limits.{most_crossings};
 ghost use Rattle.mirror.specs.Plane.{no_point};
-ghost use Rattle.mirror.specs.Rows.{planes_in};
 ghost use Rattle.segments.specs.Materials.{material_floats};
-ghost use Rattle.segments.specs.Areas.{TreeReads, Traceable};
+ghost use Rattle.segments.specs.Areas.{BvhReads, BvhTraceable};
 ghost use Rattle.bounces.specs.Image.{image_of};
-ghost use Rattle.bounces.specs.Areas.{max_order, trail_of, Going};
+ghost use Rattle.bounces.specs.Areas.{max_order, trail_of, Going, planes_of_table};
 ghost use Rattle.paths.specs.Visibility.{start_of, go_of, way_of};
 ghost use Rattle.paths.specs.Gains.{usable_of, reflected_of, gains_of, rejected_of, candidate_of, arrived_of};
 ghost use Rattle.paths.specs.Path.{verdict, lost_of, bounced_of, path_of};
-ghost use Rattle.paths.specs.Areas.{soft_in, SceneLent, ReadAs};
+ghost use Rattle.paths.specs.Areas.{soft_in, SearchLent, SearchReads};
 
 use air::Air;
 use bands::{Band8, DistanceModel};
-use bounces::{Lost, Trail};
+use bounces::{Lost, PlaneTable, Trail};
 use scene::Settings;
+use tree_trace::FlatBvh;
 use vector::Vec3;
 
 const LEAST_ENERGY: f32 = 1e-14;
@@ -93,32 +93,22 @@ fn begin(listener: Vec3) -> Way
 
 // One segment more, to `to`.
 fn go(
-    padded: &[f32],
-    nodes: &[u32],
-    leaf_order: &[u32],
-    leaves: &[f32],
-    handles: &[u32],
-    nodes_count: usize,
+    bvh: &FlatBvh,
     materials: &[f32],
     crossing_limit: u32,
     probe_radius: f32,
     to: Vec3,
     w: Way,
 ) -> Way
-    requires traceable { Traceable padded.now nodes.now leaf_order.now leaves.now handles.now nodes_count materials.now }
+    requires traceable { BvhTraceable bvh.now materials.now }
     requires crossing_limit_bound { w.rays + 18 * (crossing_limit + 1) < 2 ^ 32 }
     ensures by_index { (tri : ℕ → Triangle) (t : Tree) →
-        TreeReads padded.now nodes.now leaf_order.now leaves.now handles.now tri t →
+        BvhReads bvh.now tri t →
         result ≡ go_of (soft_in crossing_limit probe_radius tri t materials.now) to w }
     ensures rays_bound { result.rays ≤ w.rays + 18 * (crossing_limit + 1) }
 {
     let g = segments::segment_soft_transmission(
-        padded,
-        nodes,
-        leaf_order,
-        leaves,
-        handles,
-        nodes_count,
+        bvh,
         materials,
         crossing_limit,
         probe_radius,
@@ -135,12 +125,7 @@ fn go(
 
 // From the listener by way of the bounces, the last one first, to the source.
 fn go_all(
-    padded: &[f32],
-    nodes: &[u32],
-    leaf_order: &[u32],
-    leaves: &[f32],
-    handles: &[u32],
-    nodes_count: usize,
+    bvh: &FlatBvh,
     materials: &[f32],
     crossing_limit: u32,
     probe_radius: f32,
@@ -149,11 +134,11 @@ fn go_all(
     source: Vec3,
     listener: Vec3,
 ) -> Way
-    requires traceable { Traceable padded.now nodes.now leaf_order.now leaves.now handles.now nodes_count materials.now }
+    requires traceable { BvhTraceable bvh.now materials.now }
     requires order_le_max_order { (order ≤ max_order) × (length points ≡ max_order) }
     requires max_order_bound { 18 * (crossing_limit + 1) * (max_order + 1) < 2 ^ 32 }
     ensures by_index { (tri : ℕ → Triangle) (t : Tree) →
-        TreeReads padded.now nodes.now leaf_order.now leaves.now handles.now tri t →
+        BvhReads bvh.now tri t →
         result ≡ way_of (soft_in crossing_limit probe_radius tri t materials.now) listener source (take order points) }
     ensures rays_bound { result.rays ≤ 18 * (crossing_limit + 1) * (order + 1) }
 {
@@ -162,33 +147,9 @@ fn go_all(
     while 0 < k {
         k -= 1;
         let to = points[k];
-        w = go(
-            padded,
-            nodes,
-            leaf_order,
-            leaves,
-            handles,
-            nodes_count,
-            materials,
-            crossing_limit,
-            probe_radius,
-            to,
-            w,
-        );
+        w = go(bvh, materials, crossing_limit, probe_radius, to, w);
     }
-    go(
-        padded,
-        nodes,
-        leaf_order,
-        leaves,
-        handles,
-        nodes_count,
-        materials,
-        crossing_limit,
-        probe_radius,
-        source,
-        w,
-    )
+    go(bvh, materials, crossing_limit, probe_radius, source, w)
 }
 
 // ---- what arrives
@@ -288,12 +249,7 @@ fn counted(fate: Fate, rays: u32) -> Verdict
 
 // A trail of `order` bounces, if all are made: what is in the way, and what arrives.
 fn judge(
-    padded: &[f32],
-    nodes: &[u32],
-    leaf_order: &[u32],
-    leaves: &[f32],
-    handles: &[u32],
-    nodes_count: usize,
+    bvh: &FlatBvh,
     materials: &[f32],
     s: Settings,
     trail: Result<Trail, Lost>,
@@ -301,11 +257,11 @@ fn judge(
     source: Vec3,
     listener: Vec3,
 ) -> Verdict
-    requires traceable { Traceable padded.now nodes.now leaf_order.now leaves.now handles.now nodes_count materials.now }
+    requires traceable { BvhTraceable bvh.now materials.now }
     requires order_nonzero { (0 < order) × (order ≤ max_order) × (s.crossing_limit ≤ most_crossings) }
     requires going { IfOk trail Going }
     ensures by_index { (tri : ℕ → Triangle) (t : Tree) →
-        TreeReads padded.now nodes.now leaf_order.now leaves.now handles.now tri t →
+        BvhReads bvh.now tri t →
         result ≡ bounced_of (soft_in s.crossing_limit s.probe_radius tri t materials.now) s materials.now tri order source listener (trail_of trail order) }
     ensures rays_bound { result.rays ≤ 18 * (s.crossing_limit + 1) * (order + 1) }
 {
@@ -315,12 +271,7 @@ fn judge(
     };
     let points = made.points;
     let way = go_all(
-        padded,
-        nodes,
-        leaf_order,
-        leaves,
-        handles,
-        nodes_count,
+        bvh,
         materials,
         s.crossing_limit,
         s.probe_radius,
@@ -334,7 +285,7 @@ fn judge(
         let g = gains(
             s.distance_model,
             s.air,
-            reflected(handles, materials, made.tris, order),
+            reflected(bvh.handles, materials, made.tris, order),
             way.total,
             made.weight,
         );
@@ -348,20 +299,9 @@ fn judge(
 
 // The path by way of the first `order` planes of `seq`, whose images stand in `images`.
 pub fn validate_image_path(
-    padded: &[f32],
-    nodes: &[u32],
-    leaf_order: &[u32],
-    leaves: &[f32],
-    handles: &[u32],
-    nodes_count: usize,
+    bvh: &FlatBvh,
     materials: &[f32],
-    triangles: &[f32],
-    n: usize,
-    plane_floats: &[f32],
-    plane_words: &[u32],
-    plane_triangles: &[u32],
-    plane_edges: &[f32],
-    count: usize,
+    planes: &PlaneTable,
     s: Settings,
     seq: [u32; 8],
     images: [Vec3; 9],
@@ -369,29 +309,21 @@ pub fn validate_image_path(
     source: Vec3,
     listener: Vec3,
 ) -> Verdict
-    requires scene_lent { SceneLent padded.now nodes.now leaf_order.now leaves.now handles.now nodes_count materials.now triangles.now n plane_floats.now
-        plane_words.now plane_triangles.now plane_edges.now count }
+    requires scene_lent { SearchLent bvh.now materials.now planes.now }
     requires order_nonzero { (0 < order) × (order ≤ max_order) × (length seq ≡ max_order) × (s.crossing_limit ≤ most_crossings) }
-    requires by_index { (j : ℕ) → j < order → get_or seq j 0 < count }
+    requires by_index { (j : ℕ) → j < order → get_or seq j 0 < planes.now.count }
     requires by_index_2 { (j : ℕ) → j ≤ order → get_or images j no_point ≡
-        image_of (planes_in plane_floats.now plane_words.now plane_triangles.now plane_edges.now count) source (take j seq) }
+        image_of (planes_of_table planes.now) source (take j seq) }
     ensures by_index_3 { (tri : ℕ → Triangle) (t : Tree) →
-        ReadAs padded.now nodes.now leaf_order.now leaves.now handles.now triangles.now n
-        plane_floats.now plane_words.now plane_triangles.now count tri t → result ≡
-        path_of s (planes_in plane_floats.now plane_words.now plane_triangles.now plane_edges.now count) tri
+        SearchReads bvh.now planes.now tri t → result ≡
+        path_of s (planes_of_table planes.now) tri
         t materials.now source listener (take order seq) }
     ensures rays_bound { result.rays ≤ 18 * (s.crossing_limit + 1) * (order + 1) }
 {
     let image = images[order];
     if vector::distance3(listener, image) <= s.max_reflection_distance {
         let trail = bounces::back(
-            triangles,
-            n,
-            plane_floats,
-            plane_words,
-            plane_triangles,
-            plane_edges,
-            count,
+            planes,
             s.reflection_edge_fade,
             seq,
             images,
@@ -400,20 +332,7 @@ pub fn validate_image_path(
             listener,
             bounces::no_bounces(),
         );
-        return judge(
-            padded,
-            nodes,
-            leaf_order,
-            leaves,
-            handles,
-            nodes_count,
-            materials,
-            s,
-            trail,
-            order,
-            source,
-            listener,
-        );
+        return judge(bvh, materials, s, trail, order, source, listener);
     }
     counted(Fate::TooFar, 0)
 }

@@ -7,13 +7,13 @@ ghost use Rattle.std.specs.Prelude.{◌≡◌, ℕ, ◌*◌, ◌/◌, ◌<◌, �
 ghost use Rattle.order.specs.Open.{Open};
 ghost use Rattle.geometry.specs.declared.Triangle.{Triangle};
 ghost use Rattle.tree_build.specs.Tree.{Tree};
-ghost use Rattle.tree_trace.specs.Trace.{Held};
+ghost use Rattle.tree_trace.specs.Trace.{BvhHeld};
 ghost use Rattle.planes_faces.specs.Key.{vertex_key};
 ghost use Rattle.planes_faces.specs.Numbers as faces;
 ghost use Rattle.planes_patches.specs.Triangles.{triangles_in};
 ghost use Rattle.planes_patches.specs.Grid.{bucket_count};
 ghost use Rattle.planes_patches.specs.Rows.{patch_floats, patches_in, Numbered};
-ghost use Rattle.planes_buried.specs.Probe.{probe_of, TreeHeld};
+ghost use Rattle.planes_buried.specs.Probe.{probe_of, BvhTreeHeld};
 ghost use Rattle.planes_groups.specs.Settings as groups;
 ghost use Rattle.planes.specs.Build.{plane_settings, open_patches_of, group_planes_of, planes_of_triangles};
 ghost use Rattle.planes_ranked.specs.Areas.{TrianglesLent, GroupPlanes};
@@ -21,6 +21,7 @@ ghost use Rattle.planes.specs.Areas.{OpenRoom, GroupRoom, PlanesRoom, seats};
 ghost use Rattle.mirror.specs.Rows.{planes_in, PlanesHeld};
 
 use scene::Settings;
+use tree_trace::FlatBvh;
 
 // The heads of the grid of normals.
 const BUCKETS: usize = 4096;
@@ -35,15 +36,10 @@ fn fresh_heads() -> [u32; BUCKETS]
 // has done with serves the next one: keys holds the grid's cells, next the largest triangles, first the flags.
 fn open_patches(
     triangles: &[f32],
-    handles: &[u32],
     n: usize,
     m: usize,
     reach: f32,
-    padded: &[f32],
-    nodes: &[u32],
-    leaf_order: &[u32],
-    leaves: &[f32],
-    count: usize,
+    bvh: &FlatBvh,
     keys: &mut [u64],
     low_keys: &mut [u64],
     index: &mut [u32],
@@ -56,14 +52,14 @@ fn open_patches(
     plane_floats: &mut [f32],
     of: &mut [u32],
 ) -> usize
-    requires triangles_lent { TrianglesLent triangles.now handles.now n m }
+    requires triangles_lent { TrianglesLent triangles.now bvh.now.handles.now n m }
     requires open_room { OpenRoom n keys.old low_keys.old index.old words.old scratch.old numbers.old first.old next.old areas.old plane_floats.old of.old }
-    requires held { Held padded.now nodes.now leaf_order.now leaves.now count }
-    requires count_nonzero { 0 < count }
+    requires held { BvhHeld bvh.now }
+    requires count_nonzero { 0 < bvh.now.count }
     ensures result_after { (s : groups.Settings) (tri : ℕ → Triangle) (k : Tree) → s.buried ≡ reach →
-        TreeHeld tri k padded.now nodes.now leaf_order.now leaves.now handles.now →
+        BvhTreeHeld tri k bvh.now →
         patches_in plane_floats.new of.new m result ≡
-        open_patches_of s (probe_of tri k) (triangles_in triangles.now handles.now n m) }
+        open_patches_of s (probe_of tri k) (triangles_in triangles.now bvh.now.handles.now n m) }
     ensures upper_bound { (result ≤ m) × Numbered of.new m result }
     ensures numbered { faces.Numbered vertex_key triangles.now n n numbers.new }
 {
@@ -81,7 +77,7 @@ fn open_patches(
     );
     let np = planes_patches::coplanar_patches(
         triangles,
-        handles,
+        bvh.handles,
         n,
         m,
         first,
@@ -93,15 +89,10 @@ fn open_patches(
     );
     planes_buried::open_patches(
         triangles,
-        handles,
         n,
         m,
         reach,
-        padded,
-        nodes,
-        leaf_order,
-        leaves,
-        count,
+        bvh,
         np,
         areas,
         next,
@@ -210,15 +201,10 @@ fn fresh() -> [u32; SEATS]
 // They stand in plane_floats, plane_words, plane_triangles and plane_edges (mirror's `plane_at` reads them).
 pub fn build_planes(
     triangles: &[f32],
-    handles: &[u32],
     n: usize,
     m: usize,
     settings: Settings,
-    padded: &[f32],
-    nodes: &[u32],
-    leaf_order: &[u32],
-    leaves: &[f32],
-    count: usize,
+    bvh: &FlatBvh,
     keys: &mut [u64],
     low_keys: &mut [u64],
     words: &mut [u64],
@@ -234,14 +220,14 @@ pub fn build_planes(
     plane_words: &mut [u32],
     plane_edges: &mut [f32],
 ) -> usize
-    requires triangles_lent { TrianglesLent triangles.now handles.now n m }
-    requires held { Held padded.now nodes.now leaf_order.now leaves.now count × (0 < count) }
+    requires triangles_lent { TrianglesLent triangles.now bvh.now.handles.now n m }
+    requires held { BvhHeld bvh.now × (0 < bvh.now.count) }
     requires planes_room { PlanesRoom n keys.old low_keys.old words.old scratch.old index.old numbers.old adjacency.old queue.old offsets.old
         plane_triangles.old plane_words.old plane_floats.old floats.old plane_edges.old }
     ensures by_index { (tri : ℕ → Triangle) (k : Tree) →
-        TreeHeld tri k padded.now nodes.now leaf_order.now leaves.now handles.now →
+        BvhTreeHeld tri k bvh.now →
         planes_in plane_floats.new plane_words.new plane_triangles.new plane_edges.new result ≡
-        planes_of_triangles (plane_settings settings) (probe_of tri k) (triangles_in triangles.now handles.now n m) }
+        planes_of_triangles (plane_settings settings) (probe_of tri k) (triangles_in triangles.now bvh.now.handles.now n m) }
     ensures upper_bound { (result ≤ settings.max_reflection_planes) ×
         PlanesHeld plane_floats.new plane_words.new plane_triangles.new plane_edges.new m result }
     ensures rest { Open keys.old keys.new × Open low_keys.old low_keys.new × Open words.old words.new ×
@@ -254,15 +240,10 @@ pub fn build_planes(
     let mut of = fresh();
     let np = open_patches(
         triangles,
-        handles,
         n,
         m,
         settings.plane_buried_distance,
-        padded,
-        nodes,
-        leaf_order,
-        leaves,
-        count,
+        bvh,
         keys,
         low_keys,
         index,
@@ -277,7 +258,7 @@ pub fn build_planes(
     );
     let ng = group_planes(
         triangles,
-        handles,
+        bvh.handles,
         n,
         m,
         plane_floats,
@@ -302,7 +283,7 @@ pub fn build_planes(
     );
     planes_ranked::ranked_planes(
         triangles,
-        handles,
+        bvh.handles,
         n,
         m,
         settings.max_reflection_planes as usize,

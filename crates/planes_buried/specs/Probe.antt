@@ -9,6 +9,7 @@ use Rattle.tree_build.specs.Areas.{tree_at_of}
 use Rattle.tree_trace.specs.Leaf.{LeafRows}
 use Rattle.tree_trace.specs.Trace.{intersect_of, padded_tree_of}
 use Rattle.planes_buried.specs.Buried.{probe_ray_of}
+use Rattle.tree_trace.specs.declared.FlatBvh.{FlatBvh}
 
 -- `probe`
 unfoldable pub probe_of : (ℕ → Triangle) → Tree → Ray → Bool
@@ -23,3 +24,7 @@ pub record TreeHeld (tri : ℕ → Triangle) (t : Tree) (padded : List Float) (n
 -- a probe finds something on both sides of a triangle
 unfoldable pub lies_between : (Ray → Bool) → Triangle → Float → Bool
 lies_between probe t reach = probe (probe_ray_of t reach one32) && probe (probe_ray_of t reach (neg one32))
+
+-- the tree that is lent holds these triangles
+abbrev pub BvhTreeHeld : (ℕ → Triangle) → Tree → FlatBvh → Type 0
+BvhTreeHeld tri t b = TreeHeld tri t b.padded.now b.nodes.now b.leaf_order.now b.leaves.now b.handles.now

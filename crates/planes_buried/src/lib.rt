@@ -13,14 +13,15 @@ ghost use Rattle.geometry.specs.declared.Triangle.{Triangle};
 ghost use Rattle.geometry.specs.Triangle.{triangle_area_of};
 ghost use Rattle.columns.specs.Columns.{column_count, triangle_at_of};
 ghost use Rattle.tree_build.specs.Tree.{Tree};
-ghost use Rattle.tree_trace.specs.Trace.{Held};
+ghost use Rattle.tree_trace.specs.Trace.{BvhHeld};
 ghost use Rattle.planes_patches.specs.Triangles.{nth_triangle, triangles_in};
 ghost use Rattle.planes_patches.specs.Rows.{patch_floats, none_of, row_in, tris_in, patches_in, Numbered};
 ghost use Rattle.planes_buried.specs.Buried.{buried_probe_start, signed_of, probe_ray_of, open_of};
-ghost use Rattle.planes_buried.specs.Probe.{probe_of, lies_between, TreeHeld};
+ghost use Rattle.planes_buried.specs.Probe.{probe_of, lies_between, TreeHeld, BvhTreeHeld};
 ghost use Rattle.planes_buried.specs.Passes.{best_at, best_of, or_zero, is_open, open_to, number_in, renumbered_of};
 
 use geometry::Triangle;
+use tree_trace::FlatBvh;
 use vector::{Ray, Vec3};
 
 // ---- the probe
@@ -61,45 +62,28 @@ fn probe_ray(t: Triangle, reach: f32, s: f32) -> Ray
 }
 
 // Whether a ray hits something.
-fn probe(
-    padded: &[f32],
-    nodes: &[u32],
-    leaf_order: &[u32],
-    leaves: &[f32],
-    handles: &[u32],
-    count: usize,
-    ray: Ray,
-) -> bool
-    requires held { Held padded.now nodes.now leaf_order.now leaves.now count }
-    requires count_nonzero { 0 < count }
+fn probe(bvh: &FlatBvh, ray: Ray) -> bool
+    requires held { BvhHeld bvh.now }
+    requires count_nonzero { 0 < bvh.now.count }
     ensures { (tri : ℕ → Triangle) (t : Tree) →
-        TreeHeld tri t padded.now nodes.now leaf_order.now leaves.now handles.now →
+        TreeHeld tri t bvh.now.padded.now bvh.now.nodes.now bvh.now.leaf_order.now bvh.now.leaves.now bvh.now.handles.now →
         result ≡ probe_of tri t ray }
 {
-    tree_trace::intersect(padded, nodes, leaf_order, leaves, handles, count, ray).is_some()
+    tree_trace::intersect(bvh, ray).is_some()
 }
 
 // Whether rays from both sides of a triangle hit something.
-fn is_between(
-    padded: &[f32],
-    nodes: &[u32],
-    leaf_order: &[u32],
-    leaves: &[f32],
-    handles: &[u32],
-    count: usize,
-    t: Triangle,
-    reach: f32,
-) -> bool
-    requires held { Held padded.now nodes.now leaf_order.now leaves.now count }
-    requires count_nonzero { 0 < count }
+fn is_between(bvh: &FlatBvh, t: Triangle, reach: f32) -> bool
+    requires held { BvhHeld bvh.now }
+    requires count_nonzero { 0 < bvh.now.count }
     ensures { (tri : ℕ → Triangle) (k : Tree) →
-        TreeHeld tri k padded.now nodes.now leaf_order.now leaves.now handles.now →
+        BvhTreeHeld tri k bvh.now →
         result ≡ lies_between (probe_of tri k) t reach }
 {
     let front = probe_ray(t, reach, 1.0);
     let back = probe_ray(t, reach, -1.0);
-    if probe(padded, nodes, leaf_order, leaves, handles, count, front) {
-        return probe(padded, nodes, leaf_order, leaves, handles, count, back);
+    if probe(bvh, front) {
+        return probe(bvh, back);
     }
     false
 }
@@ -208,31 +192,26 @@ fn flag(buried: bool) -> u32
 // The flag of each patch, by its largest triangle.
 fn mark_open(
     triangles: &[f32],
-    handles: &[u32],
     n: usize,
     reach: f32,
-    padded: &[f32],
-    nodes: &[u32],
-    leaf_order: &[u32],
-    leaves: &[f32],
-    count: usize,
+    bvh: &FlatBvh,
     largest: &[u32],
     np: usize,
     flags: &mut [u32],
 )
-    requires n_in_bounds { (column_count * n ≤ length triangles.now) × (n ≤ length handles.now) × (np ≤ length largest.now) × (np ≤ length flags.old) × (np ≤ 4294967295) }
-    requires held { Held padded.now nodes.now leaf_order.now leaves.now count }
-    requires count_nonzero { 0 < count }
+    requires n_in_bounds { (column_count * n ≤ length triangles.now) × (n ≤ length bvh.now.handles.now) × (np ≤ length largest.now) × (np ≤ length flags.old) × (np ≤ 4294967295) }
+    requires held { BvhHeld bvh.now }
+    requires count_nonzero { 0 < bvh.now.count }
     requires by_index { (p : ℕ) → p < np → or_zero (get_or largest.now p 0) < n }
     ensures { (p : ℕ) → p < np → (tri : ℕ → Triangle) (k : Tree) →
-        TreeHeld tri k padded.now nodes.now leaf_order.now leaves.now handles.now →
+        BvhTreeHeld tri k bvh.now →
         eqb (get_or flags.new p 0) 0 ≡
-        lies_between (probe_of tri k) (triangle_at_of triangles.now handles.now n (or_zero (get_or largest.now p 0))) reach }
+        lies_between (probe_of tri k) (triangle_at_of triangles.now bvh.now.handles.now n (or_zero (get_or largest.now p 0))) reach }
 {
     for p in 0..np {
         let i = or_zero(largest[p]) as usize;
-        let t = columns::triangle_at(triangles, handles, n, i);
-        let buried = is_between(padded, nodes, leaf_order, leaves, handles, count, t, reach);
+        let t = columns::triangle_at(triangles, bvh.handles, n, i);
+        let buried = is_between(bvh, t, reach);
         flags[p] = flag(buried);
     }
 }
@@ -296,15 +275,10 @@ fn renumber(of: &mut [u32], m: usize, numbers: &[u32])
 // STEP 3 of the planes: the patches that are not buried, in order, with new numbers. The number of them is returned.
 pub fn open_patches(
     triangles: &[f32],
-    handles: &[u32],
     n: usize,
     m: usize,
     reach: f32,
-    padded: &[f32],
-    nodes: &[u32],
-    leaf_order: &[u32],
-    leaves: &[f32],
-    count: usize,
+    bvh: &FlatBvh,
     np: usize,
     areas: &mut [f32],
     largest: &mut [u32],
@@ -312,25 +286,23 @@ pub fn open_patches(
     rows: &mut [f32],
     of: &mut [u32],
 ) -> usize
-    requires n_in_bounds { (column_count * n ≤ length triangles.now) × (n ≤ length handles.now) × (m ≤ n) × (m ≤ 4294967295) × (m ≤ length of.old) }
+    requires n_in_bounds { (column_count * n ≤ length triangles.now) × (n ≤ length bvh.now.handles.now) × (m ≤ n) × (m ≤ 4294967295) × (m ≤ length of.old) }
     requires np_le_m { (np ≤ m) × (np ≤ length areas.old) × (np ≤ length largest.old) × (np ≤ length flags.old) × (patch_floats * np ≤ length rows.old) }
-    requires held { Held padded.now nodes.now leaf_order.now leaves.now count }
-    requires count_nonzero { 0 < count }
+    requires held { BvhHeld bvh.now }
+    requires count_nonzero { 0 < bvh.now.count }
     requires numbered { Numbered of.old m np }
     ensures by_index { (tri : ℕ → Triangle) (k : Tree) →
-        TreeHeld tri k padded.now nodes.now leaf_order.now leaves.now handles.now →
+        BvhTreeHeld tri k bvh.now →
         patches_in rows.new of.new m result ≡
-        open_of (probe_of tri k) (triangles_in triangles.now handles.now n m) reach (patches_in rows.old of.old m np) }
+        open_of (probe_of tri k) (triangles_in triangles.now bvh.now.handles.now n m) reach (patches_in rows.old of.old m np) }
     ensures upper_bound { (result ≤ np) × Numbered of.new m result }
     ensures rest { Open areas.old areas.new × Open largest.old largest.new × Open flags.old flags.new }
 {
     if reach > 0.0 {} else {
         return np;
     }
-    largest_triangles(triangles, handles, n, m, of, np, areas, largest);
-    mark_open(
-        triangles, handles, n, reach, padded, nodes, leaf_order, leaves, count, largest, np, flags,
-    );
+    largest_triangles(triangles, bvh.handles, n, m, of, np, areas, largest);
+    mark_open(triangles, n, reach, bvh, largest, np, flags);
     // The largest triangles are done with: their triangles takes the new numbers.
     let r = close_rows(flags, np, rows, largest);
     renumber(of, m, largest);

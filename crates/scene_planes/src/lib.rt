@@ -5,6 +5,7 @@
 ghost use Rattle.scene_planes.specs.ScenePlanes.{PlanesReady, SceneBuilt};
 
 use scene::Settings;
+use tree_trace::FlatBvh;
 
 // How many nodes the tree has, and how many planes there are.
 #[derive(Clone, Copy)]
@@ -65,17 +66,20 @@ pub fn build_scene(
     );
     let from = 12 * m;
     let to = 22 * m;
+    let bvh = FlatBvh {
+        padded: &tree[0..from],
+        nodes,
+        leaf_order: &leaf_order[..m],
+        leaves: &tree[from..to],
+        handles,
+        count: nodes_count,
+    };
     let planes = planes::build_planes(
         triangles,
-        handles,
         n,
         m,
         settings,
-        &tree[0..from],
-        nodes,
-        &leaf_order[..m],
-        &tree[from..to],
-        nodes_count,
+        &bvh,
         keys,
         low_keys,
         words,

@@ -37,7 +37,7 @@ module _ (S : SearchAreas) (q : Task) where
 
   module _ (d p : ℕ) (seq seq₁ : List ℕ) (images images₁ : List Float) (t : Tally) (seq_is : seq₁ ≡ set seq d p)
       (images_are : images₁ ≡ point_put images (point_floats * (d + 1)) (mirror_of (nth_plane (planes_of S q) p) (point_in images d))) where
-    pub sound_push : d < 8 → p < q.count → Sound S q d (state seq images t) → Sound S q (d + 1) (state seq₁ images₁ t)
+    pub sound_push : d < 8 → p < S.count → Sound S q d (state seq images t) → Sound S q (d + 1) (state seq₁ images₁ t)
     sound_push h l k = record {
       seq_room = ap length seq_is ∙ length-set seq d p ∙ k.seq_room;
       images_room = ap length images_are ∙ length_put images (point_floats * (d + 1)) (mirror_of (nth_plane (planes_of S q) p) (point_in images d)) ∙ k.images_room;
@@ -49,7 +49,7 @@ module _ (S : SearchAreas) (q : Task) where
       cost = k.cost;
     }
       where
-        put : (j : ℕ) → j < d + 1 → get_or (set seq d p) j 0 < q.count
+        put : (j : ℕ) → j < d + 1 → get_or (set seq d p) j 0 < S.count
         put j i =
             by_order d j
             (λ e.
@@ -61,7 +61,7 @@ module _ (S : SearchAreas) (q : Task) where
             rw g (k.planes j e))
 
     pub visitable_push :
-        (fs : List Float) (ws : List ℕ) → SearchReady S q d (state seq images t) fs ws → p < q.count → t.nodes < q.limit →
+        (fs : List Float) (ws : List ℕ) → SearchReady S q d (state seq images t) fs ws → p < S.count → t.nodes < q.limit →
         Visitable S q (d + 1) (state seq₁ images₁ t) fs ws
     visitable_push fs ws r l room = record {
       some = omega arith;
@@ -121,8 +121,8 @@ module _ (S : SearchAreas) (q : Task) where
     sound = g;
   }
 
-  pub firsts_length : length (firsts_of S q) ≡ q.count
-  firsts_length = on_length (planes_of S q) q.source ∙ planes_length S.floats S.words S.members S.edges q.count
+  pub firsts_length : length (firsts_of S q) ≡ S.count
+  firsts_length = on_length (planes_of S q) q.source ∙ planes_length S.floats S.words S.members S.edges S.count
 
   -- ---- the runs
 
@@ -236,7 +236,7 @@ module _ (S : SearchAreas) (q : Task) where
     -- one whose bounces are not all made
     pub visited_lost :
         (seq : List ℕ) (images : List Float) (t : Tally) (fs : List Float) (ws : List ℕ) → d ≤ max_order → Sound S q d (state seq images t) →
-        Lost S.columns q.n S.floats S.words S.members S.edges q.count seq images d q.listener →
+        Lost S.columns S.n S.floats S.words S.members S.edges S.count seq images d q.listener →
         Visited S q d seq t fs ws (with_nodes t (t.nodes + 1)) fs ws
     unfolding visit_path outcome_of
     visited_lost seq images t fs ws h k lost = record {
@@ -256,7 +256,7 @@ module _ (S : SearchAreas) (q : Task) where
     more = q.order - (d + 1)
 
     walked_far :
-        (p : ℕ) (t : Tally) (fs : List Float) (ws : List ℕ) → SearchReady S q d (state seq images t) fs ws → d + 1 ≡ q.order → p < q.count →
+        (p : ℕ) (t : Tally) (fs : List Float) (ws : List ℕ) → SearchReady S q d (state seq images t) fs ws → d + 1 ≡ q.order → p < S.count →
         t.nodes < q.limit → may on (take d seq) p ≡ true →
         lt q.beyond (square_of q.listener (mirror_of (nth_plane (planes_of S q) p) (point_in images d))) ≡ true →
         Walked S q d (at on more (take d seq) p) (state seq images t) fs ws (state seq images (with_nodes t (t.nodes + 1))) fs ws
@@ -298,7 +298,7 @@ module _ (S : SearchAreas) (q : Task) where
       skips_not e = skips_step p t p₁ t₁ t₁ k (λ fs ws r last. walked_not d more p₁ (state seq images t₁) fs ws e r.sound)
 
       pub skips_far :
-          p₁ < q.count → t₁.nodes < q.limit → may on (take d seq) p₁ ≡ true →
+          p₁ < S.count → t₁.nodes < q.limit → may on (take d seq) p₁ ≡ true →
           lt q.beyond (square_of q.listener (mirror_of (nth_plane (planes_of S q) p₁) (point_in images d))) ≡ true →
           Skips S q d seq images p t (p₁ + 1) (with_nodes t₁ (t₁.nodes + 1))
       skips_far l room ok far = skips_step p t p₁ t₁ (with_nodes t₁ (t₁.nodes + 1)) k (λ fs ws r last. walked_far p₁ t₁ fs ws r last l room ok far)

@@ -23,6 +23,8 @@ use Rattle.claim.specs.Query.{Search, search, visit_path}
 use Rattle.search.specs.declared.Task.{Task}
 use Rattle.search.specs.declared.Tally.{Tally}
 use Rattle.search.specs.Outcome.{on_bytes, found_of, outcomes_of}
+use Rattle.tree_trace.specs.declared.FlatBvh.{FlatBvh}
+use Rattle.bounces.specs.declared.PlaneTable.{PlaneTable}
 
 -- the areas of a scene
 pub record SearchAreas : Type 0 where
@@ -31,27 +33,34 @@ pub record SearchAreas : Type 0 where
   pub perm : List ℕ
   pub rows : List Float
   pub handles : List ℕ
+  pub nodes_count : ℕ
   pub materials : List Float
   pub columns : List Float
+  pub n : ℕ
   pub floats : List Float
   pub words : List ℕ
   pub members : List ℕ
   pub edges : List Float
+  pub count : ℕ
 
-abbrev pub search_areas : List Float → List ℕ → List ℕ → List Float → List ℕ → List Float → List Float → List Float → List ℕ → List ℕ → List Float → SearchAreas
-search_areas padded nodes perm rows handles materials columns floats words members edges =
+-- the tree, the rows of materials and the planes, as they are lent
+abbrev pub search_areas : FlatBvh → List Float → PlaneTable → SearchAreas
+search_areas b materials p =
     record {
-      padded = padded;
-      nodes = nodes;
-      perm = perm;
-      rows = rows;
-      handles = handles;
+      padded = b.padded.now;
+      nodes = b.nodes.now;
+      perm = b.leaf_order.now;
+      rows = b.leaves.now;
+      handles = b.handles.now;
+      nodes_count = b.count;
       materials = materials;
-      columns = columns;
-      floats = floats;
-      words = words;
-      members = members;
-      edges = edges;
+      columns = p.triangles.now;
+      n = p.n;
+      floats = p.floats.now;
+      words = p.words.now;
+      members = p.members.now;
+      edges = p.edges.now;
+      count = p.count;
     }
 
 -- the sequence that the search is at with the image of each beginning, and what it has counted and found
@@ -91,13 +100,13 @@ most_path_rays = 18 * (most_crossings + 1) * (max_order + 1)
 module _ (S : SearchAreas) (q : Task) where
   -- the planes, what is asked of the areas, and what they read as
   abbrev pub planes_of : List Plane
-  planes_of = planes_in S.floats S.words S.members S.edges q.count
+  planes_of = planes_in S.floats S.words S.members S.edges S.count
 
   abbrev pub LentAs : Type 0
-  LentAs = SceneLent S.padded S.nodes S.perm S.rows S.handles q.nodes_count S.materials S.columns q.n S.floats S.words S.members S.edges q.count
+  LentAs = SceneLent S.padded S.nodes S.perm S.rows S.handles S.nodes_count S.materials S.columns S.n S.floats S.words S.members S.edges S.count
 
   abbrev pub Reads : (ℕ → Triangle) → Tree → Type 0
-  Reads tri t = ReadAs S.padded S.nodes S.perm S.rows S.handles S.columns q.n S.floats S.words S.members q.count tri t
+  Reads tri t = ReadAs S.padded S.nodes S.perm S.rows S.handles S.columns S.n S.floats S.words S.members S.count tri t
 
   -- what the claim is given, and its run from what the search holds
   abbrev pub firsts_of : List ℕ
@@ -113,7 +122,7 @@ module _ (S : SearchAreas) (q : Task) where
   pub record Sound (depth : ℕ) (s : State) : Type 0 where
     pub seq_room : length s.seq ≡ max_order
     pub images_room : length s.images ≡ point_floats * (max_order + 1)
-    pub planes : (j : ℕ) → j < depth → get_or s.seq j 0 < q.count
+    pub planes : (j : ℕ) → j < depth → get_or s.seq j 0 < S.count
     pub are : (j : ℕ) → j ≤ depth → point_in s.images j ≡ image_of planes_of q.source (take j s.seq)
     pub few : s.found ≤ q.room
     pub cost : s.rays ≤ most_path_rays * s.nodes
@@ -122,7 +131,7 @@ module _ (S : SearchAreas) (q : Task) where
   pub record SearchReady (depth : ℕ) (s : State) (fs : List Float) (ws : List ℕ) : Type 0 where
     pub deep : depth < q.order
     pub within : q.order ≤ max_order
-    pub small : q.count ≤ most_planes
+    pub small : S.count ≤ most_planes
     pub bound : q.limit ≤ most
     pub crossings : q.settings.crossing_limit ≤ most_crossings
     pub far : Beyond q.settings.max_reflection_distance q.beyond
@@ -170,8 +179,8 @@ pub record Skips (S : SearchAreas) (q : Task) (depth : ℕ) (seq : List ℕ) (im
 -- the same, up to a plane that may stand there and has not been run over, or all planes
 pub record Skipped (S : SearchAreas) (q : Task) (depth : ℕ) (seq : List ℕ) (images : List Float) (p : ℕ) (t : Tally) (p' : ℕ) (t' : Tally) : Type 0 where
   pub from : p ≤ p'
-  pub within : p' ≤ q.count
-  pub next : p' < q.count → (t'.nodes < q.limit) × (may (firsts_of S q) (take depth seq) p' ≡ true)
+  pub within : p' ≤ S.count
+  pub next : p' < S.count → (t'.nodes < q.limit) × (may (firsts_of S q) (take depth seq) p' ≡ true)
   pub skips : Skips S q depth seq images p t p' t'
 
 -- what a tally says with its rows
@@ -196,3 +205,7 @@ pub record Visited (S : SearchAreas) (q : Task) (len : ℕ) (seq : List ℕ) (s 
   pub cost : r.rays ≤ s.rays + most_path_rays
   pub few : r.found ≤ q.room
   pub seen : (tri : ℕ → Triangle) (t : Tree) → Reads S q tri t → tallied r fs' ws' ≡ visit_path q.room (path_in S q tri t) (tallied s fs ws) (take len seq)
+
+-- the same over the planes that are lent
+abbrev pub LostOf : PlaneTable → List ℕ → List Float → ℕ → Vec3 → Type 0
+LostOf p = Lost p.triangles.now p.n p.floats.now p.words.now p.members.now p.edges.now p.count

@@ -12,16 +12,18 @@ ghost use Rattle.mirror.specs.Plane.{no_point, nth_plane};
 ghost use Rattle.mirror.specs.Mirror.{mirror_of};
 ghost use Rattle.mirror.specs.Rows.{plane_float_count, plane_word_count, planes_in};
 ghost use Rattle.sequences.specs.Allowed as spec;
-ghost use Rattle.bounces.specs.Areas.{PlanesLent, max_order, point_floats, point_in};
+ghost use Rattle.bounces.specs.Areas.{max_order, point_floats, point_in, TableLent, planes_of_table};
 ghost use Rattle.ranking.specs.Rows.{CandidateRows, candidates_in};
-ghost use Rattle.paths.specs.Areas.{SceneLent, ReadAs};
+ghost use Rattle.paths.specs.Areas.{SearchLent, SearchReads};
 ghost use Rattle.claim.specs.Query.{search, searched};
 ghost use Rattle.search.specs.Outcome.{on_bytes, outcomes_of};
-ghost use Rattle.search.specs.Contract.{search_areas, state, counted_of, with_nodes, point_put, firsts_of, square_of, Beyond, Lost, SearchReady, Visitable, Walked, Kept, Visited, Skipped};
+ghost use Rattle.search.specs.Contract.{search_areas, state, counted_of, with_nodes, point_put, firsts_of, square_of, Beyond, SearchReady, Visitable, Walked, Kept, Visited, Skipped, LostOf};
 
+use bounces::PlaneTable;
 use paths::{Fate, PathCandidate};
 use ranking::Candidate;
 use scene::Settings;
+use tree_trace::FlatBvh;
 use vector::Vec3;
 
 // Floats of a point in an area.
@@ -32,10 +34,7 @@ const POINT_FLOATS: usize = 3;
 struct Task {
     listener: Vec3,
     beyond: f32,
-    n: usize,
-    count: usize,
     order: usize,
-    nodes_count: usize,
     room: usize,
     source: Vec3,
     limit: u32,
@@ -71,22 +70,15 @@ pub struct Found {
 // ---- one image more
 
 // Whether plane `p` may stand at place `depth`.
-fn may(
-    plane_floats: &[f32],
-    plane_words: &[u32],
-    q: Task,
-    seq: &[u32],
-    depth: usize,
-    p: usize,
-) -> bool
-    requires depth_in_bounds { (depth ≤ length seq.now) × (p < q.count) }
-    requires count_in_bounds { (plane_float_count * q.count ≤ length plane_floats.now) × (plane_word_count * q.count ≤ length plane_words.now) }
+fn may(planes: &PlaneTable, q: Task, seq: &[u32], depth: usize, p: usize) -> bool
+    requires depth_in_bounds { (depth ≤ length seq.now) × (p < planes.now.count) }
+    requires count_in_bounds { (plane_float_count * planes.now.count ≤ length planes.now.floats.now) × (plane_word_count * planes.now.count ≤ length planes.now.words.now) }
     ensures { (members : List ℕ) (edges : List Float) →
-        result ≡ spec.may (on_bytes (planes_in plane_floats.now plane_words.now members edges q.count) q.source)
+        result ≡ spec.may (on_bytes (planes_in planes.now.floats.now planes.now.words.now members edges planes.now.count) q.source)
         (take depth seq.now) p }
 {
     if depth < sequences::RULED {
-        !bounces::lies_on(plane_floats, plane_words, p, q.source)
+        !bounces::lies_on(planes.floats, planes.words, p, q.source)
     } else {
         seq[depth - 1] as usize != p
     }
@@ -103,27 +95,19 @@ pub fn put_point(l: &mut [f32], at: usize, v: Vec3)
 }
 
 // Puts plane `p` and its image at place `depth`.
-fn push(
-    plane_floats: &[f32],
-    plane_words: &[u32],
-    count: usize,
-    depth: usize,
-    p: usize,
-    seq: &mut [u32],
-    images: &mut [f32],
-)
-    requires depth_in_bounds { (depth < length seq.old) × (point_floats * (depth + 2) ≤ length images.old) × (p < count) × (count ≤ spec.most_planes) }
-    requires count_in_bounds { (plane_float_count * count ≤ length plane_floats.now) × (plane_word_count * count ≤ length plane_words.now) }
+fn push(planes: &PlaneTable, depth: usize, p: usize, seq: &mut [u32], images: &mut [f32])
+    requires depth_in_bounds { (depth < length seq.old) × (point_floats * (depth + 2) ≤ length images.old) × (p < planes.now.count) × (planes.now.count ≤ spec.most_planes) }
+    requires count_in_bounds { (plane_float_count * planes.now.count ≤ length planes.now.floats.now) × (plane_word_count * planes.now.count ≤ length planes.now.words.now) }
     ensures seq_after { seq.new ≡ set seq.old depth p }
     ensures by_index { (members : List ℕ) (edges : List Float) → images.new ≡ point_put images.old (point_floats * (depth + 1)) (mirror_of
-        (nth_plane (planes_in plane_floats.now plane_words.now members edges count) p) (point_in images.old depth)) }
+        (nth_plane (planes_in planes.now.floats.now planes.now.words.now members edges planes.now.count) p) (point_in images.old depth)) }
 {
     let from = mirror::vec_in(images, POINT_FLOATS * depth);
     seq[depth] = p as u32;
     put_point(
         images,
         POINT_FLOATS * (depth + 1),
-        bounces::next_image(plane_floats, plane_words, p, from),
+        bounces::next_image(planes.floats, planes.words, p, from),
     );
 }
 
@@ -231,17 +215,9 @@ fn all_points(images: &[f32]) -> [Vec3; 9]
 
 // Counts the image of the first `len` planes, judges its path, and keeps it if it passes.
 fn judge(
-    padded: &[f32],
-    nodes: &[u32],
-    leaf_order: &[u32],
-    leaves: &[f32],
-    handles: &[u32],
+    bvh: &FlatBvh,
     materials: &[f32],
-    triangles: &[f32],
-    plane_floats: &[f32],
-    plane_words: &[u32],
-    plane_triangles: &[u32],
-    plane_edges: &[f32],
+    planes: &PlaneTable,
     q: Task,
     len: usize,
     t: Tally,
@@ -250,29 +226,15 @@ fn judge(
     candidate_floats: &mut [f32],
     candidate_words: &mut [u32],
 ) -> Tally
-    requires { Visitable (search_areas padded.now nodes.now leaf_order.now leaves.now handles.now materials.now triangles.now plane_floats.now
-        plane_words.now plane_triangles.now plane_edges.now) q len (state seq.now images.now t) candidate_floats.old
+    requires { Visitable (search_areas bvh.now materials.now planes.now) q len (state seq.now images.now t) candidate_floats.old
         candidate_words.old }
-    ensures { Visited (search_areas padded.now nodes.now leaf_order.now leaves.now handles.now
-        materials.now triangles.now plane_floats.now plane_words.now plane_triangles.now
-        plane_edges.now) q len seq.now t candidate_floats.old candidate_words.old result
+    ensures { Visited (search_areas bvh.now materials.now planes.now) q len seq.now t candidate_floats.old candidate_words.old result
         candidate_floats.new candidate_words.new }
 {
     let v = paths::validate_image_path(
-        padded,
-        nodes,
-        leaf_order,
-        leaves,
-        handles,
-        q.nodes_count,
+        bvh,
         materials,
-        triangles,
-        q.n,
-        plane_floats,
-        plane_words,
-        plane_triangles,
-        plane_edges,
-        q.count,
+        planes,
         q.settings,
         all_planes(seq),
         all_points(images),
@@ -304,54 +266,20 @@ fn too_far(images: &[f32], len: usize, listener: Vec3, beyond: f32) -> bool
 }
 
 // Whether all bounces of the path of the first `len` planes are made. Of nearly every path one fails.
-fn made(
-    triangles: &[f32],
-    n: usize,
-    plane_floats: &[f32],
-    plane_words: &[u32],
-    plane_triangles: &[u32],
-    plane_edges: &[f32],
-    count: usize,
-    seq: &[u32],
-    images: &[f32],
-    len: usize,
-    listener: Vec3,
-) -> bool
-    requires planes_lent { PlanesLent triangles.now n plane_floats.now plane_words.now plane_triangles.now plane_edges.now count }
+fn made(planes: &PlaneTable, seq: &[u32], images: &[f32], len: usize, listener: Vec3) -> bool
+    requires planes_lent { TableLent planes.now }
     requires len_in_bounds { (len ≤ length seq.now) × (point_floats * len + point_floats ≤ length images.now) }
-    requires by_index { (j : ℕ) → j < len → get_or seq.now j 0 < count }
-    ensures { result ≡ false → Lost triangles.now n plane_floats.now plane_words.now plane_triangles.now
-        plane_edges.now count seq.now images.now len listener }
+    requires by_index { (j : ℕ) → j < len → get_or seq.now j 0 < planes.now.count }
+    ensures { result ≡ false → LostOf planes.now seq.now images.now len listener }
 {
-    bounces::fate_back(
-        triangles,
-        n,
-        plane_floats,
-        plane_words,
-        plane_triangles,
-        plane_edges,
-        count,
-        seq,
-        images,
-        len,
-        listener,
-    )
-    .is_ok()
+    bounces::fate_back(planes, seq, images, len, listener).is_ok()
 }
 
 // Visits the first `len` planes: where a bounce fails, the image is only counted.
 fn visit(
-    padded: &[f32],
-    nodes: &[u32],
-    leaf_order: &[u32],
-    leaves: &[f32],
-    handles: &[u32],
+    bvh: &FlatBvh,
     materials: &[f32],
-    triangles: &[f32],
-    plane_floats: &[f32],
-    plane_words: &[u32],
-    plane_triangles: &[u32],
-    plane_edges: &[f32],
+    planes: &PlaneTable,
     q: Task,
     len: usize,
     t: Tally,
@@ -360,39 +288,16 @@ fn visit(
     candidate_floats: &mut [f32],
     candidate_words: &mut [u32],
 ) -> Tally
-    requires { Visitable (search_areas padded.now nodes.now leaf_order.now leaves.now handles.now materials.now triangles.now plane_floats.now
-        plane_words.now plane_triangles.now plane_edges.now) q len (state seq.now images.now t) candidate_floats.old
+    requires { Visitable (search_areas bvh.now materials.now planes.now) q len (state seq.now images.now t) candidate_floats.old
         candidate_words.old }
-    ensures { Visited (search_areas padded.now nodes.now leaf_order.now leaves.now handles.now
-        materials.now triangles.now plane_floats.now plane_words.now plane_triangles.now
-        plane_edges.now) q len seq.now t candidate_floats.old candidate_words.old result
+    ensures { Visited (search_areas bvh.now materials.now planes.now) q len seq.now t candidate_floats.old candidate_words.old result
         candidate_floats.new candidate_words.new }
 {
-    if made(
-        triangles,
-        q.n,
-        plane_floats,
-        plane_words,
-        plane_triangles,
-        plane_edges,
-        q.count,
-        seq,
-        images,
-        len,
-        q.listener,
-    ) {
+    if made(planes, seq, images, len, q.listener) {
         return judge(
-            padded,
-            nodes,
-            leaf_order,
-            leaves,
-            handles,
+            bvh,
             materials,
-            triangles,
-            plane_floats,
-            plane_words,
-            plane_triangles,
-            plane_edges,
+            planes,
             q,
             len,
             t,
@@ -410,8 +315,7 @@ fn visit(
 // From plane `from` on to the first whose image at the last place is not too far; those too far are visited here. Nearly all images of a search may
 // be such: so no plane and no image is stored, and no function is handed more than it reads.
 fn next_near(
-    plane_floats: &[f32],
-    plane_words: &[u32],
+    planes: &PlaneTable,
     q: Task,
     seq: &[u32],
     images: &[f32],
@@ -419,50 +323,38 @@ fn next_near(
     from: usize,
     t: Tally,
 ) -> Near
-    requires depth_in_bounds { (depth < length seq.now) × (point_floats * (depth + 1) ≤ length images.now) × (from ≤ q.count) × (q.limit ≤ spec.most) }
-    requires count_in_bounds { (plane_float_count * q.count ≤ length plane_floats.now) × (plane_word_count * q.count ≤ length plane_words.now) }
-    ensures { (padded : List Float) (nodes₁ : List ℕ) (perm : List ℕ) (rows : List Float) (handles : List ℕ) (materials : List Float) (columns : List Float)
-        (members : List ℕ) (edges : List Float) →
-        Skipped (search_areas padded nodes₁ perm rows handles materials columns plane_floats.now plane_words.now members edges) q depth
+    requires depth_in_bounds { (depth < length seq.now) × (point_floats * (depth + 1) ≤ length images.now) × (from ≤ planes.now.count) × (q.limit ≤ spec.most) }
+    requires count_in_bounds { (plane_float_count * planes.now.count ≤ length planes.now.floats.now) × (plane_word_count * planes.now.count ≤ length planes.now.words.now) }
+    ensures { (b : FlatBvh) (materials : List Float) →
+        Skipped (search_areas b materials planes.now) q depth
         seq.now images.now from t result.plane result.tally }
 {
     let image = mirror::vec_in(images, POINT_FLOATS * depth);
     let mut s = t;
-    let mut p = from;
-    while p < q.count {
-        let at = p;
-        p += 1;
+    for p in from..planes.count {
         if q.limit <= s.nodes {
             continue;
         }
-        if may(plane_floats, plane_words, q, seq, depth, at) {
-            let next = bounces::next_image(plane_floats, plane_words, at, image);
+        if may(planes, q, seq, depth, p) {
+            let next = bounces::next_image(planes.floats, planes.words, p, image);
             if far(q.listener, next, q.beyond) {
                 s = passed_over(s);
                 continue;
             }
-            return Near {
-                plane: at,
-                tally: s,
-            };
+            return Near { plane: p, tally: s };
         }
     }
-    Near { plane: p, tally: s }
+    Near {
+        plane: planes.count,
+        tally: s,
+    }
 }
 
 // Each plane in turn at the last place, where nothing goes on.
 fn last_planes(
-    padded: &[f32],
-    nodes: &[u32],
-    leaf_order: &[u32],
-    leaves: &[f32],
-    handles: &[u32],
+    bvh: &FlatBvh,
     materials: &[f32],
-    triangles: &[f32],
-    plane_floats: &[f32],
-    plane_words: &[u32],
-    plane_triangles: &[u32],
-    plane_edges: &[f32],
+    planes: &PlaneTable,
     q: Task,
     depth: usize,
     t: Tally,
@@ -472,52 +364,30 @@ fn last_planes(
     candidate_words: &mut [u32],
 ) -> Tally
     requires depth_value { depth + 1 ≡ q.order }
-    requires search_ready { SearchReady (search_areas padded.now nodes.now leaf_order.now leaves.now handles.now materials.now triangles.now plane_floats.now
-        plane_words.now plane_triangles.now plane_edges.now) q depth (state seq.old images.old t) candidate_floats.old
+    requires search_ready { SearchReady (search_areas bvh.now materials.now planes.now) q depth (state seq.old images.old t) candidate_floats.old
         candidate_words.old }
-    ensures { let areas = search_areas padded.now nodes.now leaf_order.now leaves.now handles.now
-        materials.now triangles.now plane_floats.now plane_words.now plane_triangles.now
-        plane_edges.now in
+    ensures { let areas = search_areas bvh.now materials.now planes.now in
         Walked areas q depth (spec.below (firsts_of areas q) (q.order - depth) (take depth seq.old))
         (state seq.old images.old t) candidate_floats.old candidate_words.old
         (state seq.new images.new result) candidate_floats.new candidate_words.new }
 {
     let mut s = t;
     let mut p = 0;
-    while p < q.count {
-        let next = next_near(plane_floats, plane_words, q, seq, images, depth, p, s);
+    // A turn goes on from the plane that it comes to, so no `for`.
+    while p < planes.count {
+        let next = next_near(planes, q, seq, images, depth, p, s);
         let at = next.plane;
         let u = next.tally;
-        if at == q.count {
+        if at == planes.count {
             return u;
         }
         p = at + 1;
-        push(plane_floats, plane_words, q.count, depth, at, seq, images);
-        if made(
-            triangles,
-            q.n,
-            plane_floats,
-            plane_words,
-            plane_triangles,
-            plane_edges,
-            q.count,
-            seq,
-            images,
-            depth + 1,
-            q.listener,
-        ) {
+        push(planes, depth, at, seq, images);
+        if made(planes, seq, images, depth + 1, q.listener) {
             let v = judge(
-                padded,
-                nodes,
-                leaf_order,
-                leaves,
-                handles,
+                bvh,
                 materials,
-                triangles,
-                plane_floats,
-                plane_words,
-                plane_triangles,
-                plane_edges,
+                planes,
                 q,
                 depth + 1,
                 u,
@@ -545,17 +415,9 @@ fn last_planes(
 // Each plane in turn at place `depth`, with all that goes on from it. The sequence and the image of each of its beginnings stand in `seq` and
 // `images`. An image too far is tested and visited here: a function that visits is handed all areas and the task, which the compiler copies first.
 fn expand_images(
-    padded: &[f32],
-    nodes: &[u32],
-    leaf_order: &[u32],
-    leaves: &[f32],
-    handles: &[u32],
+    bvh: &FlatBvh,
     materials: &[f32],
-    triangles: &[f32],
-    plane_floats: &[f32],
-    plane_words: &[u32],
-    plane_triangles: &[u32],
-    plane_edges: &[f32],
+    planes: &PlaneTable,
     q: Task,
     depth: usize,
     t: Tally,
@@ -564,88 +426,29 @@ fn expand_images(
     candidate_floats: &mut [f32],
     candidate_words: &mut [u32],
 ) -> Tally
-    requires { SearchReady (search_areas padded.now nodes.now leaf_order.now leaves.now handles.now materials.now triangles.now plane_floats.now
-        plane_words.now plane_triangles.now plane_edges.now) q depth (state seq.old images.old t) candidate_floats.old
+    requires { SearchReady (search_areas bvh.now materials.now planes.now) q depth (state seq.old images.old t) candidate_floats.old
         candidate_words.old }
-    ensures { let areas = search_areas padded.now nodes.now leaf_order.now leaves.now handles.now
-        materials.now triangles.now plane_floats.now plane_words.now plane_triangles.now
-        plane_edges.now in
+    ensures { let areas = search_areas bvh.now materials.now planes.now in
         Walked areas q depth (spec.below (firsts_of areas q) (q.order - depth) (take depth seq.old))
         (state seq.old images.old t) candidate_floats.old candidate_words.old
         (state seq.new images.new result) candidate_floats.new candidate_words.new }
 {
     let mut s = t;
-    let mut p = 0;
-    while p < q.count {
-        let at = p;
-        p += 1;
+    for p in 0..planes.count {
         if q.limit <= s.nodes {
             continue;
         }
-        if may(plane_floats, plane_words, q, seq, depth, at) {
-            push(plane_floats, plane_words, q.count, depth, at, seq, images);
-            if too_far(images, depth + 1, q.listener, q.beyond) {
-                s = passed_over(s);
-            } else {
-                s = visit(
-                    padded,
-                    nodes,
-                    leaf_order,
-                    leaves,
-                    handles,
-                    materials,
-                    triangles,
-                    plane_floats,
-                    plane_words,
-                    plane_triangles,
-                    plane_edges,
-                    q,
-                    depth + 1,
-                    s,
-                    seq,
-                    images,
-                    candidate_floats,
-                    candidate_words,
-                );
-            }
-            if depth + 1 == q.order {
-                continue;
-            }
-            if depth + 2 == q.order {
-                s = last_planes(
-                    padded,
-                    nodes,
-                    leaf_order,
-                    leaves,
-                    handles,
-                    materials,
-                    triangles,
-                    plane_floats,
-                    plane_words,
-                    plane_triangles,
-                    plane_edges,
-                    q,
-                    depth + 1,
-                    s,
-                    seq,
-                    images,
-                    candidate_floats,
-                    candidate_words,
-                );
-                continue;
-            }
-            s = expand_images(
-                padded,
-                nodes,
-                leaf_order,
-                leaves,
-                handles,
+        if !may(planes, q, seq, depth, p) {
+            continue;
+        }
+        push(planes, depth, p, seq, images);
+        if too_far(images, depth + 1, q.listener, q.beyond) {
+            s = passed_over(s);
+        } else {
+            s = visit(
+                bvh,
                 materials,
-                triangles,
-                plane_floats,
-                plane_words,
-                plane_triangles,
-                plane_edges,
+                planes,
                 q,
                 depth + 1,
                 s,
@@ -655,6 +458,36 @@ fn expand_images(
                 candidate_words,
             );
         }
+        if depth + 1 == q.order {
+            continue;
+        }
+        if depth + 2 == q.order {
+            s = last_planes(
+                bvh,
+                materials,
+                planes,
+                q,
+                depth + 1,
+                s,
+                seq,
+                images,
+                candidate_floats,
+                candidate_words,
+            );
+            continue;
+        }
+        s = expand_images(
+            bvh,
+            materials,
+            planes,
+            q,
+            depth + 1,
+            s,
+            seq,
+            images,
+            candidate_floats,
+            candidate_words,
+        );
     }
     s
 }
@@ -685,20 +518,9 @@ fn square_beyond(far: f32) -> f32
 // The search from nothing: at most 250,000 images of at most `order` planes, and at most `room` candidates, in rows of `candidate_floats` and `candidate_words`;
 // what stands past their rows is open.
 pub fn search_images(
-    padded: &[f32],
-    nodes: &[u32],
-    leaf_order: &[u32],
-    leaves: &[f32],
-    handles: &[u32],
-    nodes_count: usize,
+    bvh: &FlatBvh,
     materials: &[f32],
-    triangles: &[f32],
-    n: usize,
-    plane_floats: &[f32],
-    plane_words: &[u32],
-    plane_triangles: &[u32],
-    plane_edges: &[f32],
-    count: usize,
+    planes: &PlaneTable,
     settings: Settings,
     source: Vec3,
     listener: Vec3,
@@ -707,17 +529,15 @@ pub fn search_images(
     candidate_floats: &mut [f32],
     candidate_words: &mut [u32],
 ) -> Found
-    requires scene_lent { SceneLent padded.now nodes.now leaf_order.now leaves.now handles.now nodes_count materials.now triangles.now n plane_floats.now
-        plane_words.now plane_triangles.now plane_edges.now count }
-    requires order_le_max_order { (order ≤ max_order) × (count ≤ spec.most_planes) × (settings.crossing_limit ≤ most_crossings) }
+    requires scene_lent { SearchLent bvh.now materials.now planes.now }
+    requires order_le_max_order { (order ≤ max_order) × (planes.now.count ≤ spec.most_planes) × (settings.crossing_limit ≤ most_crossings) }
     requires candidate_rows { CandidateRows room candidate_floats.old candidate_words.old }
     ensures searched { (tri : ℕ → Triangle) (t : Tree) →
-        ReadAs padded.now nodes.now leaf_order.now leaves.now handles.now triangles.now n
-        plane_floats.now plane_words.now plane_triangles.now count tri t →
+        SearchReads bvh.now planes.now tri t →
         search result.images result.rays (candidates_in result.found candidate_floats.new candidate_words.new) result.over ≡ searched (on_bytes
-        (planes_in plane_floats.now plane_words.now plane_triangles.now plane_edges.now count) source)
+        (planes_of_table planes.now) source)
         order room (outcomes_of settings
-        (planes_in plane_floats.now plane_words.now plane_triangles.now plane_edges.now count) tri t
+        (planes_of_table planes.now) tri t
         materials.now source listener) }
     ensures few { result.found ≤ room }
     ensures rest { Open candidate_floats.old candidate_floats.new × Open candidate_words.old candidate_words.new }
@@ -734,10 +554,7 @@ pub fn search_images(
     let q = Task {
         listener,
         beyond,
-        n,
-        count,
         order,
-        nodes_count,
         room,
         source,
         limit: sequences::MAX_IMAGE_NODES as u32,
@@ -752,17 +569,9 @@ pub fn search_images(
     let mut seq = [0u32; 8];
     let mut images = first_images(source);
     let s = expand_images(
-        padded,
-        nodes,
-        leaf_order,
-        leaves,
-        handles,
+        bvh,
         materials,
-        triangles,
-        plane_floats,
-        plane_words,
-        plane_triangles,
-        plane_edges,
+        planes,
         q,
         0,
         nothing,

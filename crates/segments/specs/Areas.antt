@@ -8,6 +8,7 @@ use Rattle.tree_trace.specs.declared.RayHit.{RayHit}
 use Rattle.tree_trace.specs.Leaf.{LeafRows}
 use Rattle.tree_trace.specs.Trace.{intersect_of, padded_tree_of, Held}
 use Rattle.segments.specs.Materials.{material_floats}
+use Rattle.tree_trace.specs.declared.FlatBvh.{FlatBvh}
 
 -- the trace of a tree over triangles
 abbrev pub trace_in : (ℕ → Triangle) → Tree → Ray → Option RayHit
@@ -27,3 +28,10 @@ pub record Traceable (padded : List Float) (nodes perm : List ℕ) (rows : List 
   pub tree : Tree
   pub reads : TreeReads padded nodes perm rows handles tri tree
   pub materials_room : (i : ℕ) → material_floats * get_or handles i 0 + material_floats ≤ length materials
+
+-- the same of the tree that is lent
+abbrev pub BvhReads : FlatBvh → (ℕ → Triangle) → Tree → Type 0
+BvhReads b tri t = TreeReads b.padded.now b.nodes.now b.leaf_order.now b.leaves.now b.handles.now tri t
+
+abbrev pub BvhTraceable : FlatBvh → List Float → Type 0
+BvhTraceable b materials = Traceable b.padded.now b.nodes.now b.leaf_order.now b.leaves.now b.handles.now b.count materials

@@ -9,9 +9,10 @@ ghost use Rattle.tree_build.specs.Tree.{Tree};
 ghost use Rattle.segments.specs.Materials.{material_floats, bands_of_floats, clamped_of, transmission_of_handle, coefficient_of, coefficients_of, reflection_of_handle};
 ghost use Rattle.segments.specs.Segment.{transmission, segment_ray_of, walk_of};
 ghost use Rattle.segments.specs.Segment.{segment_transmission_of, offset_of, mid_of, add_part_of, probe_of, segment_soft_transmission_of};
-ghost use Rattle.segments.specs.Areas.{trace_in, TreeReads, Traceable};
+ghost use Rattle.segments.specs.Areas.{trace_in, BvhReads, BvhTraceable};
 
 use bands::Band8;
+use tree_trace::FlatBvh;
 use vector::{Angle, Basis, Ray, Vec3};
 
 const OCCLUSION_EPS: f32 = 1e-3;
@@ -126,12 +127,7 @@ fn segment_ray(origin: Vec3, dir: Vec3, remaining: f32) -> Ray
 
 // Goes on from `origin` with `left` crossings left; one more gives zeros.
 fn walk(
-    padded: &[f32],
-    nodes: &[u32],
-    leaf_order: &[u32],
-    leaves: &[f32],
-    handles: &[u32],
-    count: usize,
+    bvh: &FlatBvh,
     materials: &[f32],
     dir: Vec3,
     left: u32,
@@ -140,22 +136,14 @@ fn walk(
     product: Band8,
     rays: u32,
 ) -> Transmission
-    requires traceable { Traceable padded.now nodes.now leaf_order.now leaves.now handles.now count materials.now }
+    requires traceable { BvhTraceable bvh.now materials.now }
     requires left_bound { rays + left + 1 < 2 ^ 32 }
     ensures { (tri : ℕ → Triangle) (t : Tree) →
-        TreeReads padded.now nodes.now leaf_order.now leaves.now handles.now tri t →
+        BvhReads bvh.now tri t →
         result ≡ walk_of (trace_in tri t) (transmission_of_handle materials.now) dir left origin remaining product rays }
 {
     if remaining > 2.0 * OCCLUSION_EPS {
-        let Some(hit) = tree_trace::intersect(
-            padded,
-            nodes,
-            leaf_order,
-            leaves,
-            handles,
-            count,
-            segment_ray(origin, dir, remaining),
-        ) else {
+        let Some(hit) = tree_trace::intersect(bvh, segment_ray(origin, dir, remaining)) else {
             return counted(product, rays + 1);
         };
         if left == 0 {
@@ -163,12 +151,7 @@ fn walk(
         }
         let share = transmission_of(materials, hit.material_handle);
         return walk(
-            padded,
-            nodes,
-            leaf_order,
-            leaves,
-            handles,
-            count,
+            bvh,
             materials,
             dir,
             left - 1,
@@ -201,21 +184,16 @@ fn direction(v: Vec3, len: f32) -> Vec3
 
 // A half segment. The Rust takes two roots, for its length and for its direction; they are one (`distance_turned` of proofs/Turned.antt).
 fn segment_transmission(
-    padded: &[f32],
-    nodes: &[u32],
-    leaf_order: &[u32],
-    leaves: &[f32],
-    handles: &[u32],
-    count: usize,
+    bvh: &FlatBvh,
     materials: &[f32],
     crossing_limit: u32,
     from: Vec3,
     to: Vec3,
 ) -> Transmission
-    requires traceable { Traceable padded.now nodes.now leaf_order.now leaves.now handles.now count materials.now }
+    requires traceable { BvhTraceable bvh.now materials.now }
     requires crossing_limit_bound { crossing_limit + 1 < 2 ^ 32 }
     ensures by_index { (tri : ℕ → Triangle) (t : Tree) →
-        TreeReads padded.now nodes.now leaf_order.now leaves.now handles.now tri t →
+        BvhReads bvh.now tri t →
         result ≡ segment_transmission_of (trace_in tri t) (transmission_of_handle materials.now) crossing_limit from to }
     ensures rays_bound { result.rays ≤ crossing_limit + 1 }
 {
@@ -223,12 +201,7 @@ fn segment_transmission(
     let total = vector::length3(v);
     let dir = direction(v, total);
     walk(
-        padded,
-        nodes,
-        leaf_order,
-        leaves,
-        handles,
-        count,
+        bvh,
         materials,
         dir,
         crossing_limit,
@@ -278,12 +251,7 @@ fn add_part(s: Band8, g: Band8) -> Band8
 
 // One probe, by way of `via`.
 fn probe(
-    padded: &[f32],
-    nodes: &[u32],
-    leaf_order: &[u32],
-    leaves: &[f32],
-    handles: &[u32],
-    count: usize,
+    bvh: &FlatBvh,
     materials: &[f32],
     crossing_limit: u32,
     from: Vec3,
@@ -291,37 +259,15 @@ fn probe(
     to: Vec3,
     sum: Transmission,
 ) -> Transmission
-    requires traceable { Traceable padded.now nodes.now leaf_order.now leaves.now handles.now count materials.now }
+    requires traceable { BvhTraceable bvh.now materials.now }
     requires crossing_limit_bound { sum.rays + 2 * (crossing_limit + 1) < 2 ^ 32 }
     ensures by_index { (tri : ℕ → Triangle) (t : Tree) →
-        TreeReads padded.now nodes.now leaf_order.now leaves.now handles.now tri t →
+        BvhReads bvh.now tri t →
         result ≡ probe_of (trace_in tri t) (transmission_of_handle materials.now) crossing_limit from via to sum }
     ensures rays_bound { result.rays ≤ sum.rays + 2 * (crossing_limit + 1) }
 {
-    let a = segment_transmission(
-        padded,
-        nodes,
-        leaf_order,
-        leaves,
-        handles,
-        count,
-        materials,
-        crossing_limit,
-        from,
-        via,
-    );
-    let b = segment_transmission(
-        padded,
-        nodes,
-        leaf_order,
-        leaves,
-        handles,
-        count,
-        materials,
-        crossing_limit,
-        via,
-        to,
-    );
+    let a = segment_transmission(bvh, materials, crossing_limit, from, via);
+    let b = segment_transmission(bvh, materials, crossing_limit, via, to);
     Transmission {
         gain: add_part(sum.gain, bands::mul(a.gain, b.gain)),
         rays: sum.rays + a.rays + b.rays,
@@ -330,22 +276,17 @@ fn probe(
 
 // The bundle along a segment: nine probes of two halves each.
 pub fn segment_soft_transmission(
-    padded: &[f32],
-    nodes: &[u32],
-    leaf_order: &[u32],
-    leaves: &[f32],
-    handles: &[u32],
-    count: usize,
+    bvh: &FlatBvh,
     materials: &[f32],
     crossing_limit: u32,
     probe_radius: f32,
     from: Vec3,
     to: Vec3,
 ) -> Transmission
-    requires traceable { Traceable padded.now nodes.now leaf_order.now leaves.now handles.now count materials.now }
+    requires traceable { BvhTraceable bvh.now materials.now }
     requires crossing_limit_bound { 18 * (crossing_limit + 1) < 2 ^ 32 }
     ensures by_index { (tri : ℕ → Triangle) (t : Tree) →
-        TreeReads padded.now nodes.now leaf_order.now leaves.now handles.now tri t →
+        BvhReads bvh.now tri t →
         result ≡ segment_soft_transmission_of (trace_in tri t) (transmission_of_handle materials.now) crossing_limit probe_radius from to }
     ensures rays_bound { result.rays ≤ 18 * (crossing_limit + 1) }
 {
@@ -357,36 +298,10 @@ pub fn segment_soft_transmission(
     };
     let none = counted(bands::zeros(), 0);
     let at = mid(from, to, still);
-    let mut sum = probe(
-        padded,
-        nodes,
-        leaf_order,
-        leaves,
-        handles,
-        count,
-        materials,
-        crossing_limit,
-        from,
-        at,
-        to,
-        none,
-    );
+    let mut sum = probe(bvh, materials, crossing_limit, from, at, to, none);
     for k in 0..PROBES {
         let via = mid(from, to, offset(probe_radius, b, vector::probe_angle(k)));
-        sum = probe(
-            padded,
-            nodes,
-            leaf_order,
-            leaves,
-            handles,
-            count,
-            materials,
-            crossing_limit,
-            from,
-            via,
-            to,
-            sum,
-        );
+        sum = probe(bvh, materials, crossing_limit, from, via, to, sum);
     }
     sum
 }

@@ -16,6 +16,7 @@ use Rattle.tree_trace.specs.declared.Turns.TheVariants.{Neither, One, Both}
 use Rattle.tree_trace.specs.declared.Closest.{Closest}
 use Rattle.tree_trace.specs.declared.RayHit.{RayHit}
 use Rattle.tree_trace.specs.Leaf.{visit_all_of}
+use Rattle.tree_trace.specs.declared.FlatBvh.{FlatBvh}
 
 abbrev pub Test : Type 0
 Test = Aabb → Ray → Float → Option Float
@@ -81,3 +82,7 @@ pub record Held (padded : List Float) (nodes perm : List ℕ) (rows : List Float
   pub nodes_room : 4 * count ≤ length nodes
   pub rows_room : 10 * length perm ≤ length rows
   pub sound : Sound nodes 0 count 0 (length perm)
+
+-- the tree that is lent
+abbrev pub BvhHeld : FlatBvh → Type 0
+BvhHeld b = Held b.padded.now b.nodes.now b.leaf_order.now b.leaves.now b.count

@@ -11,7 +11,7 @@ ghost use Rattle.tree_build.specs.Tree.{Tree};
 ghost use Rattle.tree_build.specs.Areas.{box_at_of, tree_at_of};
 ghost use Rattle.tree_trace.specs.Leaf.{corner_at_of, edges_at_of, visit_edges_of, visit_all_of, LeafRows};
 ghost use Rattle.tree_trace.specs.Slopes.{along_of, any_along_of, slope_of, slopes_of_direction, near_of, far_of, cut_of, beside_of, past_of, way_of};
-ghost use Rattle.tree_trace.specs.Trace.{near_first, trace_tree, none, intersect_of, padded_tree_of, list_of, Entered, Within, Held};
+ghost use Rattle.tree_trace.specs.Trace.{near_first, trace_tree, none, intersect_of, padded_tree_of, list_of, Entered, Within, BvhHeld};
 
 use geometry::{Aabb, Edges};
 use tree_build::Links;
@@ -52,6 +52,18 @@ pub enum Turns {
         second: usize,
         far: f32,
     },
+}
+
+// The tree as a trace reads it: the padded box and the links of each node, the leaves' triangles, by number and by corner and edges, the handle of
+// each triangle, and how many nodes there are.
+#[derive(Clone, Copy)]
+pub struct FlatBvh<'a> {
+    pub padded: &'a [f32],
+    pub nodes: &'a [u32],
+    pub leaf_order: &'a [u32],
+    pub leaves: &'a [f32],
+    pub handles: &'a [u32],
+    pub count: usize,
 }
 
 // ---- leaves
@@ -310,64 +322,41 @@ fn order_at(padded: &[f32], way: Way, l: usize, r: usize, t: f32) -> Turns
 // The tree at node i, to a depth of `fuel` nodes. The ray enters the node's box: the test at the node above said so. Of two children the
 // first one's box was tested with this very distance; the second one is still entered where nothing nearer than its entry was found, so that
 // its box is not tested again (the Rust tests both again).
-fn trace(
-    padded: &[f32],
-    nodes: &[u32],
-    leaf_order: &[u32],
-    leaves: &[f32],
-    count: usize,
-    way: Way,
-    fuel: usize,
-    i: usize,
-    best: Closest,
-) -> Closest
-    requires held { Held padded.now nodes.now leaf_order.now leaves.now count }
-    requires i_lt_count { i < count }
+fn trace(bvh: &FlatBvh, way: Way, fuel: usize, i: usize, best: Closest) -> Closest
+    requires held { BvhHeld bvh.now }
+    requires i_lt_count { i < bvh.now.count }
     requires way_value { way ≡ way_of way.ray }
-    ensures { (tri : ℕ → Triangle) → LeafRows tri leaf_order.now leaves.now → lt best.distance way.ray.min_distance ≡ false →
-        is_some (slab_of (box_at_of padded.now i) way.ray best.distance) ≡ true →
-        result ≡ trace_tree slab_of tri way.ray (tree_at_of padded.now nodes.now leaf_order.now fuel i) best }
+    ensures { (tri : ℕ → Triangle) → LeafRows tri bvh.now.leaf_order.now bvh.now.leaves.now → lt best.distance way.ray.min_distance ≡ false →
+        is_some (slab_of (box_at_of bvh.now.padded.now i) way.ray best.distance) ≡ true →
+        result ≡ trace_tree slab_of tri way.ray (tree_at_of bvh.now.padded.now bvh.now.nodes.now bvh.now.leaf_order.now fuel i) best }
 {
     if fuel == 0 {
         return best;
     }
     let left = fuel - 1;
-    let k = tree_build::links_at(nodes, i);
+    let k = tree_build::links_at(bvh.nodes, i);
     if k.len == 0 {
-        return match order_at(padded, way, k.left, k.right, best.distance) {
+        return match order_at(bvh.padded, way, k.left, k.right, best.distance) {
             Turns::Neither => best,
-            Turns::One(only) => trace(
-                padded, nodes, leaf_order, leaves, count, way, left, only, best,
-            ),
+            Turns::One(only) => trace(bvh, way, left, only, best),
             Turns::Both { first, second, far } => {
-                let one = trace(
-                    padded, nodes, leaf_order, leaves, count, way, left, first, best,
-                );
+                let one = trace(bvh, way, left, first, best);
                 if one.distance < far {
                     return one;
                 }
-                trace(
-                    padded, nodes, leaf_order, leaves, count, way, left, second, one,
-                )
+                trace(bvh, way, left, second, one)
             }
         };
     }
-    visit_leaf(leaf_order, leaves, way.ray, k.start, k.len, best)
+    visit_leaf(bvh.leaf_order, bvh.leaves, way.ray, k.start, k.len, best)
 }
 
 // The whole tree. A ray that ends before it begins crosses nothing; `trace` is for the others.
-fn closest_hit(
-    padded: &[f32],
-    nodes: &[u32],
-    leaf_order: &[u32],
-    leaves: &[f32],
-    count: usize,
-    ray: Ray,
-) -> Closest
-    requires held { Held padded.now nodes.now leaf_order.now leaves.now count }
-    requires count_nonzero { 0 < count }
-    ensures { (tri : ℕ → Triangle) → LeafRows tri leaf_order.now leaves.now →
-        result ≡ trace_tree slab_of tri ray (tree_at_of padded.now nodes.now leaf_order.now 33 0) (none ray) }
+fn closest_hit(bvh: &FlatBvh, ray: Ray) -> Closest
+    requires held { BvhHeld bvh.now }
+    requires count_nonzero { 0 < bvh.now.count }
+    ensures { (tri : ℕ → Triangle) → LeafRows tri bvh.now.leaf_order.now bvh.now.leaves.now →
+        result ≡ trace_tree slab_of tri ray (tree_at_of bvh.now.padded.now bvh.now.nodes.now bvh.now.leaf_order.now 33 0) (none ray) }
 {
     let nothing = Closest {
         distance: ray.max_distance,
@@ -378,10 +367,8 @@ fn closest_hit(
         return nothing;
     }
     let way = way_of(ray);
-    if enters(tree_build::box_at(padded, 0), way, ray.max_distance) {
-        return trace(
-            padded, nodes, leaf_order, leaves, count, way, 33, 0, nothing,
-        );
+    if enters(tree_build::box_at(bvh.padded, 0), way, ray.max_distance) {
+        return trace(bvh, way, 33, 0, nothing);
     }
     nothing
 }
@@ -397,26 +384,18 @@ pub fn handle_at(handles: &[u32], i: usize) -> u32
 }
 
 // `FlatBvh::intersect`: the nearest hit, with the index and the handle of its triangle.
-pub fn intersect(
-    padded: &[f32],
-    nodes: &[u32],
-    leaf_order: &[u32],
-    leaves: &[f32],
-    handles: &[u32],
-    count: usize,
-    ray: Ray,
-) -> Option<RayHit>
-    requires held { Held padded.now nodes.now leaf_order.now leaves.now count }
-    requires count_nonzero { 0 < count }
-    ensures { (tri : ℕ → Triangle) (t : Tree) → LeafRows tri leaf_order.now leaves.now →
-        ((i : ℕ) → (tri i).material_handle ≡ get_or handles.now i 0) →
-        tree_at_of padded.now nodes.now leaf_order.now 33 0 ≡ padded_tree_of t → result ≡ intersect_of tri ray t }
+pub fn intersect(bvh: &FlatBvh, ray: Ray) -> Option<RayHit>
+    requires held { BvhHeld bvh.now }
+    requires count_nonzero { 0 < bvh.now.count }
+    ensures { (tri : ℕ → Triangle) (t : Tree) → LeafRows tri bvh.now.leaf_order.now bvh.now.leaves.now →
+        ((i : ℕ) → (tri i).material_handle ≡ get_or bvh.now.handles.now i 0) →
+        tree_at_of bvh.now.padded.now bvh.now.nodes.now bvh.now.leaf_order.now 33 0 ≡ padded_tree_of t → result ≡ intersect_of tri ray t }
 {
-    let c = closest_hit(padded, nodes, leaf_order, leaves, count, ray);
+    let c = closest_hit(bvh, ray);
     if c.found == 0 {
         return None;
     }
-    let material_handle = handle_at(handles, c.index);
+    let material_handle = handle_at(bvh.handles, c.index);
     Some(RayHit {
         distance: c.distance,
         point: vector::point_at(ray, c.distance),

@@ -14,9 +14,9 @@ returns-in_err-b c = λ tri h.
     let a = c.args in
     let row = c.plane_at-plane.result in
     rw (
-      plane_row a.plane_floats.now a.plane_words.now a.plane_triangles.now a.plane_edges.now a.count a.p c.requires.p_lt_count,
+      plane_row a.planes.now.floats.now a.planes.now.words.now a.planes.now.members.now a.planes.now.edges.now a.planes.now.count a.p c.requires.p_lt_count,
       ← c.plane_at-plane.ensures,
-      ← c.crossing.ensures (tris_of row a.plane_triangles.now) (border_of row a.plane_edges.now),
+      ← c.crossing.ensures (tris_of row a.planes.now.members.now) (border_of row a.planes.now.edges.now),
       lost.1,
       lost.2,
     ) (crossed_err _ c.crossing.result _ (sym c.ok_or.ensures.value ∙ c.in_err-b.was))
@@ -27,9 +27,9 @@ returns c = λ tri h.
     let a = c.args in
     let row = c.plane_at-plane.result in
     rw (
-      plane_row a.plane_floats.now a.plane_words.now a.plane_triangles.now a.plane_edges.now a.count a.p c.requires.p_lt_count,
+      plane_row a.planes.now.floats.now a.planes.now.words.now a.planes.now.members.now a.planes.now.edges.now a.planes.now.count a.p c.requires.p_lt_count,
       ← c.plane_at-plane.ensures,
-      ← c.crossing.ensures (tris_of row a.plane_triangles.now) (border_of row a.plane_edges.now),
+      ← c.crossing.ensures (tris_of row a.planes.now.members.now) (border_of row a.planes.now.edges.now),
       crossed_ok c.crossing.result _ (sym c.ok_or.ensures.value ∙ c.in_ok-b.was),
       ← c.locate_on_plane.ensures tri (rw c.plane_at-plane.ensures (h _ c.requires.p_lt_count)),
     ) c.ok_or-2.ensures.value

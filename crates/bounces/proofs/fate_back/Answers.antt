@@ -15,16 +15,16 @@ pub returns-in_err-prev : goal.returns-in_err-prev
 returns-in_err-prev c = λ tri fade h.
     let lost = err_from_is_err_and c.from_residual.result c.from_residual.ensures.1 in
     rw (lost.1, lost.2)
-    (sym (c.loop-k.invariant.1 tri fade h ∙ fate_next tri fade (plane_on (planes_in c.args.plane_floats.now c.args.plane_words.now c.args.plane_triangles.now c.args.plane_edges.now c.args.count) c.args.seq.now) (point_in c.args.images.now)
+    (sym (c.loop-k.invariant.1 tri fade h ∙ fate_next tri fade (plane_on (planes_in c.args.planes.now.floats.now c.args.planes.now.words.now c.args.planes.now.members.now c.args.planes.now.edges.now c.args.planes.now.count) c.args.seq.now) (point_in c.args.images.now)
     c.loop-k.k c.loop-k.prev one32 [] [] c.loop-k-test.true c.vec_in-target.result (Err c.in_err-prev.field-0.0) c.vec_in-target.ensures (sym c.in_err-prev.was ∙ c.turn_on.ensures tri fade h)))
 
 pub loop-k-preserved : goal.loop-k-preserved
 loop-k-preserved c = (
   omega (arith, c.loop-k.invariant.0),
-  λ tri fade h. c.loop-k.invariant.1 tri fade h ∙ fate_next tri fade (plane_on (planes_in c.args.plane_floats.now c.args.plane_words.now c.args.plane_triangles.now c.args.plane_edges.now c.args.count) c.args.seq.now) (point_in c.args.images.now) c.loop-k.k c.loop-k.prev one32 [] []
+  λ tri fade h. c.loop-k.invariant.1 tri fade h ∙ fate_next tri fade (plane_on (planes_in c.args.planes.now.floats.now c.args.planes.now.words.now c.args.planes.now.members.now c.args.planes.now.edges.now c.args.planes.now.count) c.args.seq.now) (point_in c.args.images.now) c.loop-k.k c.loop-k.prev one32 [] []
       c.loop-k-test.true c.vec_in-target.result (Ok c.in_ok-prev.prev) c.vec_in-target.ensures (sym c.in_ok-prev.was ∙ c.turn_on.ensures tri fade h),
 )
 
 pub returns : goal.returns
 returns c =
-    λ tri fade h. sym (c.loop-k.invariant.1 tri fade h ∙ fate_none tri fade (plane_on (planes_in c.args.plane_floats.now c.args.plane_words.now c.args.plane_triangles.now c.args.plane_edges.now c.args.count) c.args.seq.now) (point_in c.args.images.now) c.loop-k.k c.loop-k.prev one32 [] [] (omega (arith, c.loop-k-test.false)))
+    λ tri fade h. sym (c.loop-k.invariant.1 tri fade h ∙ fate_none tri fade (plane_on (planes_in c.args.planes.now.floats.now c.args.planes.now.words.now c.args.planes.now.members.now c.args.planes.now.edges.now c.args.planes.now.count) c.args.seq.now) (point_in c.args.images.now) c.loop-k.k c.loop-k.prev one32 [] [] (omega (arith, c.loop-k-test.false)))

@@ -13,9 +13,9 @@ use Rattle.bounces.proofs.fate_back.Given as goal
 abbrev pub invariant-loop-k : goal.invariant-loop-k
 invariant-loop-k l =
     (l.k ≤ l.order)
-    × ((tri : ℕ → Triangle) (fade : Float) → PlanesRead tri l.triangles l.n l.plane_floats l.plane_words l.plane_triangles l.count →
-    fate_of (back_of tri fade (plane_on (planes_in l.plane_floats l.plane_words l.plane_triangles l.plane_edges l.count) l.seq) (point_in l.images) l.initial.k l.initial.prev one32 [] [])
-    ≡ fate_of (back_of tri fade (plane_on (planes_in l.plane_floats l.plane_words l.plane_triangles l.plane_edges l.count) l.seq) (point_in l.images) l.k l.prev one32 [] []))
+    × ((tri : ℕ → Triangle) (fade : Float) → PlanesRead tri l.planes.triangles.now l.planes.n l.planes.floats.now l.planes.words.now l.planes.members.now l.planes.count →
+    fate_of (back_of tri fade (plane_on (planes_in l.planes.floats.now l.planes.words.now l.planes.members.now l.planes.edges.now l.planes.count) l.seq) (point_in l.images) l.initial.k l.initial.prev one32 [] [])
+    ≡ fate_of (back_of tri fade (plane_on (planes_in l.planes.floats.now l.planes.words.now l.planes.members.now l.planes.edges.now l.planes.count) l.seq) (point_in l.images) l.k l.prev one32 [] []))
 
 abbrev pub decreases-loop-k : goal.decreases-loop-k
 decreases-loop-k l = l.k

@@ -14,9 +14,9 @@ returns-in_default c =
     let a = c.args in
     let row = c.plane_at-side.result in
     rw (
-      plane_row a.plane_floats.now a.plane_words.now a.plane_triangles.now a.plane_edges.now a.count a.p c.requires.p_lt_count,
+      plane_row a.planes.now.floats.now a.planes.now.words.now a.planes.now.members.now a.planes.now.edges.now a.planes.now.count a.p c.requires.p_lt_count,
       ← c.plane_at-side.ensures,
-      ← c.crossing.ensures (tris_of row a.plane_triangles.now) (border_of row a.plane_edges.now),
+      ← c.crossing.ensures (tris_of row a.planes.now.members.now) (border_of row a.planes.now.edges.now),
       c.in_default.is,
     )
 
@@ -28,12 +28,12 @@ returns-in_default-surface c =
     let row = c.plane_at-side.result in
     let again : c.plane_at-plane.result ≡ row = c.plane_at-plane.ensures ∙ sym c.plane_at-side.ensures in
     rw (
-      plane_row a.plane_floats.now a.plane_words.now a.plane_triangles.now a.plane_edges.now a.count a.p c.requires.p_lt_count,
+      plane_row a.planes.now.floats.now a.planes.now.words.now a.planes.now.members.now a.planes.now.edges.now a.planes.now.count a.p c.requires.p_lt_count,
       ← c.plane_at-side.ensures,
-      ← c.crossing.ensures (tris_of row a.plane_triangles.now) (border_of row a.plane_edges.now),
+      ← c.crossing.ensures (tris_of row a.planes.now.members.now) (border_of row a.planes.now.edges.now),
       c.in-Some.is,
       locate_surface,
-      ← rw again at (c.surface.ensures tri (border_of row a.plane_edges.now) (rw c.plane_at-plane.ensures (h _ c.requires.p_lt_count))),
+      ← rw again at (c.surface.ensures tri (border_of row a.planes.now.edges.now) (rw c.plane_at-plane.ensures (h _ c.requires.p_lt_count))),
       c.in_default-surface.is,
     )
 
@@ -45,11 +45,11 @@ returns c =
     let row = c.plane_at-side.result in
     let again : c.plane_at-plane.result ≡ row = c.plane_at-plane.ensures ∙ sym c.plane_at-side.ensures in
     rw (
-      plane_row a.plane_floats.now a.plane_words.now a.plane_triangles.now a.plane_edges.now a.count a.p c.requires.p_lt_count,
+      plane_row a.planes.now.floats.now a.planes.now.words.now a.planes.now.members.now a.planes.now.edges.now a.planes.now.count a.p c.requires.p_lt_count,
       ← c.plane_at-side.ensures,
-      ← c.crossing.ensures (tris_of row a.plane_triangles.now) (border_of row a.plane_edges.now),
+      ← c.crossing.ensures (tris_of row a.planes.now.members.now) (border_of row a.planes.now.edges.now),
       c.in-Some.is,
       locate_surface,
-      ← rw again at (c.surface.ensures tri (border_of row a.plane_edges.now) (rw c.plane_at-plane.ensures (h _ c.requires.p_lt_count))),
+      ← rw again at (c.surface.ensures tri (border_of row a.planes.now.edges.now) (rw c.plane_at-plane.ensures (h _ c.requires.p_lt_count))),
       c.in-Some-surface.is,
     )

@@ -12,7 +12,7 @@ use Rattle.paths.proofs.go_all.Given as goal
 abbrev pub invariant-loop-k : goal.invariant-loop-k
 invariant-loop-k l =
     (l.k ≤ l.order)
-    × ((tri : ℕ → Triangle) (t : Tree) → TreeReads l.padded l.nodes l.leaf_order l.leaves l.handles tri t → l.w ≡ go_all_of (soft_in l.crossing_limit l.probe_radius tri t l.materials) l.initial.w (slice l.k l.order l.points))
+    × ((tri : ℕ → Triangle) (t : Tree) → TreeReads l.bvh.padded.now l.bvh.nodes.now l.bvh.leaf_order.now l.bvh.leaves.now l.bvh.handles.now tri t → l.w ≡ go_all_of (soft_in l.crossing_limit l.probe_radius tri t l.materials) l.initial.w (slice l.k l.order l.points))
     × (l.w.rays ≤ l.initial.w.rays + 18 * (l.crossing_limit + 1) * (l.order - l.k))
 
 abbrev pub decreases-loop-k : goal.decreases-loop-k

@@ -29,7 +29,7 @@ judge-requires c =
 pub returns-then-distance3-s : goal.returns-then-distance3-s
 returns-then-distance3-s c =
     let a = c.args in
-    let planes = planes_in a.plane_floats.now a.plane_words.now a.plane_triangles.now a.plane_edges.now a.count in record {
+    let planes = planes_in a.planes.now.floats.now a.planes.now.words.now a.planes.now.members.now a.planes.now.edges.now a.planes.now.count in record {
       by_index_3 = λ tri t h.
           rw (c.judge.ensures.by_index tri t h.tree, rw (c.no_bounces.ensures.1, slice_empty a.order c.no_bounces.result.points, slice_empty a.order c.no_bounces.result.tris) at (c.back-trail.ensures.by_index_2 tri h.planes))
           (path_near a.s planes tri t a.materials.now a.source a.listener a.seq (λ j. get_or a.images j no_point) a.order (omega (arith, c.requires.order_nonzero)) c.requires.by_index_2 (rw c.distance3.ensures at c.if-distance3-s.true));
@@ -39,7 +39,7 @@ returns-then-distance3-s c =
 pub returns : goal.returns
 returns c =
     let a = c.args in
-    let planes = planes_in a.plane_floats.now a.plane_words.now a.plane_triangles.now a.plane_edges.now a.count in record {
+    let planes = planes_in a.planes.now.floats.now a.planes.now.words.now a.planes.now.members.now a.planes.now.edges.now a.planes.now.count in record {
       by_index_3 = λ tri t h. rw c.counted.ensures (path_far a.s planes tri t a.materials.now a.source a.listener a.seq (λ j. get_or a.images j no_point) a.order (omega (arith, c.requires.order_nonzero)) c.requires.by_index_2 (rw c.distance3.ensures at c.if-distance3-s.false));
       rays_bound = rw c.counted.ensures (omega arith);
     }

@@ -207,7 +207,7 @@ returns c =
     c.open_patches-np.auto.numbers in
     let same_length = ◌∙◌ {b = length c.group_planes-ng.new.keys} c.ranked_planes.auto.keys (◌∙◌ {b = length
     c.open_patches-np.new.keys} c.group_planes-ng.auto.keys c.open_patches-np.auto.keys) in
-    let a = c.args in let s = plane_settings a.settings in let ts = triangles_in a.triangles.now a.handles.now a.n a.m in
+    let a = c.args in let s = plane_settings a.settings in let ts = triangles_in a.triangles.now a.bvh.now.handles.now a.n a.m in
     let r = c.ranked_planes.ensures in record {
       by_index = λ tri k h. r.result_after ∙ ap (λ (ps : List Plane). map (bordered_of ts) (ranked_of ts s.most ps))
           (c.group_planes-ng.ensures.result_after s refl refl refl ∙ ap (group_planes_of s ts) (c.open_patches-np.ensures.result_after s tri k refl h));

@@ -9,4 +9,4 @@ use Rattle.planes_buried.proofs.mark_open.Given as goal
 
 abbrev pub invariant-loop-p : goal.invariant-loop-p
 invariant-loop-p l =
-    (l.p ≤ l.np) × (length l.flags ≡ length l.initial.flags) × ((q : ℕ) → q < l.p → Tells l.padded l.nodes l.leaf_order l.leaves l.handles (triangle_at_of l.triangles l.handles l.n (or_zero (get_or l.largest q 0))) l.reach (get_or l.flags q 0))
+    (l.p ≤ l.np) × (length l.flags ≡ length l.initial.flags) × ((q : ℕ) → q < l.p → Tells l.bvh.padded.now l.bvh.nodes.now l.bvh.leaf_order.now l.bvh.leaves.now l.bvh.handles.now (triangle_at_of l.triangles l.bvh.handles.now l.n (or_zero (get_or l.largest q 0))) l.reach (get_or l.flags q 0))

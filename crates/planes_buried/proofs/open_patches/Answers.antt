@@ -25,7 +25,7 @@ mark_open-requires c =
       n_in_bounds = (p.0, p.1, omega arith, q.3, omega arith);
       held = c.requires.held;
       count_nonzero = c.requires.count_nonzero;
-      by_index = λ i h. let b = largest_below a.triangles.now a.handles.now a.n a.m a.of.now a.np c.largest_triangles.new.areas
+      by_index = λ i h. let b = largest_below a.triangles.now a.bvh.now.handles.now a.n a.m a.of.now a.np c.largest_triangles.new.areas
           c.largest_triangles.new.largest p.3 c.largest_triangles.ensures i h q.0 in omega arith;
     }
 
@@ -42,7 +42,7 @@ returns c =
     let far : a.np ≤ none_of = omega (arith, c.requires.n_in_bounds.3, q.0) in
     let le = open_le f a.np in
     let er = c.close_rows-r.ensures.value in record {
-      by_index = λ tri k h. opened_is a.triangles.now a.handles.now a.n a.m a.of.now a.np c.largest_triangles.new.areas c.largest_triangles.new.largest c.requires.n_in_bounds.3 c.largest_triangles.ensures
+      by_index = λ tri k h. opened_is a.triangles.now a.bvh.now.handles.now a.n a.m a.of.now a.np c.largest_triangles.new.areas c.largest_triangles.new.largest c.requires.n_in_bounds.3 c.largest_triangles.ensures
           (probe_of tri k) a.reach a.rows.now c.close_rows-r.new.rows c.renumber.new.of f
           c.close_rows-r.new.numbers c.close_rows-r.result q.0 c.if-reach.true (λ p g. c.mark_open.ensures p g tri k h) er
           c.close_rows-r.ensures.by_index c.close_rows-r.ensures.by_index_2 old c.renumber.ensures;

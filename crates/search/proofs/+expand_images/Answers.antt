@@ -27,7 +27,7 @@ loop-p-init t c =
       refl,
       refl,
       refl,
-      law.walked_none (search_areas a.padded.now a.nodes.now a.leaf_order.now a.leaves.now a.handles.now a.materials.now a.triangles.now a.plane_floats.now a.plane_words.now a.plane_triangles.now a.plane_edges.now) a.q a.depth (state a.seq.now a.images.now a.t)
+      law.walked_none (search_areas a.bvh.now a.materials.now a.planes.now) a.q a.depth (state a.seq.now a.images.now a.t)
           a.candidate_floats.now a.candidate_words.now c.requires.sound,
     )
 
@@ -35,7 +35,7 @@ pub loop-p-preserved-then-q-s : goal.loop-p-preserved-then-q-s
 loop-p-preserved-then-q-s t c =
     let a = c.args in
     let pre = c.requires in
-    let S : SearchAreas = (search_areas a.padded.now a.nodes.now a.leaf_order.now a.leaves.now a.handles.now a.materials.now a.triangles.now a.plane_floats.now a.plane_words.now a.plane_triangles.now a.plane_edges.now) in (
+    let S : SearchAreas = (search_areas a.bvh.now a.materials.now a.planes.now) in (
       omega (arith, c.loop-p-test.true),
       c.loop-p.invariant.1,
       c.loop-p.invariant.2,
@@ -49,7 +49,7 @@ pub may-requires : goal.may-requires
 may-requires t c =
     let a = c.args in
     let pre = c.requires in
-    let S : SearchAreas = (search_areas a.padded.now a.nodes.now a.leaf_order.now a.leaves.now a.handles.now a.materials.now a.triangles.now a.plane_floats.now a.plane_words.now a.plane_triangles.now a.plane_edges.now) in
+    let S : SearchAreas = (search_areas a.bvh.now a.materials.now a.planes.now) in
     let h = pre.lent.planes.held in record {
       depth_in_bounds = (omega (arith, pre.deep, pre.within, c.loop-p.invariant.5.sound.seq_room), c.loop-p-test.true);
       count_in_bounds = (h.floats_room, h.words_room);
@@ -59,7 +59,7 @@ pub push-requires : goal.push-requires
 push-requires t c =
     let a = c.args in
     let pre = c.requires in
-    let S : SearchAreas = (search_areas a.padded.now a.nodes.now a.leaf_order.now a.leaves.now a.handles.now a.materials.now a.triangles.now a.plane_floats.now a.plane_words.now a.plane_triangles.now a.plane_edges.now) in
+    let S : SearchAreas = (search_areas a.bvh.now a.materials.now a.planes.now) in
     let h = pre.lent.planes.held in record {
       depth_in_bounds = (omega (arith, pre.deep, pre.within, c.loop-p.invariant.5.sound.seq_room), omega (arith, pre.deep, pre.within, c.loop-p.invariant.5.sound.images_room), c.loop-p-test.true, pre.small);
       count_in_bounds = (h.floats_room, h.words_room);
@@ -69,22 +69,22 @@ pub visit-s-requires : goal.visit-s-requires
 visit-s-requires t c =
     let a = c.args in
     let pre = c.requires in
-    let S : SearchAreas = (search_areas a.padded.now a.nodes.now a.leaf_order.now a.leaves.now a.handles.now a.materials.now a.triangles.now a.plane_floats.now a.plane_words.now a.plane_triangles.now a.plane_edges.now) in
+    let S : SearchAreas = (search_areas a.bvh.now a.materials.now a.planes.now) in
     let r : SearchReady S a.q a.depth (state c.loop-p.seq c.loop-p.images c.loop-p.s) c.loop-p.candidate_floats c.loop-p.candidate_words =
     law.ready_same S a.q a.depth a.depth (state a.seq.now a.images.now a.t) (state c.loop-p.seq c.loop-p.images c.loop-p.s) a.candidate_floats.now c.loop-p.candidate_floats a.candidate_words.now c.loop-p.candidate_words pre pre.deep c.loop-p.invariant.3 c.loop-p.invariant.4 c.loop-p.invariant.5.sound in
-    law.visitable_push S a.q a.depth c.loop-p.p c.loop-p.seq c.push.new.seq c.loop-p.images c.push.new.images c.loop-p.s c.push.ensures.seq_after (c.push.ensures.by_index a.plane_triangles.now a.plane_edges.now) c.loop-p.candidate_floats c.loop-p.candidate_words r
+    law.visitable_push S a.q a.depth c.loop-p.p c.loop-p.seq c.push.new.seq c.loop-p.images c.push.new.images c.loop-p.s c.push.ensures.seq_after (c.push.ensures.by_index a.planes.now.members.now a.planes.now.edges.now) c.loop-p.candidate_floats c.loop-p.candidate_words r
     c.loop-p-test.true c.if-q-s.false
 
 pub loop-p-preserved-then-depth-q : goal.loop-p-preserved-then-depth-q
 loop-p-preserved-then-depth-q t c =
     let a = c.args in
     let pre = c.requires in
-    let S : SearchAreas = (search_areas a.padded.now a.nodes.now a.leaf_order.now a.leaves.now a.handles.now a.materials.now a.triangles.now a.plane_floats.now a.plane_words.now a.plane_triangles.now a.plane_edges.now) in
+    let S : SearchAreas = (search_areas a.bvh.now a.materials.now a.planes.now) in
     let r : SearchReady S a.q a.depth (state c.loop-p.seq c.loop-p.images c.loop-p.s) c.loop-p.candidate_floats c.loop-p.candidate_words =
     law.ready_same S a.q a.depth a.depth (state a.seq.now a.images.now a.t) (state c.loop-p.seq c.loop-p.images c.loop-p.s) a.candidate_floats.now c.loop-p.candidate_floats a.candidate_words.now c.loop-p.candidate_words pre pre.deep c.loop-p.invariant.3 c.loop-p.invariant.4 c.loop-p.invariant.5.sound in
     let v : Visitable S a.q (a.depth + 1) (state c.push.new.seq c.push.new.images c.loop-p.s) c.loop-p.candidate_floats c.loop-p.candidate_words = law.visitable_push S a.q a.depth c.loop-p.p c.loop-p.seq
     c.push.new.seq c.loop-p.images c.push.new.images c.loop-p.s c.push.ensures.seq_after (c.push.ensures.by_index
-    a.plane_triangles.now a.plane_edges.now) c.loop-p.candidate_floats c.loop-p.candidate_words r c.loop-p-test.true c.if-q-s.false in
+    a.planes.now.members.now a.planes.now.edges.now) c.loop-p.candidate_floats c.loop-p.candidate_words r c.loop-p-test.true c.if-q-s.false in
     let j : Seen S a.q (a.depth + 1) c.push.new.seq c.loop-p.s c.loop-p.candidate_floats c.loop-p.candidate_words c.if-too_far.s c.if-too_far.candidate_floats c.if-too_far.candidate_words =
     elim c.if-too_far.branch [
       | then-too_far w ↦
@@ -103,7 +103,7 @@ loop-p-preserved-then-depth-q t c =
       law.walked_more S a.q a.depth (a.q.order - (a.depth + 1)) c.loop-p.p c.loop-p.invariant.5
           (law.walked_last S a.q a.depth (a.q.order - (a.depth + 1)) c.loop-p.p c.loop-p.seq c.push.new.seq c.loop-p.images c.push.new.images c.loop-p.s c.if-too_far.s c.loop-p.candidate_floats
           c.if-too_far.candidate_floats c.loop-p.candidate_words c.if-too_far.candidate_words c.if-q-s.false (omega
-          (arith, pre.deep, pre.within)) r.sound.seq_room (sym (c.may.ensures a.plane_triangles.now a.plane_edges.now) ∙ c.if-may.true) c.push.ensures.seq_after
+          (arith, pre.deep, pre.within)) r.sound.seq_room (sym (c.may.ensures a.planes.now.members.now a.planes.now.edges.now) ∙ c.if-not-may.false) c.push.ensures.seq_after
           j.0 sound (omega (arith, c.if-depth-q.true))),
     )
 
@@ -111,12 +111,12 @@ pub last_planes-s-requires : goal.last_planes-s-requires
 last_planes-s-requires t c =
     let a = c.args in
     let pre = c.requires in
-    let S : SearchAreas = (search_areas a.padded.now a.nodes.now a.leaf_order.now a.leaves.now a.handles.now a.materials.now a.triangles.now a.plane_floats.now a.plane_words.now a.plane_triangles.now a.plane_edges.now) in
+    let S : SearchAreas = (search_areas a.bvh.now a.materials.now a.planes.now) in
     let r : SearchReady S a.q a.depth (state c.loop-p.seq c.loop-p.images c.loop-p.s) c.loop-p.candidate_floats c.loop-p.candidate_words =
     law.ready_same S a.q a.depth a.depth (state a.seq.now a.images.now a.t) (state c.loop-p.seq c.loop-p.images c.loop-p.s) a.candidate_floats.now c.loop-p.candidate_floats a.candidate_words.now c.loop-p.candidate_words pre pre.deep c.loop-p.invariant.3 c.loop-p.invariant.4 c.loop-p.invariant.5.sound in
     let v : Visitable S a.q (a.depth + 1) (state c.push.new.seq c.push.new.images c.loop-p.s)
     c.loop-p.candidate_floats c.loop-p.candidate_words = law.visitable_push S a.q a.depth c.loop-p.p c.loop-p.seq c.push.new.seq c.loop-p.images c.push.new.images c.loop-p.s c.push.ensures.seq_after (c.push.ensures.by_index
-    a.plane_triangles.now a.plane_edges.now) c.loop-p.candidate_floats c.loop-p.candidate_words r c.loop-p-test.true
+    a.planes.now.members.now a.planes.now.edges.now) c.loop-p.candidate_floats c.loop-p.candidate_words r c.loop-p-test.true
     c.if-q-s.false in
     let j : Seen S a.q (a.depth + 1) c.push.new.seq c.loop-p.s c.loop-p.candidate_floats c.loop-p.candidate_words c.if-too_far.s c.if-too_far.candidate_floats c.if-too_far.candidate_words =
     elim c.if-too_far.branch [
@@ -136,11 +136,11 @@ pub loop-p-preserved-then-depth-q-2 : goal.loop-p-preserved-then-depth-q-2
 loop-p-preserved-then-depth-q-2 t c =
     let a = c.args in
     let pre = c.requires in
-    let S : SearchAreas = (search_areas a.padded.now a.nodes.now a.leaf_order.now a.leaves.now a.handles.now a.materials.now a.triangles.now a.plane_floats.now a.plane_words.now a.plane_triangles.now a.plane_edges.now) in
+    let S : SearchAreas = (search_areas a.bvh.now a.materials.now a.planes.now) in
     let r : SearchReady S a.q a.depth (state c.loop-p.seq c.loop-p.images c.loop-p.s) c.loop-p.candidate_floats c.loop-p.candidate_words =
     law.ready_same S a.q a.depth a.depth (state a.seq.now a.images.now a.t) (state c.loop-p.seq c.loop-p.images c.loop-p.s) a.candidate_floats.now c.loop-p.candidate_floats a.candidate_words.now c.loop-p.candidate_words pre pre.deep c.loop-p.invariant.3 c.loop-p.invariant.4 c.loop-p.invariant.5.sound in
     let v : Visitable S a.q (a.depth + 1) (state c.push.new.seq c.push.new.images c.loop-p.s) c.loop-p.candidate_floats c.loop-p.candidate_words =
-    law.visitable_push S a.q a.depth c.loop-p.p c.loop-p.seq c.push.new.seq c.loop-p.images c.push.new.images c.loop-p.s c.push.ensures.seq_after (c.push.ensures.by_index a.plane_triangles.now a.plane_edges.now) c.loop-p.candidate_floats c.loop-p.candidate_words r c.loop-p-test.true c.if-q-s.false in
+    law.visitable_push S a.q a.depth c.loop-p.p c.loop-p.seq c.push.new.seq c.loop-p.images c.push.new.images c.loop-p.s c.push.ensures.seq_after (c.push.ensures.by_index a.planes.now.members.now a.planes.now.edges.now) c.loop-p.candidate_floats c.loop-p.candidate_words r c.loop-p-test.true c.if-q-s.false in
     let j : Seen S a.q (a.depth + 1) c.push.new.seq c.loop-p.s c.loop-p.candidate_floats c.loop-p.candidate_words c.if-too_far.s c.if-too_far.candidate_floats c.if-too_far.candidate_words =
     elim c.if-too_far.branch [
       | then-too_far w ↦
@@ -157,20 +157,20 @@ loop-p-preserved-then-depth-q-2 t c =
           (law.walked_visit S a.q a.depth (a.q.order - (a.depth + 1)) c.loop-p.p c.loop-p.seq c.push.new.seq c.loop-p.images c.push.new.images c.loop-p.s c.if-too_far.s (state c.last_planes-s.new.seq c.last_planes-s.new.images c.last_planes-s.result)
           c.loop-p.candidate_floats c.if-too_far.candidate_floats c.last_planes-s.new.candidate_floats c.loop-p.candidate_words c.if-too_far.candidate_words c.last_planes-s.new.candidate_words
           c.if-q-s.false (omega (arith, pre.deep, pre.within)) r.sound.seq_room (sym
-          (c.may.ensures a.plane_triangles.now a.plane_edges.now)
-          ∙ c.if-may.true) c.push.ensures.seq_after j.0 c.last_planes-s.ensures),
+          (c.may.ensures a.planes.now.members.now a.planes.now.edges.now)
+          ∙ c.if-not-may.false) c.push.ensures.seq_after j.0 c.last_planes-s.ensures),
     )
 
 pub expand_images-s-requires : goal.expand_images-s-requires
 expand_images-s-requires t c =
     let a = c.args in
     let pre = c.requires in
-    let S : SearchAreas = (search_areas a.padded.now a.nodes.now a.leaf_order.now a.leaves.now a.handles.now a.materials.now a.triangles.now a.plane_floats.now a.plane_words.now a.plane_triangles.now a.plane_edges.now) in
+    let S : SearchAreas = (search_areas a.bvh.now a.materials.now a.planes.now) in
     let r : SearchReady S a.q a.depth (state c.loop-p.seq c.loop-p.images c.loop-p.s) c.loop-p.candidate_floats c.loop-p.candidate_words =
     law.ready_same S a.q a.depth a.depth (state a.seq.now a.images.now a.t) (state c.loop-p.seq c.loop-p.images c.loop-p.s) a.candidate_floats.now c.loop-p.candidate_floats a.candidate_words.now c.loop-p.candidate_words pre pre.deep c.loop-p.invariant.3 c.loop-p.invariant.4 c.loop-p.invariant.5.sound in
     let v : Visitable S a.q (a.depth + 1) (state c.push.new.seq c.push.new.images c.loop-p.s)
     c.loop-p.candidate_floats c.loop-p.candidate_words = law.visitable_push S a.q a.depth c.loop-p.p c.loop-p.seq c.push.new.seq c.loop-p.images c.push.new.images c.loop-p.s c.push.ensures.seq_after (c.push.ensures.by_index
-    a.plane_triangles.now a.plane_edges.now) c.loop-p.candidate_floats c.loop-p.candidate_words r c.loop-p-test.true
+    a.planes.now.members.now a.planes.now.edges.now) c.loop-p.candidate_floats c.loop-p.candidate_words r c.loop-p-test.true
     c.if-q-s.false in
     let j : Seen S a.q (a.depth + 1) c.push.new.seq c.loop-p.s c.loop-p.candidate_floats c.loop-p.candidate_words c.if-too_far.s c.if-too_far.candidate_floats c.if-too_far.candidate_words =
     elim c.if-too_far.branch [
@@ -186,15 +186,15 @@ expand_images-s-requires t c =
           (arith, pre.deep, c.if-depth-q.false)) j.1 j.2 sound,
     )
 
-pub loop-p-preserved-then-may : goal.loop-p-preserved-then-may
-loop-p-preserved-then-may t c =
+pub loop-p-preserved : goal.loop-p-preserved
+loop-p-preserved t c =
     let a = c.args in
     let pre = c.requires in
-    let S : SearchAreas = (search_areas a.padded.now a.nodes.now a.leaf_order.now a.leaves.now a.handles.now a.materials.now a.triangles.now a.plane_floats.now a.plane_words.now a.plane_triangles.now a.plane_edges.now) in
+    let S : SearchAreas = (search_areas a.bvh.now a.materials.now a.planes.now) in
     let r : SearchReady S a.q a.depth (state c.loop-p.seq c.loop-p.images c.loop-p.s) c.loop-p.candidate_floats c.loop-p.candidate_words =
     law.ready_same S a.q a.depth a.depth (state a.seq.now a.images.now a.t) (state c.loop-p.seq c.loop-p.images c.loop-p.s) a.candidate_floats.now c.loop-p.candidate_floats a.candidate_words.now c.loop-p.candidate_words pre pre.deep c.loop-p.invariant.3 c.loop-p.invariant.4 c.loop-p.invariant.5.sound in
     let v : Visitable S a.q (a.depth + 1) (state c.push.new.seq c.push.new.images c.loop-p.s) c.loop-p.candidate_floats c.loop-p.candidate_words =
-    law.visitable_push S a.q a.depth c.loop-p.p c.loop-p.seq c.push.new.seq c.loop-p.images c.push.new.images c.loop-p.s c.push.ensures.seq_after (c.push.ensures.by_index a.plane_triangles.now a.plane_edges.now) c.loop-p.candidate_floats c.loop-p.candidate_words r c.loop-p-test.true c.if-q-s.false in
+    law.visitable_push S a.q a.depth c.loop-p.p c.loop-p.seq c.push.new.seq c.loop-p.images c.push.new.images c.loop-p.s c.push.ensures.seq_after (c.push.ensures.by_index a.planes.now.members.now a.planes.now.edges.now) c.loop-p.candidate_floats c.loop-p.candidate_words r c.loop-p-test.true c.if-q-s.false in
     let j : Seen S a.q (a.depth + 1) c.push.new.seq c.loop-p.s c.loop-p.candidate_floats c.loop-p.candidate_words c.if-too_far.s c.if-too_far.candidate_floats c.if-too_far.candidate_words =
     elim c.if-too_far.branch [
       | then-too_far w ↦
@@ -211,28 +211,28 @@ loop-p-preserved-then-may t c =
           (law.walked_visit S a.q a.depth (a.q.order - (a.depth + 1)) c.loop-p.p c.loop-p.seq c.push.new.seq c.loop-p.images c.push.new.images c.loop-p.s c.if-too_far.s (state c.expand_images-s.new.seq c.expand_images-s.new.images
           c.expand_images-s.result) c.loop-p.candidate_floats c.if-too_far.candidate_floats c.expand_images-s.new.candidate_floats c.loop-p.candidate_words c.if-too_far.candidate_words c.expand_images-s.new.candidate_words
           c.if-q-s.false (omega (arith, pre.deep, pre.within)) r.sound.seq_room (sym
-          (c.may.ensures a.plane_triangles.now a.plane_edges.now)
-          ∙ c.if-may.true) c.push.ensures.seq_after j.0 c.expand_images-s.ensures),
+          (c.may.ensures a.planes.now.members.now a.planes.now.edges.now)
+          ∙ c.if-not-may.false) c.push.ensures.seq_after j.0 c.expand_images-s.ensures),
     )
 
-pub loop-p-preserved : goal.loop-p-preserved
-loop-p-preserved t c =
+pub loop-p-preserved-then-not-may : goal.loop-p-preserved-then-not-may
+loop-p-preserved-then-not-may t c =
     let a = c.args in
     let pre = c.requires in
-    let S : SearchAreas = (search_areas a.padded.now a.nodes.now a.leaf_order.now a.leaves.now a.handles.now a.materials.now a.triangles.now a.plane_floats.now a.plane_words.now a.plane_triangles.now a.plane_edges.now) in (
+    let S : SearchAreas = (search_areas a.bvh.now a.materials.now a.planes.now) in (
       omega (arith, c.loop-p-test.true),
       c.loop-p.invariant.1,
       c.loop-p.invariant.2,
       c.loop-p.invariant.3,
       c.loop-p.invariant.4,
       law.walked_more S a.q a.depth (a.q.order - (a.depth + 1)) c.loop-p.p c.loop-p.invariant.5
-          (law.walked_not S a.q a.depth (a.q.order - (a.depth + 1)) c.loop-p.p (state c.loop-p.seq c.loop-p.images c.loop-p.s) c.loop-p.candidate_floats c.loop-p.candidate_words (sym (c.may.ensures a.plane_triangles.now a.plane_edges.now) ∙ c.if-may.false) c.loop-p.invariant.5.sound),
+          (law.walked_not S a.q a.depth (a.q.order - (a.depth + 1)) c.loop-p.p (state c.loop-p.seq c.loop-p.images c.loop-p.s) c.loop-p.candidate_floats c.loop-p.candidate_words (sym (c.may.ensures a.planes.now.members.now a.planes.now.edges.now) ∙ c.if-not-may.true) c.loop-p.invariant.5.sound),
     )
 
 pub returns : goal.returns
 returns t c =
     let a = c.args in
     let pre = c.requires in
-    let S : SearchAreas = (search_areas a.padded.now a.nodes.now a.leaf_order.now a.leaves.now a.handles.now a.materials.now a.triangles.now a.plane_floats.now a.plane_words.now a.plane_triangles.now a.plane_edges.now) in
-    let e : c.loop-p.p ≡ a.q.count = omega (arith, c.loop-p-test.false, c.loop-p.invariant.0) in
+    let S : SearchAreas = (search_areas a.bvh.now a.materials.now a.planes.now) in
+    let e : c.loop-p.p ≡ a.planes.now.count = omega (arith, c.loop-p-test.false, c.loop-p.invariant.0) in
     law.walked_all S a.q a.depth c.loop-p.p pre.deep (e ∙ sym (law.firsts_length S a.q)) c.loop-p.invariant.5

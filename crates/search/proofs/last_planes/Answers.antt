@@ -17,7 +17,7 @@ loop-p-init c =
       refl,
       refl,
       refl,
-      law.walked_none (search_areas a.padded.now a.nodes.now a.leaf_order.now a.leaves.now a.handles.now a.materials.now a.triangles.now a.plane_floats.now a.plane_words.now a.plane_triangles.now a.plane_edges.now) a.q a.depth (state a.seq.now a.images.now a.t)
+      law.walked_none (search_areas a.bvh.now a.materials.now a.planes.now) a.q a.depth (state a.seq.now a.images.now a.t)
           a.candidate_floats.now a.candidate_words.now c.requires.search_ready.sound,
     )
 
@@ -28,52 +28,52 @@ next_near-next-requires c = let pre = c.requires.search_ready in
       count_in_bounds = (h.floats_room, h.words_room);
     }
 
-pub shape_of-seq-then-at-q : goal.shape_of-seq-then-at-q
-shape_of-seq-then-at-q c = c.loop-p.invariant.1
+pub shape_of-seq-then-at-planes : goal.shape_of-seq-then-at-planes
+shape_of-seq-then-at-planes c = c.loop-p.invariant.1
 
-pub shape_of-images-then-at-q : goal.shape_of-images-then-at-q
-shape_of-images-then-at-q c = c.loop-p.invariant.2
+pub shape_of-images-then-at-planes : goal.shape_of-images-then-at-planes
+shape_of-images-then-at-planes c = c.loop-p.invariant.2
 
-pub shape_of-candidate_floats-then-at-q : goal.shape_of-candidate_floats-then-at-q
-shape_of-candidate_floats-then-at-q c = c.loop-p.invariant.3
+pub shape_of-candidate_floats-then-at-planes : goal.shape_of-candidate_floats-then-at-planes
+shape_of-candidate_floats-then-at-planes c = c.loop-p.invariant.3
 
-pub shape_of-candidate_words-then-at-q : goal.shape_of-candidate_words-then-at-q
-shape_of-candidate_words-then-at-q c = c.loop-p.invariant.4
+pub shape_of-candidate_words-then-at-planes : goal.shape_of-candidate_words-then-at-planes
+shape_of-candidate_words-then-at-planes c = c.loop-p.invariant.4
 
-pub returns-then-at-q : goal.returns-then-at-q
-returns-then-at-q c =
+pub returns-then-at-planes : goal.returns-then-at-planes
+returns-then-at-planes c =
     let a = c.args in
     let pre = c.requires in
-    let S : SearchAreas = (search_areas a.padded.now a.nodes.now a.leaf_order.now a.leaves.now a.handles.now a.materials.now a.triangles.now a.plane_floats.now a.plane_words.now a.plane_triangles.now a.plane_edges.now) in
+    let S : SearchAreas = (search_areas a.bvh.now a.materials.now a.planes.now) in
     let r : SearchReady S a.q a.depth (state c.loop-p.seq c.loop-p.images c.loop-p.s) c.loop-p.candidate_floats c.loop-p.candidate_words =
     law.ready_same S a.q a.depth a.depth (state a.seq.now a.images.now a.t) (state c.loop-p.seq c.loop-p.images c.loop-p.s) a.candidate_floats.now c.loop-p.candidate_floats a.candidate_words.now c.loop-p.candidate_words pre.search_ready pre.search_ready.deep c.loop-p.invariant.3 c.loop-p.invariant.4 c.loop-p.invariant.5.sound in
     let k : Skipped S a.q a.depth c.loop-p.seq c.loop-p.images c.loop-p.p c.loop-p.s c.next_near-next.result.plane c.next_near-next.result.tally =
-    c.next_near-next.ensures a.padded.now a.nodes.now a.leaf_order.now a.leaves.now a.handles.now a.materials.now a.triangles.now a.plane_triangles.now a.plane_edges.now in
+    c.next_near-next.ensures a.bvh.now a.materials.now in
     let w : Walked S a.q a.depth (upto (at (firsts_of S a.q) (a.q.order - (a.depth + 1)) (take a.depth a.seq.now)) c.next_near-next.result.plane) (state a.seq.now a.images.now a.t) a.candidate_floats.now a.candidate_words.now (state c.loop-p.seq c.loop-p.images c.next_near-next.result.tally)
     c.loop-p.candidate_floats c.loop-p.candidate_words =
     k.skips.walked (state a.seq.now a.images.now a.t) a.candidate_floats.now a.candidate_words.now c.loop-p.candidate_floats c.loop-p.candidate_words r pre.depth_value c.loop-p.invariant.5 in
-    law.walked_all S a.q a.depth c.next_near-next.result.plane pre.search_ready.deep (c.if-at-q.true ∙ sym (law.firsts_length S a.q)) w
+    law.walked_all S a.q a.depth c.next_near-next.result.plane pre.search_ready.deep (c.if-at-planes.true ∙ sym (law.firsts_length S a.q)) w
 
 pub overflow_add-p : goal.overflow_add-p
 overflow_add-p c =
     let a = c.args in
     let pre = c.requires in
-    let S : SearchAreas = (search_areas a.padded.now a.nodes.now a.leaf_order.now a.leaves.now a.handles.now a.materials.now a.triangles.now a.plane_floats.now a.plane_words.now a.plane_triangles.now a.plane_edges.now) in
+    let S : SearchAreas = (search_areas a.bvh.now a.materials.now a.planes.now) in
     let k : Skipped S a.q a.depth c.loop-p.seq c.loop-p.images c.loop-p.p c.loop-p.s c.next_near-next.result.plane c.next_near-next.result.tally =
-    c.next_near-next.ensures a.padded.now a.nodes.now a.leaf_order.now a.leaves.now a.handles.now a.materials.now a.triangles.now a.plane_triangles.now a.plane_edges.now in
-    omega (arith, k.within, c.if-at-q.false, pre.search_ready.small)
+    c.next_near-next.ensures a.bvh.now a.materials.now in
+    omega (arith, k.within, c.if-at-planes.false, pre.search_ready.small)
 
 pub push-requires : goal.push-requires
 push-requires c =
     let a = c.args in
     let pre = c.requires in
-    let S : SearchAreas = (search_areas a.padded.now a.nodes.now a.leaf_order.now a.leaves.now a.handles.now a.materials.now a.triangles.now a.plane_floats.now a.plane_words.now a.plane_triangles.now a.plane_edges.now) in
+    let S : SearchAreas = (search_areas a.bvh.now a.materials.now a.planes.now) in
     let k : Skipped S a.q a.depth c.loop-p.seq c.loop-p.images c.loop-p.p c.loop-p.s c.next_near-next.result.plane c.next_near-next.result.tally =
-    c.next_near-next.ensures a.padded.now a.nodes.now a.leaf_order.now a.leaves.now a.handles.now a.materials.now a.triangles.now a.plane_triangles.now a.plane_edges.now in
+    c.next_near-next.ensures a.bvh.now a.materials.now in
     let d = pre.search_ready.deep in
     let w = pre.search_ready.within in
     let h = pre.search_ready.lent.planes.held in record {
-      depth_in_bounds = (omega (arith, d, w, c.loop-p.invariant.5.sound.seq_room), omega (arith, d, w, c.loop-p.invariant.5.sound.images_room), omega (arith, k.within, c.if-at-q.false), pre.search_ready.small);
+      depth_in_bounds = (omega (arith, d, w, c.loop-p.invariant.5.sound.seq_room), omega (arith, d, w, c.loop-p.invariant.5.sound.images_room), omega (arith, k.within, c.if-at-planes.false), pre.search_ready.small);
       count_in_bounds = (h.floats_room, h.words_room);
     }
 
@@ -89,20 +89,20 @@ pub made-requires : goal.made-requires
 made-requires c =
     let a = c.args in
     let pre = c.requires in
-    let S : SearchAreas = (search_areas a.padded.now a.nodes.now a.leaf_order.now a.leaves.now a.handles.now a.materials.now a.triangles.now a.plane_floats.now a.plane_words.now a.plane_triangles.now a.plane_edges.now) in
+    let S : SearchAreas = (search_areas a.bvh.now a.materials.now a.planes.now) in
     let r : SearchReady S a.q a.depth (state c.loop-p.seq c.loop-p.images c.loop-p.s) c.loop-p.candidate_floats c.loop-p.candidate_words =
     law.ready_same S a.q a.depth a.depth (state a.seq.now a.images.now a.t) (state c.loop-p.seq c.loop-p.images c.loop-p.s) a.candidate_floats.now c.loop-p.candidate_floats a.candidate_words.now c.loop-p.candidate_words pre.search_ready pre.search_ready.deep c.loop-p.invariant.3 c.loop-p.invariant.4 c.loop-p.invariant.5.sound in
     let k : Skipped S a.q a.depth c.loop-p.seq c.loop-p.images c.loop-p.p c.loop-p.s c.next_near-next.result.plane c.next_near-next.result.tally =
-    c.next_near-next.ensures a.padded.now a.nodes.now a.leaf_order.now a.leaves.now a.handles.now a.materials.now a.triangles.now a.plane_triangles.now a.plane_edges.now in
+    c.next_near-next.ensures a.bvh.now a.materials.now in
     let w : Walked S a.q a.depth (upto (at (firsts_of S a.q) (a.q.order - (a.depth + 1)) (take a.depth a.seq.now)) c.next_near-next.result.plane) (state a.seq.now a.images.now a.t) a.candidate_floats.now a.candidate_words.now (state c.loop-p.seq
     c.loop-p.images c.next_near-next.result.tally) c.loop-p.candidate_floats c.loop-p.candidate_words =
     k.skips.walked (state a.seq.now a.images.now a.t) a.candidate_floats.now a.candidate_words.now c.loop-p.candidate_floats c.loop-p.candidate_words r pre.depth_value c.loop-p.invariant.5 in
     let r₁ : SearchReady S a.q a.depth (state c.loop-p.seq c.loop-p.images c.next_near-next.result.tally) c.loop-p.candidate_floats c.loop-p.candidate_words =
     law.ready_same S a.q a.depth a.depth (state c.loop-p.seq c.loop-p.images c.loop-p.s) (state c.loop-p.seq c.loop-p.images c.next_near-next.result.tally) c.loop-p.candidate_floats c.loop-p.candidate_floats c.loop-p.candidate_words c.loop-p.candidate_words r r.deep refl refl w.sound in
-    let h : c.next_near-next.result.plane < a.q.count = omega (arith, k.within, c.if-at-q.false) in
+    let h : c.next_near-next.result.plane < a.planes.now.count = omega (arith, k.within, c.if-at-planes.false) in
     let v : Visitable S a.q (a.depth + 1) (state c.push.new.seq c.push.new.images c.next_near-next.result.tally) c.loop-p.candidate_floats c.loop-p.candidate_words =
     law.visitable_push S a.q a.depth c.next_near-next.result.plane c.loop-p.seq c.push.new.seq c.loop-p.images c.push.new.images c.next_near-next.result.tally c.push.ensures.seq_after
-    (c.push.ensures.by_index a.plane_triangles.now a.plane_edges.now) c.loop-p.candidate_floats c.loop-p.candidate_words r₁ h (k.next h).0 in record {
+    (c.push.ensures.by_index a.planes.now.members.now a.planes.now.edges.now) c.loop-p.candidate_floats c.loop-p.candidate_words r₁ h (k.next h).0 in record {
       planes_lent = v.lent.planes;
       len_in_bounds = (omega (arith, v.within, v.sound.seq_room), omega (arith, v.within, v.sound.images_room));
       by_index = v.sound.planes;
@@ -120,31 +120,31 @@ pub judge-v-requires : goal.judge-v-requires
 judge-v-requires c =
     let a = c.args in
     let pre = c.requires in
-    let S : SearchAreas = (search_areas a.padded.now a.nodes.now a.leaf_order.now a.leaves.now a.handles.now a.materials.now a.triangles.now a.plane_floats.now a.plane_words.now a.plane_triangles.now a.plane_edges.now) in
+    let S : SearchAreas = (search_areas a.bvh.now a.materials.now a.planes.now) in
     let r : SearchReady S a.q a.depth (state c.loop-p.seq c.loop-p.images c.loop-p.s) c.loop-p.candidate_floats c.loop-p.candidate_words =
     law.ready_same S a.q a.depth a.depth (state a.seq.now a.images.now a.t) (state c.loop-p.seq c.loop-p.images c.loop-p.s) a.candidate_floats.now c.loop-p.candidate_floats a.candidate_words.now c.loop-p.candidate_words pre.search_ready pre.search_ready.deep c.loop-p.invariant.3 c.loop-p.invariant.4 c.loop-p.invariant.5.sound in
     let k : Skipped S a.q a.depth c.loop-p.seq c.loop-p.images c.loop-p.p c.loop-p.s c.next_near-next.result.plane c.next_near-next.result.tally =
-    c.next_near-next.ensures a.padded.now a.nodes.now a.leaf_order.now a.leaves.now a.handles.now a.materials.now a.triangles.now a.plane_triangles.now a.plane_edges.now in
+    c.next_near-next.ensures a.bvh.now a.materials.now in
     let w : Walked S a.q a.depth (upto (at (firsts_of S a.q) (a.q.order - (a.depth + 1)) (take a.depth a.seq.now)) c.next_near-next.result.plane) (state a.seq.now a.images.now a.t)
     a.candidate_floats.now a.candidate_words.now (state c.loop-p.seq c.loop-p.images c.next_near-next.result.tally) c.loop-p.candidate_floats c.loop-p.candidate_words =
     k.skips.walked (state a.seq.now a.images.now a.t) a.candidate_floats.now a.candidate_words.now c.loop-p.candidate_floats c.loop-p.candidate_words r pre.depth_value c.loop-p.invariant.5 in
     let r₁ : SearchReady S a.q a.depth (state c.loop-p.seq c.loop-p.images c.next_near-next.result.tally) c.loop-p.candidate_floats c.loop-p.candidate_words =
     law.ready_same S a.q a.depth a.depth (state c.loop-p.seq c.loop-p.images c.loop-p.s) (state c.loop-p.seq c.loop-p.images c.next_near-next.result.tally) c.loop-p.candidate_floats c.loop-p.candidate_floats c.loop-p.candidate_words c.loop-p.candidate_words r
     r.deep refl refl w.sound in
-    let h : c.next_near-next.result.plane < a.q.count = omega (arith, k.within, c.if-at-q.false) in
-    law.visitable_push S a.q a.depth c.next_near-next.result.plane c.loop-p.seq c.push.new.seq c.loop-p.images c.push.new.images c.next_near-next.result.tally c.push.ensures.seq_after (c.push.ensures.by_index a.plane_triangles.now a.plane_edges.now) c.loop-p.candidate_floats c.loop-p.candidate_words r₁ h (k.next h).0
+    let h : c.next_near-next.result.plane < a.planes.now.count = omega (arith, k.within, c.if-at-planes.false) in
+    law.visitable_push S a.q a.depth c.next_near-next.result.plane c.loop-p.seq c.push.new.seq c.loop-p.images c.push.new.images c.next_near-next.result.tally c.push.ensures.seq_after (c.push.ensures.by_index a.planes.now.members.now a.planes.now.edges.now) c.loop-p.candidate_floats c.loop-p.candidate_words r₁ h (k.next h).0
 
 pub loop-p-smaller-then-made : goal.loop-p-smaller-then-made
 loop-p-smaller-then-made c =
     let a = c.args in
     let pre = c.requires in
-    let S : SearchAreas = (search_areas a.padded.now a.nodes.now a.leaf_order.now a.leaves.now a.handles.now a.materials.now a.triangles.now a.plane_floats.now a.plane_words.now a.plane_triangles.now a.plane_edges.now) in
+    let S : SearchAreas = (search_areas a.bvh.now a.materials.now a.planes.now) in
     let k : Skipped S a.q a.depth c.loop-p.seq c.loop-p.images c.loop-p.p c.loop-p.s c.next_near-next.result.plane c.next_near-next.result.tally =
-    c.next_near-next.ensures a.padded.now a.nodes.now a.leaf_order.now a.leaves.now a.handles.now a.materials.now a.triangles.now a.plane_triangles.now a.plane_edges.now in
+    c.next_near-next.ensures a.bvh.now a.materials.now in
     omega (
       arith,
       k.within,
-      c.if-at-q.false,
+      c.if-at-planes.false,
       c.loop-p-test.true,
       k.from,
     )
@@ -153,24 +153,24 @@ pub loop-p-preserved-then-made : goal.loop-p-preserved-then-made
 loop-p-preserved-then-made c =
     let a = c.args in
     let pre = c.requires in
-    let S : SearchAreas = (search_areas a.padded.now a.nodes.now a.leaf_order.now a.leaves.now a.handles.now a.materials.now a.triangles.now a.plane_floats.now a.plane_words.now a.plane_triangles.now a.plane_edges.now) in
+    let S : SearchAreas = (search_areas a.bvh.now a.materials.now a.planes.now) in
     let r : SearchReady S a.q a.depth (state c.loop-p.seq c.loop-p.images c.loop-p.s) c.loop-p.candidate_floats c.loop-p.candidate_words =
     law.ready_same S a.q a.depth a.depth (state a.seq.now a.images.now a.t) (state c.loop-p.seq c.loop-p.images c.loop-p.s) a.candidate_floats.now c.loop-p.candidate_floats a.candidate_words.now c.loop-p.candidate_words pre.search_ready pre.search_ready.deep c.loop-p.invariant.3 c.loop-p.invariant.4 c.loop-p.invariant.5.sound in
     let k : Skipped S a.q a.depth c.loop-p.seq c.loop-p.images c.loop-p.p c.loop-p.s c.next_near-next.result.plane c.next_near-next.result.tally =
-    c.next_near-next.ensures a.padded.now a.nodes.now a.leaf_order.now a.leaves.now a.handles.now a.materials.now a.triangles.now a.plane_triangles.now a.plane_edges.now in
+    c.next_near-next.ensures a.bvh.now a.materials.now in
     let w : Walked S a.q a.depth (upto (at (firsts_of S a.q) (a.q.order - (a.depth + 1)) (take a.depth a.seq.now)) c.next_near-next.result.plane) (state a.seq.now
     a.images.now a.t) a.candidate_floats.now a.candidate_words.now (state c.loop-p.seq c.loop-p.images c.next_near-next.result.tally) c.loop-p.candidate_floats c.loop-p.candidate_words =
     k.skips.walked (state a.seq.now a.images.now a.t) a.candidate_floats.now a.candidate_words.now c.loop-p.candidate_floats c.loop-p.candidate_words r pre.depth_value c.loop-p.invariant.5 in
     let r₁ : SearchReady S a.q a.depth (state c.loop-p.seq c.loop-p.images c.next_near-next.result.tally) c.loop-p.candidate_floats c.loop-p.candidate_words =
     law.ready_same S a.q a.depth a.depth (state c.loop-p.seq c.loop-p.images c.loop-p.s) (state c.loop-p.seq c.loop-p.images c.next_near-next.result.tally) c.loop-p.candidate_floats c.loop-p.candidate_floats
     c.loop-p.candidate_words c.loop-p.candidate_words r r.deep refl refl w.sound in
-    let h : c.next_near-next.result.plane < a.q.count = omega (
+    let h : c.next_near-next.result.plane < a.planes.now.count = omega (
       arith,
       k.within,
-      c.if-at-q.false,
+      c.if-at-planes.false,
     ) in
     let v : Visitable S a.q (a.depth + 1) (state c.push.new.seq c.push.new.images c.next_near-next.result.tally) c.loop-p.candidate_floats c.loop-p.candidate_words =
-    law.visitable_push S a.q a.depth c.next_near-next.result.plane c.loop-p.seq c.push.new.seq c.loop-p.images c.push.new.images c.next_near-next.result.tally c.push.ensures.seq_after (c.push.ensures.by_index a.plane_triangles.now a.plane_edges.now) c.loop-p.candidate_floats c.loop-p.candidate_words r₁ h (k.next h).0 in (
+    law.visitable_push S a.q a.depth c.next_near-next.result.plane c.loop-p.seq c.push.new.seq c.loop-p.images c.push.new.images c.next_near-next.result.tally c.push.ensures.seq_after (c.push.ensures.by_index a.planes.now.members.now a.planes.now.edges.now) c.loop-p.candidate_floats c.loop-p.candidate_words r₁ h (k.next h).0 in (
       omega (arith, h),
       c.push.auto.seq ∙ c.loop-p.invariant.1,
       c.push.auto.images ∙ c.loop-p.invariant.2,
@@ -187,38 +187,38 @@ pub passed_over-s-requires : goal.passed_over-s-requires
 passed_over-s-requires c =
     let a = c.args in
     let pre = c.requires in
-    let S : SearchAreas = (search_areas a.padded.now a.nodes.now a.leaf_order.now a.leaves.now a.handles.now a.materials.now a.triangles.now a.plane_floats.now a.plane_words.now a.plane_triangles.now a.plane_edges.now) in
+    let S : SearchAreas = (search_areas a.bvh.now a.materials.now a.planes.now) in
     let k : Skipped S a.q a.depth c.loop-p.seq c.loop-p.images c.loop-p.p c.loop-p.s c.next_near-next.result.plane c.next_near-next.result.tally =
-    c.next_near-next.ensures a.padded.now a.nodes.now a.leaf_order.now a.leaves.now a.handles.now a.materials.now a.triangles.now a.plane_triangles.now a.plane_edges.now in
-    let h : c.next_near-next.result.plane < a.q.count = omega (arith, k.within, c.if-at-q.false) in
+    c.next_near-next.ensures a.bvh.now a.materials.now in
+    let h : c.next_near-next.result.plane < a.planes.now.count = omega (arith, k.within, c.if-at-planes.false) in
     omega (arith, (k.next h).0, pre.search_ready.bound)
 
 pub loop-p-smaller : goal.loop-p-smaller
 loop-p-smaller c =
     let a = c.args in
     let pre = c.requires in
-    let S : SearchAreas = (search_areas a.padded.now a.nodes.now a.leaf_order.now a.leaves.now a.handles.now a.materials.now a.triangles.now a.plane_floats.now a.plane_words.now a.plane_triangles.now a.plane_edges.now) in
+    let S : SearchAreas = (search_areas a.bvh.now a.materials.now a.planes.now) in
     let k : Skipped S a.q a.depth c.loop-p.seq c.loop-p.images c.loop-p.p c.loop-p.s c.next_near-next.result.plane c.next_near-next.result.tally =
-    c.next_near-next.ensures a.padded.now a.nodes.now a.leaf_order.now a.leaves.now a.handles.now a.materials.now a.triangles.now a.plane_triangles.now a.plane_edges.now in
-    omega (arith, k.within, c.if-at-q.false, c.loop-p-test.true, k.from)
+    c.next_near-next.ensures a.bvh.now a.materials.now in
+    omega (arith, k.within, c.if-at-planes.false, c.loop-p-test.true, k.from)
 
 pub loop-p-preserved : goal.loop-p-preserved
 loop-p-preserved c =
     let a = c.args in
     let pre = c.requires in
-    let S : SearchAreas = (search_areas a.padded.now a.nodes.now a.leaf_order.now a.leaves.now a.handles.now a.materials.now a.triangles.now a.plane_floats.now a.plane_words.now a.plane_triangles.now a.plane_edges.now) in
+    let S : SearchAreas = (search_areas a.bvh.now a.materials.now a.planes.now) in
     let r : SearchReady S a.q a.depth (state c.loop-p.seq c.loop-p.images c.loop-p.s) c.loop-p.candidate_floats c.loop-p.candidate_words =
     law.ready_same S a.q a.depth a.depth (state a.seq.now a.images.now a.t) (state c.loop-p.seq c.loop-p.images c.loop-p.s) a.candidate_floats.now c.loop-p.candidate_floats a.candidate_words.now c.loop-p.candidate_words pre.search_ready pre.search_ready.deep c.loop-p.invariant.3 c.loop-p.invariant.4 c.loop-p.invariant.5.sound in
     let k : Skipped S a.q a.depth c.loop-p.seq c.loop-p.images c.loop-p.p c.loop-p.s c.next_near-next.result.plane c.next_near-next.result.tally =
-    c.next_near-next.ensures a.padded.now a.nodes.now a.leaf_order.now a.leaves.now a.handles.now a.materials.now a.triangles.now a.plane_triangles.now a.plane_edges.now in
+    c.next_near-next.ensures a.bvh.now a.materials.now in
     let w : Walked S a.q a.depth (upto (at (firsts_of S a.q) (a.q.order - (a.depth + 1)) (take a.depth a.seq.now)) c.next_near-next.result.plane) (state a.seq.now a.images.now a.t) a.candidate_floats.now
     a.candidate_words.now (state c.loop-p.seq c.loop-p.images c.next_near-next.result.tally) c.loop-p.candidate_floats c.loop-p.candidate_words =
     k.skips.walked (state a.seq.now a.images.now a.t) a.candidate_floats.now a.candidate_words.now c.loop-p.candidate_floats c.loop-p.candidate_words r pre.depth_value c.loop-p.invariant.5 in
     let r₁ : SearchReady S a.q a.depth (state c.loop-p.seq c.loop-p.images c.next_near-next.result.tally) c.loop-p.candidate_floats c.loop-p.candidate_words =
     law.ready_same S a.q a.depth a.depth (state c.loop-p.seq c.loop-p.images c.loop-p.s) (state c.loop-p.seq c.loop-p.images c.next_near-next.result.tally) c.loop-p.candidate_floats c.loop-p.candidate_floats c.loop-p.candidate_words c.loop-p.candidate_words r r.deep refl refl w.sound in
-    let h : c.next_near-next.result.plane < a.q.count = omega (arith, k.within, c.if-at-q.false) in
+    let h : c.next_near-next.result.plane < a.planes.now.count = omega (arith, k.within, c.if-at-planes.false) in
     let v : Visitable S a.q (a.depth + 1) (state c.push.new.seq c.push.new.images c.next_near-next.result.tally) c.loop-p.candidate_floats c.loop-p.candidate_words =
-    law.visitable_push S a.q a.depth c.next_near-next.result.plane c.loop-p.seq c.push.new.seq c.loop-p.images c.push.new.images c.next_near-next.result.tally c.push.ensures.seq_after (c.push.ensures.by_index a.plane_triangles.now a.plane_edges.now) c.loop-p.candidate_floats c.loop-p.candidate_words r₁ h (k.next h).0 in
+    law.visitable_push S a.q a.depth c.next_near-next.result.plane c.loop-p.seq c.push.new.seq c.loop-p.images c.push.new.images c.next_near-next.result.tally c.push.ensures.seq_after (c.push.ensures.by_index a.planes.now.members.now a.planes.now.edges.now) c.loop-p.candidate_floats c.loop-p.candidate_words r₁ h (k.next h).0 in
     let seen : Visited S a.q (a.depth + 1) c.push.new.seq c.next_near-next.result.tally c.loop-p.candidate_floats c.loop-p.candidate_words c.passed_over-s.result
     c.loop-p.candidate_floats c.loop-p.candidate_words =
     rw c.passed_over-s.ensures (law.visited_lost S a.q (a.depth + 1) c.push.new.seq c.push.new.images c.next_near-next.result.tally c.loop-p.candidate_floats c.loop-p.candidate_words v.within v.sound (c.made.ensures c.if-made.false)) in (
@@ -249,6 +249,6 @@ pub returns : goal.returns
 returns c =
     let a = c.args in
     let pre = c.requires in
-    let S : SearchAreas = (search_areas a.padded.now a.nodes.now a.leaf_order.now a.leaves.now a.handles.now a.materials.now a.triangles.now a.plane_floats.now a.plane_words.now a.plane_triangles.now a.plane_edges.now) in
-    let e : c.loop-p.p ≡ a.q.count = omega (arith, c.loop-p-test.false, c.loop-p.invariant.0) in
+    let S : SearchAreas = (search_areas a.bvh.now a.materials.now a.planes.now) in
+    let e : c.loop-p.p ≡ a.planes.now.count = omega (arith, c.loop-p-test.false, c.loop-p.invariant.0) in
     law.walked_all S a.q a.depth c.loop-p.p pre.search_ready.deep (e ∙ sym (law.firsts_length S a.q)) c.loop-p.invariant.5

@@ -21,9 +21,9 @@ overflow_cast-result c = omega (arith, (c.shared_slice_known-else-depth-lt-RULED
 
 pub returns-then-depth-lt-RULED : goal.returns-then-depth-lt-RULED
 returns-then-depth-lt-RULED c = let a = c.args in λ members edges.
-    let e = planes_length a.plane_floats.now a.plane_words.now members edges a.q.count in
-    may_begin (planes_in a.plane_floats.now a.plane_words.now members edges a.q.count) a.q.source a.seq.now a.depth a.p c.lies_on.result (omega (arith, c.requires.depth_in_bounds)) (let t = c.if-depth-lt-RULED.true in omega arith)
-    (c.lies_on.ensures members edges a.q.count c.requires.depth_in_bounds.1)
+    let e = planes_length a.planes.now.floats.now a.planes.now.words.now members edges a.planes.now.count in
+    may_begin (planes_in a.planes.now.floats.now a.planes.now.words.now members edges a.planes.now.count) a.q.source a.seq.now a.depth a.p c.lies_on.result (omega (arith, c.requires.depth_in_bounds)) (let t = c.if-depth-lt-RULED.true in omega arith)
+    (c.lies_on.ensures members edges a.planes.now.count c.requires.depth_in_bounds.1)
 
 pub returns-else-depth-lt-RULED : goal.returns-else-depth-lt-RULED
 returns-else-depth-lt-RULED c = let a = c.args in
@@ -32,5 +32,5 @@ returns-else-depth-lt-RULED c = let a = c.args in
     let e : a.depth ≡ suc (a.depth - 1) = omega (arith, z) in
     let l : a.depth - 1 < length a.seq.now = omega (arith, z) in
     λ members edges.
-    let on = on_bytes (planes_in a.plane_floats.now a.plane_words.now members edges a.q.count) a.q.source in
+    let on = on_bytes (planes_in a.planes.now.floats.now a.planes.now.words.now members edges a.planes.now.count) a.q.source in
     sym (ap (λ (d : ℕ). may on (take d a.seq.now) a.p) e ∙ may_later on a.seq.now (a.depth - 1) a.p l)

@@ -38,5 +38,5 @@ pub returns : goal.returns
 returns c = let a = c.args in record {
   seq_after = refl;
   by_index = λ members edges.
-      rw (← c.vec_in-from.ensures, ← c.next_image.ensures members edges a.count c.requires.depth_in_bounds.2) c.put_point.ensures;
+      rw (← c.vec_in-from.ensures, ← c.next_image.ensures members edges a.planes.now.count c.requires.depth_in_bounds.2) c.put_point.ensures;
 }

@@ -13,7 +13,7 @@ use Rattle.search.proofs.search_images.Goals as goal
 
 pub returns-then-order-eq0 : goal.returns-then-order-eq0
 returns-then-order-eq0 c = let a = c.args in record {
-  searched = λ tri t h. searched_none (on_bytes (planes_in a.plane_floats.now a.plane_words.now a.plane_triangles.now a.plane_edges.now a.count) a.source) a.order a.room (outcomes_of a.settings (planes_in a.plane_floats.now a.plane_words.now a.plane_triangles.now a.plane_edges.now a.count) tri t a.materials.now a.source a.listener)
+  searched = λ tri t h. searched_none (on_bytes (planes_in a.planes.now.floats.now a.planes.now.words.now a.planes.now.members.now a.planes.now.edges.now a.planes.now.count) a.source) a.order a.room (outcomes_of a.settings (planes_in a.planes.now.floats.now a.planes.now.words.now a.planes.now.members.now a.planes.now.edges.now a.planes.now.count) tri t a.materials.now a.source a.listener)
       a.candidate_floats.now a.candidate_words.now c.if-order-eq0.true;
   few = omega arith;
   rest = (refl, refl);
@@ -24,7 +24,7 @@ expand_images-s-requires c =
     let a = c.args in
     let pre = c.requires in
     let b = c.first_images-images.ensures in
-    let q : Task = record { listener = a.listener; beyond = c.square_beyond-beyond.result; n = a.n; count = a.count; order = a.order; nodes_count = a.nodes_count; room = a.room; source = a.source; limit = most; settings = a.settings } in
+    let q : Task = record { listener = a.listener; beyond = c.square_beyond-beyond.result; order = a.order; room = a.room; source = a.source; limit = most; settings = a.settings } in
     let s : State = (state (0 ∷ 0 ∷ 0 ∷ 0 ∷ 0 ∷ 0 ∷ 0 ∷ 0 ∷ []) c.first_images-images.result (record { nodes = 0; rays = 0; found = 0; over = 0 })) in
     let new : Fresh q s = record { seq_room = refl; images_room = b.1; image = b.0; no_nodes = refl; no_rays = refl; no_found = refl; not_over = refl } in
     let some = pos_of_ne-zero c.if-order-eq0.false in
@@ -37,8 +37,7 @@ expand_images-s-requires c =
       far = c.square_beyond-beyond.ensures;
       lent = pre.scene_lent;
       room = pre.candidate_rows;
-      sound = sound_fresh (search_areas a.padded.now a.nodes.now a.leaf_order.now a.leaves.now a.handles.now
-          a.materials.now a.triangles.now a.plane_floats.now a.plane_words.now a.plane_triangles.now a.plane_edges.now) q s new;
+      sound = sound_fresh (search_areas a.bvh.now a.materials.now a.planes.now) q s new;
     }
 
 pub shape_of-candidate_floats : goal.shape_of-candidate_floats
@@ -53,10 +52,10 @@ returns c =
     let same_length = c.expand_images-s.auto.candidate_floats in
     let a = c.args in
     let b = c.first_images-images.ensures in
-    let q : Task = record { listener = a.listener; beyond = c.square_beyond-beyond.result; n = a.n; count = a.count; order = a.order; nodes_count = a.nodes_count; room = a.room; source = a.source; limit = most; settings = a.settings } in
+    let q : Task = record { listener = a.listener; beyond = c.square_beyond-beyond.result; order = a.order; room = a.room; source = a.source; limit = most; settings = a.settings } in
     let s : State = (state (0 ∷ 0 ∷ 0 ∷ 0 ∷ 0 ∷ 0 ∷ 0 ∷ 0 ∷ []) c.first_images-images.result (record { nodes = 0; rays = 0; found = 0; over = 0 })) in
     let new : Fresh q s = record { seq_room = refl; images_room = b.1; image = b.0; no_nodes = refl; no_rays = refl; no_found = refl; not_over = refl } in record {
-      searched = searched_all (search_areas a.padded.now a.nodes.now a.leaf_order.now a.leaves.now a.handles.now a.materials.now a.triangles.now a.plane_floats.now a.plane_words.now a.plane_triangles.now a.plane_edges.now) q s new a.candidate_floats.now c.expand_images-s.new.candidate_floats a.candidate_words.now
+      searched = searched_all (search_areas a.bvh.now a.materials.now a.planes.now) q s new a.candidate_floats.now c.expand_images-s.new.candidate_floats a.candidate_words.now
           c.expand_images-s.new.candidate_words (state c.expand_images-s.new.seq c.expand_images-s.new.images c.expand_images-s.result) refl c.expand_images-s.ensures;
       few = c.expand_images-s.ensures.sound.few;
       rest = (same_length, same-length-2);

@@ -30,5 +30,5 @@ pub returns : goal.returns
 returns c =
     let a = c.args in
     let pre = c.requires in
-    rw c.passed_over.ensures (law.visited_lost (search_areas a.padded.now a.nodes.now a.leaf_order.now a.leaves.now a.handles.now a.materials.now a.triangles.now a.plane_floats.now a.plane_words.now a.plane_triangles.now a.plane_edges.now) a.q a.len a.seq.now a.images.now a.t a.candidate_floats.now
+    rw c.passed_over.ensures (law.visited_lost (search_areas a.bvh.now a.materials.now a.planes.now) a.q a.len a.seq.now a.images.now a.t a.candidate_floats.now
     a.candidate_words.now pre.within pre.sound (c.made.ensures c.if-made.false))

@@ -11,7 +11,7 @@ use Rattle.segments.proofs.segment_soft_transmission.Given as goal
 abbrev pub invariant-loop-k : goal.invariant-loop-k
 invariant-loop-k l =
     (l.k ≤ probe_count)
-    × ((tri : ℕ → Triangle) (t : Tree) → TreeReads l.padded l.nodes l.leaf_order l.leaves l.handles tri t →
+    × ((tri : ℕ → Triangle) (t : Tree) → TreeReads l.bvh.padded.now l.bvh.nodes.now l.bvh.leaf_order.now l.bvh.leaves.now l.bvh.handles.now tri t →
     l.sum ≡ probes_of (trace_in tri t) (transmission_of_handle l.materials) l.crossing_limit l.probe_radius l.from l.to l.b l.k)
     × (l.sum.rays ≤ 2 * (l.crossing_limit + 1) * (l.k + 1))
 

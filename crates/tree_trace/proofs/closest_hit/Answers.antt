@@ -15,7 +15,7 @@ use Rattle.tree_trace.proofs.closest_hit.Goals as goal
 pub returns-then-ray : goal.returns-then-ray
 returns-then-ray c =
     let a = c.args in
-    λ tri h. sym (trace_lost slab_of tri a.ray (none a.ray) (subst T (sym c.if-ray.true) tt) (tree_at_of a.padded.now a.nodes.now a.leaf_order.now 33 0))
+    λ tri h. sym (trace_lost slab_of tri a.ray (none a.ray) (subst T (sym c.if-ray.true) tt) (tree_at_of a.bvh.now.padded.now a.bvh.now.nodes.now a.bvh.now.leaf_order.now 33 0))
 
 pub enters-requires : goal.enters-requires
 unfolding way_of
@@ -31,7 +31,7 @@ returns-then-enters c =
     let a = c.args in
     let ahead = c.if-ray.false in
     let way = c.way_of-way.ensures in
-    let e : is_some (slab_of (box_at_of a.padded.now 0) a.ray a.ray.max_distance) ≡ true =
+    let e : is_some (slab_of (box_at_of a.bvh.now.padded.now 0) a.ray a.ray.max_distance) ≡ true =
     ap (λ (v : Aabb). is_some (slab_of v a.ray a.ray.max_distance)) (sym c.box_at.ensures) ∙ sym (rw way at c.enters.ensures ahead) ∙ c.if-enters.true in
     λ tri h. rw way at (c.trace.ensures tri h) ahead e
 
@@ -40,6 +40,6 @@ unfolding way_of
 returns c =
     let a = c.args in
     let way = c.way_of-way.ensures in
-    let e : is_some (slab_of (box_at_of a.padded.now 0) a.ray a.ray.max_distance) ≡ false =
+    let e : is_some (slab_of (box_at_of a.bvh.now.padded.now 0) a.ray a.ray.max_distance) ≡ false =
     ap (λ (v : Aabb). is_some (slab_of v a.ray a.ray.max_distance)) (sym c.box_at.ensures) ∙ sym (rw way at c.enters.ensures c.if-ray.false) ∙ c.if-enters.false in
-    λ tri h. law.trace_miss slab_of tri a.ray a.padded.now a.nodes.now a.leaf_order.now 33 0 (none a.ray) e
+    λ tri h. law.trace_miss slab_of tri a.ray a.bvh.now.padded.now a.bvh.now.nodes.now a.bvh.now.leaf_order.now 33 0 (none a.ray) e
