@@ -1,6 +1,0 @@
--- `booth::faults::token` meets its contract: each turn is one token more.
-use Prim.Native.Nat.{◌-◌}
-use Rattle.booth.proofs.faults.token.Given as goal
-
-abbrev pub invariant-loop-k : goal.invariant-loop-k
-invariant-loop-k l = Unit {0}
