@@ -2,7 +2,7 @@
 ghost use Rattle.std.specs.Prelude.{◌≤◌};
 
 use crate::table::{ErrorBytes, print, say};
-use casefile::Cursor;
+use casefile::{Expected, Fault};
 use scene::Settings;
 use std::io;
 use text::Token;
@@ -11,41 +11,23 @@ use text::Token;
 
 // Whether the bytes from a place to a place are this word.
 pub(crate) fn is_word(s: &[u8], from: usize, to: usize, word: &[u8]) -> bool {
-    if from <= to {
-        if to <= s.len() {
-            return text::same(&s[from..to], word);
-        }
+    match s.get(from..to) {
+        Some(part) => part == word,
+        None => false,
     }
-    false
 }
 
 fn say_part(rt: &impl ErrorBytes, s: &[u8], from: usize, to: usize) -> io::Result<()> {
-    if from <= to {
-        if to <= s.len() {
-            return say(rt, &s[from..to]);
-        }
-    }
-    Ok(())
+    say(rt, s.get(from..to).unwrap_or(b""))
 }
 
 fn print_part(rt: &impl Print, s: &[u8], from: usize, to: usize) -> io::Result<()> {
-    if from <= to {
-        if to <= s.len() {
-            return print(rt, &s[from..to]);
-        }
-    }
-    Ok(())
+    print(rt, s.get(from..to).unwrap_or(b""))
 }
 
 // Where so many bytes end, and no later than `to`.
 fn end_of(from: usize, to: usize, most: usize) -> usize {
-    if to < from {
-        return from;
-    }
-    if to - from < most {
-        return to;
-    }
-    from + most
+    from + to.saturating_sub(from).min(most)
 }
 
 // The bytes from a place to a place, at most so many.
@@ -61,86 +43,16 @@ pub(crate) fn print_some(
 
 // ---- a text that is none
 
-// What was expected where a number, a name or an end should stand, or a count should be smaller.
-fn say_value(rt: &impl ErrorBytes, wrong: u32) -> io::Result<()> {
-    match wrong {
-        1 => say(rt, b"a name"),
-        2 => say(rt, b"a whole number below 4,294,967,296"),
-        3 => say(rt, b"a float"),
-        4 => say(rt, b"0 or 1"),
-        5 => say(rt, b"`inverse` or `linear`"),
-        6 => say(rt, b"at most 64 materials, which there is room for"),
-        7 => say(rt, b"at most 64 meshes, which there is room for"),
-        8 => say(
-            rt,
-            b"at most 2,048 vertices in all, which there is room for",
-        ),
-        9 => say(
-            rt,
-            b"at most 1,536 indices in all (512 triangles), which there is room for",
-        ),
-        _ => say(rt, b"nothing more after `end`"),
-    }
-}
-
-// The word that was expected.
-fn say_word(rt: &impl ErrorBytes, wrong: u32) -> io::Result<()> {
-    match wrong {
-        11 => say(rt, b"`case`"),
-        12 => say(rt, b"`counts`"),
-        13 => say(rt, b"`floats`"),
-        14 => say(rt, b"`merge`"),
-        15 => say(rt, b"`curve`"),
-        16 => say(rt, b"`materials`"),
-        17 => say(rt, b"`m`"),
-        18 => say(rt, b"`meshes`"),
-        _ => say_later_word(rt, wrong),
-    }
-}
-
-fn say_later_word(rt: &impl ErrorBytes, wrong: u32) -> io::Result<()> {
-    match wrong {
-        19 => say(rt, b"`mesh`"),
-        20 => say(rt, b"`t`"),
-        21 => say(rt, b"`p`"),
-        22 => say(rt, b"`i`"),
-        23 => say(rt, b"`source`"),
-        24 => say(rt, b"`listener`"),
-        25 => say(rt, b"`separated`"),
-        _ => say(rt, b"`end`"),
-    }
-}
-
-fn last_byte(s: &[u8]) -> u8 {
-    if 0 < s.len() {
-        text::byte_at(s, s.len() - 1, 0)
-    } else {
-        0
-    }
-}
-
-fn has(s: &[u8], b: u8) -> bool {
-    for i in 0..s.len() {
-        if s[i] == b {
-            return true;
-        }
-    }
-    false
-}
-
 fn is_eight_hex(word: &[u8]) -> bool {
-    if word.len() == 8 {
-        return text::is_hex(word);
-    }
-    false
+    word.len() == 8 && text::is_hex(word)
 }
 
 fn is_prefixed(word: &[u8]) -> bool {
-    text::byte_at(word, 0, 0) == b'0' && text::byte_at(word, 1, 0) == b'x'
+    word.starts_with(b"0x")
 }
 
 fn is_half(word: &[u8]) -> bool {
-    text::byte_at(word, 0, 0) == b'.' || last_byte(word) == b'.'
+    word.starts_with(b".") || word.ends_with(b".")
 }
 
 // What to write in place of a word that is no float.
@@ -154,7 +66,7 @@ fn advise(rt: &impl ErrorBytes, word: &[u8]) -> io::Result<()> {
         )
     } else if is_prefixed(word) {
         say(rt, b"bits are 0x and eight digits, 0 to 9 and a to f")
-    } else if text::byte_at(word, 0, 0) == b'+' {
+    } else if word.starts_with(b"+") {
         say(rt, b"write it without the plus")
     } else if is_half(word) {
         say(rt, b"write a digit on each side of the point")
@@ -171,7 +83,7 @@ fn is_numeric(word: &[u8]) -> bool {
 
 // Whether it does, and has an exponent: a word as `merge` has none.
 fn has_exponent(word: &[u8]) -> bool {
-    is_numeric(word) && (has(word, b'e') || has(word, b'E'))
+    is_numeric(word) && (word.contains(&b'e') || word.contains(&b'E'))
 }
 
 fn advise_more(rt: &impl ErrorBytes, word: &[u8]) -> io::Result<()> {
@@ -189,9 +101,7 @@ fn advise_more(rt: &impl ErrorBytes, word: &[u8]) -> io::Result<()> {
 }
 
 fn say_line(rt: &impl ErrorBytes, line: u32) -> io::Result<()> {
-    say(rt, b"line ")?;
-    rt.eprint(line)?;
-    say(rt, b": ")
+    eprint!(rt; "line {line}: ")
 }
 
 fn say_no_float(rt: &impl ErrorBytes, word: &[u8]) -> io::Result<()> {
@@ -201,13 +111,8 @@ fn say_no_float(rt: &impl ErrorBytes, word: &[u8]) -> io::Result<()> {
     advise(rt, word)
 }
 
-fn say_expected(rt: &impl ErrorBytes, wrong: u32, word: &[u8]) -> io::Result<()> {
-    say(rt, b"expected ")?;
-    if wrong < 11 {
-        say_value(rt, wrong)?;
-    } else {
-        say_word(rt, wrong)?;
-    }
+fn say_expected(rt: &impl ErrorBytes, expected: Expected, word: &[u8]) -> io::Result<()> {
+    eprint!(rt; "expected {expected}")?;
     if word.len() == 0 {
         return say(rt, b", and the text ends");
     }
@@ -216,24 +121,18 @@ fn say_expected(rt: &impl ErrorBytes, wrong: u32, word: &[u8]) -> io::Result<()>
     say(rt, b"'")
 }
 
-fn say_fault(rt: &impl ErrorBytes, wrong: u32, word: &[u8]) -> io::Result<()> {
-    if wrong == 3 {
-        if 0 < word.len() {
-            return say_no_float(rt, word);
-        }
+fn say_fault(rt: &impl ErrorBytes, expected: Expected, word: &[u8]) -> io::Result<()> {
+    match expected {
+        Expected::Float if 0 < word.len() => say_no_float(rt, word),
+        _ => say_expected(rt, expected, word),
     }
-    say_expected(rt, wrong, word)
 }
 
 // The line, what was expected there, and what stands there.
-pub(crate) fn say_wrong(rt: &impl ErrorBytes, s: &[u8], c: Cursor) -> io::Result<()> {
-    let from = c.from;
-    let at = c.at;
-    say_line(rt, c.line)?;
-    if from <= at {
-        if at <= s.len() {
-            say_fault(rt, c.wrong, &s[from..at])?;
-        }
+pub(crate) fn say_wrong(rt: &impl ErrorBytes, s: &[u8], fault: Fault) -> io::Result<()> {
+    say_line(rt, fault.line)?;
+    if let Some(word) = s.get(fault.from..fault.at) {
+        say_fault(rt, fault.expected, word)?;
     }
     say(rt, b"\n")
 }
@@ -243,7 +142,7 @@ pub(crate) fn say_wrong(rt: &impl ErrorBytes, s: &[u8], c: Cursor) -> io::Result
 // Token number n of a text, from 0.
 fn token(s: &[u8], n: usize) -> Token {
     let mut t = text::next_token(s, 0, 1);
-    for k in 0..n {
+    for _ in 0..n {
         t = text::next_token(s, t.end, t.line);
     }
     t
@@ -340,9 +239,7 @@ fn say_setting(rt: &impl ErrorBytes, s: &[u8], fault: u32) -> io::Result<()> {
     say_part(rt, s, t.start, t.end)?;
     say(rt, b", and must be ")?;
     say_limits(rt, fault)?;
-    say(rt, b" (line ")?;
-    rt.eprint(t.line)?;
-    say(rt, b")")
+    eprint!(rt; " (line {})", t.line)
 }
 
 // ---- refusals
@@ -363,10 +260,8 @@ fn say_reason(rt: &impl ErrorBytes, refusal: u32) -> io::Result<()> {
 
 // Where the case asked for more candidates than there is room for here, 7 is about the room here.
 fn say_room(rt: &impl ErrorBytes, refusal: u32, room: u32) -> io::Result<()> {
-    if refusal == 7 {
-        if 4096 < room {
-            return say(rt, b" (4,096 in this program)");
-        }
+    if refusal == 7 && 4096 < room {
+        return say(rt, b" (4,096 in this program)");
     }
     Ok(())
 }
@@ -379,9 +274,7 @@ pub(crate) fn say_refusal(
     settings: Settings,
     room: u32,
 ) -> io::Result<()> {
-    say(rt, b"refusal ")?;
-    rt.eprint(refusal)?;
-    say(rt, b": ")?;
+    eprint!(rt; "refusal {refusal}: ")?;
     if refusal == 1 {
         say_setting(rt, s, settings_fault::first_fault(settings, room))?;
     } else {

@@ -132,16 +132,26 @@ pub(crate) fn point_of(f: &[f32], k: usize) -> Vec3 {
 // The candidate room of the call: that of the case, cut to what there is here unless it is refused as it is.
 fn room_of(c: u32) -> u32 {
     if MOST_CANDIDATES < c {
-        return c;
+        c
+    } else {
+        c.min(CANDIDATES)
     }
-    if CANDIDATES < c {
-        return CANDIDATES;
-    }
-    c
 }
 
 fn separated_of(w: &[u32]) -> bool {
     casefile::word(w, 6) != 0
+}
+
+// A case that was read, in its areas (`casefile`).
+#[derive(Clone, Copy)]
+pub(crate) struct Case<'a> {
+    w: &'a [u32],
+    f: &'a [f32],
+    meshes: &'a [u32],
+    transforms: &'a [f32],
+    positions: &'a [f32],
+    indices: &'a [u32],
+    materials: &'a [f32],
 }
 
 // The answer of a query, how many planes its scene has, how many it would have if none were cut, and how many taps there would be in the longest list.
@@ -154,17 +164,7 @@ pub(crate) struct Named {
 }
 
 // The query in areas of its own, with so many taps. It is long because each area is lent once: to hand them all on a second time costs more to check.
-fn trace(
-    out: &mut [u8],
-    w: &[u32],
-    f: &[f32],
-    meshes: &[u32],
-    transforms: &[f32],
-    positions: &[f32],
-    indices: &[u32],
-    materials: &[f32],
-    taps: u32,
-) -> Answered {
+fn trace(out: &mut [u8], c: Case, taps: u32) -> Answered {
     let mut triangles = areas::fresh_triangles();
     let mut handles = areas::fresh_handles();
     let mut tree = areas::fresh_tree();
@@ -184,12 +184,12 @@ fn trace(
     let mut plane_floats = areas::fresh_plane_floats();
     let mut plane_words = areas::fresh_plane_words();
     let mut plane_edges = areas::fresh_plane_edges();
-    let settings = settings_taps(w, f, taps);
-    let source = point_of(f, 11);
-    let listener = point_of(f, 14);
-    let room = room_of(casefile::word(w, 3));
-    let count = casefile::word(w, 7);
-    let separated = separated_of(w);
+    let settings = settings_taps(c.w, c.f, taps);
+    let source = point_of(c.f, 11);
+    let listener = point_of(c.f, 14);
+    let room = room_of(casefile::word(c.w, 3));
+    let count = casefile::word(c.w, 7);
+    let separated = separated_of(c.w);
     query::trace_early_reflections(
         &mut triangles,
         &mut handles,
@@ -213,11 +213,11 @@ fn trace(
         out,
         settings,
         room,
-        meshes,
-        transforms,
-        positions,
-        indices,
-        materials,
+        c.meshes,
+        c.transforms,
+        c.positions,
+        c.indices,
+        c.materials,
         count,
         source,
         listener,
@@ -235,26 +235,18 @@ fn mark(on: &mut [u8], plane_floats: &[f32], plane_words: &[u32], planes: usize,
 }
 
 // Loads the scene, or its first meshes, once more, in areas of its own.
-fn load(
-    w: &[u32],
-    f: &[f32],
-    meshes: &[u32],
-    transforms: &[f32],
-    positions: &[f32],
-    indices: &[u32],
-    materials: &[f32],
-) -> Loaded {
+fn load(c: Case) -> Loaded {
     let mut triangles = areas::fresh_triangles();
     let mut handles = areas::fresh_handles();
     placing::load_scene(
-        settings_of(w, f),
-        room_of(casefile::word(w, 3)),
-        meshes,
-        transforms,
-        positions,
-        indices,
-        materials,
-        casefile::word(w, 7),
+        settings_of(c.w, c.f),
+        room_of(casefile::word(c.w, 3)),
+        c.meshes,
+        c.transforms,
+        c.positions,
+        c.indices,
+        c.materials,
+        casefile::word(c.w, 7),
         areas::LENGTHS,
         &mut triangles,
         &mut handles,
@@ -262,44 +254,26 @@ fn load(
 }
 
 // How many triangles are kept of the first n meshes, which have so many vertices and indices.
-fn kept_of(
-    w: &[u32],
-    f: &[f32],
-    meshes: &[u32],
-    transforms: &[f32],
-    positions: &[f32],
-    indices: &[u32],
-    materials: &[f32],
-    n: usize,
-    vertices: usize,
-    corners: usize,
-) -> u32
+fn kept_of(c: Case, n: usize, vertices: usize, corners: usize) -> u32
     requires { (n ≤ 64) × (vertices ≤ 1000000) }
 {
     let mesh_words = 3 * n;
     let mesh_floats = 16 * n;
     let coordinates = 3 * vertices;
-    if meshes.len() < mesh_words {
+    if c.meshes.len() < mesh_words
+        || c.transforms.len() < mesh_floats
+        || c.positions.len() < coordinates
+        || c.indices.len() < corners
+    {
         return 0;
     }
-    if transforms.len() < mesh_floats {
-        return 0;
-    }
-    if positions.len() < coordinates {
-        return 0;
-    }
-    if indices.len() < corners {
-        return 0;
-    }
-    notes::kept_of(load(
-        w,
-        f,
-        &meshes[..mesh_words],
-        &transforms[..mesh_floats],
-        &positions[..coordinates],
-        &indices[..corners],
-        materials,
-    ))
+    notes::kept_of(load(Case {
+        meshes: &c.meshes[..mesh_words],
+        transforms: &c.transforms[..mesh_floats],
+        positions: &c.positions[..coordinates],
+        indices: &c.indices[..corners],
+        ..c
+    }))
 }
 
 // a + b, up to a million.
@@ -322,33 +296,13 @@ fn set_word(w: &mut [u32], k: usize, value: u32) {
 }
 
 // For each mesh how many triangles are kept up to its end.
-fn set_ends(
-    ends: &mut [u32],
-    w: &[u32],
-    f: &[f32],
-    meshes: &[u32],
-    transforms: &[f32],
-    positions: &[f32],
-    indices: &[u32],
-    materials: &[f32],
-) {
+fn set_ends(ends: &mut [u32], c: Case) {
     let mut vertices = 0;
     let mut corners = 0;
     for j in 0..64 {
-        vertices = plus(vertices, casefile::word(meshes, 3 * j));
-        corners = plus(corners, casefile::word(meshes, 3 * j + 1));
-        let kept = kept_of(
-            w,
-            f,
-            meshes,
-            transforms,
-            positions,
-            indices,
-            materials,
-            j + 1,
-            vertices,
-            corners,
-        );
+        vertices = plus(vertices, casefile::word(c.meshes, 3 * j));
+        corners = plus(corners, casefile::word(c.meshes, 3 * j + 1));
+        let kept = kept_of(c, j + 1, vertices, corners);
         set_word(ends, j, kept);
     }
 }
@@ -359,13 +313,7 @@ fn describe(
     plane_floats: &[f32],
     plane_words: &[u32],
     plane_triangles: &[u32],
-    w: &[u32],
-    f: &[f32],
-    meshes: &[u32],
-    transforms: &[f32],
-    positions: &[f32],
-    indices: &[u32],
-    materials: &[f32],
+    c: Case,
     planes: usize,
     source: Vec3,
 )
@@ -373,10 +321,8 @@ fn describe(
 {
     mark(on, plane_floats, plane_words, planes, source);
     let mut ends = areas::fresh_ends();
-    set_ends(
-        &mut ends, w, f, meshes, transforms, positions, indices, materials,
-    );
-    tags::set_planes(on, plane_words, plane_triangles, meshes, &ends, planes);
+    set_ends(&mut ends, c);
+    tags::set_planes(on, plane_words, plane_triangles, c.meshes, &ends, planes);
 }
 
 // The planes of the scene, at most `most`, in plane_floats and plane_words, and what is known of each, in `on`; in areas of its own, since those of the query
@@ -385,13 +331,7 @@ fn name_walls(
     plane_floats: &mut [f32],
     plane_words: &mut [u32],
     on: &mut [u8],
-    w: &[u32],
-    f: &[f32],
-    meshes: &[u32],
-    transforms: &[f32],
-    positions: &[f32],
-    indices: &[u32],
-    materials: &[f32],
+    c: Case,
     most: u32,
 ) -> usize {
     let mut triangles = areas::fresh_triangles();
@@ -411,10 +351,10 @@ fn name_walls(
     let mut floats = areas::fresh_floats();
     let mut plane_triangles = areas::fresh_plane_triangles();
     let mut plane_edges = areas::fresh_plane_edges();
-    let settings = settings_planes(w, f, most);
-    let source = point_of(f, 11);
-    let room = room_of(casefile::word(w, 3));
-    let count = casefile::word(w, 7);
+    let settings = settings_planes(c.w, c.f, most);
+    let source = point_of(c.f, 11);
+    let room = room_of(casefile::word(c.w, 3));
+    let count = casefile::word(c.w, 7);
     let named = walls::planes_of(
         &mut triangles,
         &mut handles,
@@ -437,11 +377,11 @@ fn name_walls(
         &mut plane_edges,
         settings,
         room,
-        meshes,
-        transforms,
-        positions,
-        indices,
-        materials,
+        c.meshes,
+        c.transforms,
+        c.positions,
+        c.indices,
+        c.materials,
         count,
     );
     describe(
@@ -449,13 +389,7 @@ fn name_walls(
         plane_floats,
         plane_words,
         &plane_triangles,
-        w,
-        f,
-        meshes,
-        transforms,
-        positions,
-        indices,
-        materials,
+        c,
         named.count,
         source,
     );
@@ -463,83 +397,30 @@ fn name_walls(
 }
 
 // How many planes there are if none are cut, where there are as many as the settings allow.
-fn count_planes(
-    w: &[u32],
-    f: &[f32],
-    meshes: &[u32],
-    transforms: &[f32],
-    positions: &[f32],
-    indices: &[u32],
-    materials: &[f32],
-    planes: usize,
-) -> usize {
-    if planes < casefile::word(w, 2) as usize {
+fn count_planes(c: Case, planes: usize) -> usize {
+    if planes < casefile::word(c.w, 2) as usize {
         return planes;
     }
     let mut plane_floats = areas::fresh_plane_floats();
     let mut plane_words = areas::fresh_plane_words();
     let mut on = areas::fresh_on();
-    name_walls(
-        &mut plane_floats,
-        &mut plane_words,
-        &mut on,
-        w,
-        f,
-        meshes,
-        transforms,
-        positions,
-        indices,
-        materials,
-        ALL_PLANES,
-    )
+    name_walls(&mut plane_floats, &mut plane_words, &mut on, c, ALL_PLANES)
 }
 
 // How many taps there are in the longest list, where there are as many as the settings allow.
-fn count_taps(
-    w: &[u32],
-    f: &[f32],
-    meshes: &[u32],
-    transforms: &[f32],
-    positions: &[f32],
-    indices: &[u32],
-    materials: &[f32],
-    count: usize,
-) -> usize {
-    if count < casefile::word(w, 1) as usize {
+fn count_taps(c: Case, count: usize) -> usize {
+    if count < casefile::word(c.w, 1) as usize {
         return count;
     }
     let mut out = areas::fresh_output();
-    let r = trace(
-        &mut out, w, f, meshes, transforms, positions, indices, materials, ALL_TAPS,
-    );
+    let r = trace(&mut out, c, ALL_TAPS);
     r.count
 }
 
 // What was left out of an answer: planes and taps are counted once more, as if none were cut.
-fn count_all(
-    w: &[u32],
-    f: &[f32],
-    meshes: &[u32],
-    transforms: &[f32],
-    positions: &[f32],
-    indices: &[u32],
-    materials: &[f32],
-    answer: Answered,
-    planes: usize,
-) -> Named {
-    let found = count_planes(
-        w, f, meshes, transforms, positions, indices, materials, planes,
-    );
-    let heard = count_taps(
-        w,
-        f,
-        meshes,
-        transforms,
-        positions,
-        indices,
-        materials,
-        answer.count,
-    );
+fn count_all(c: Case, answer: Answered, planes: usize) -> Named {
+    let found = count_planes(c, planes);
+    let heard = count_taps(c, answer.count);
     Named {
         answer,
         planes,
@@ -554,35 +435,12 @@ fn name_answer(
     plane_floats: &mut [f32],
     plane_words: &mut [u32],
     on: &mut [u8],
-    w: &[u32],
-    f: &[f32],
-    meshes: &[u32],
-    transforms: &[f32],
-    positions: &[f32],
-    indices: &[u32],
-    materials: &[f32],
+    c: Case,
     answer: Answered,
 ) -> io::Result<Named> {
-    let planes = name_walls(
-        plane_floats,
-        plane_words,
-        on,
-        w,
-        f,
-        meshes,
-        transforms,
-        positions,
-        indices,
-        materials,
-        casefile::word(w, 2),
-    );
-    notes::print_loaded(
-        rt,
-        load(w, f, meshes, transforms, positions, indices, materials),
-    )?;
-    Ok(count_all(
-        w, f, meshes, transforms, positions, indices, materials, answer, planes,
-    ))
+    let planes = name_walls(plane_floats, plane_words, on, c, casefile::word(c.w, 2));
+    notes::print_loaded(rt, load(c))?;
+    Ok(count_all(c, answer, planes))
 }
 
 // The query, and the planes where it is not refused.
@@ -592,25 +450,9 @@ fn trace_and_name(
     plane_floats: &mut [f32],
     plane_words: &mut [u32],
     on: &mut [u8],
-    w: &[u32],
-    f: &[f32],
-    meshes: &[u32],
-    transforms: &[f32],
-    positions: &[f32],
-    indices: &[u32],
-    materials: &[f32],
+    c: Case,
 ) -> io::Result<Named> {
-    let answer = trace(
-        out,
-        w,
-        f,
-        meshes,
-        transforms,
-        positions,
-        indices,
-        materials,
-        casefile::word(w, 1),
-    );
+    let answer = trace(out, c, casefile::word(c.w, 1));
     if answer.refusal != 0 {
         return Ok(Named {
             answer,
@@ -619,20 +461,7 @@ fn trace_and_name(
             heard: 0,
         });
     }
-    name_answer(
-        rt,
-        plane_floats,
-        plane_words,
-        on,
-        w,
-        f,
-        meshes,
-        transforms,
-        positions,
-        indices,
-        materials,
-        answer,
-    )
+    name_answer(rt, plane_floats, plane_words, on, c, answer)
 }
 
 // The order that the query searches to.
@@ -648,11 +477,7 @@ pub(crate) fn order_of(w: &[u32], f: &[f32]) -> u32 {
 pub(crate) fn limited(n: u32, most: usize) -> usize
     ensures { result ≤ most }
 {
-    let wide = n as usize;
-    if wide < most {
-        return wide;
-    }
-    most
+    (n as usize).min(most)
 }
 
 // What stands above the table, and the query, of a case that was read: the parts of its areas that it fills.
@@ -662,38 +487,27 @@ fn ask(
     plane_floats: &mut [f32],
     plane_words: &mut [u32],
     on: &mut [u8],
-    w: &[u32],
-    f: &[f32],
-    meshes: &[u32],
-    transforms: &[f32],
-    positions: &[f32],
-    indices: &[u32],
-    materials: &[f32],
+    c: Case,
     s: &[u8],
 ) -> io::Result<Named>
-    requires { (192 ≤ length meshes.now) × (1024 ≤ length transforms.now) × (6144 ≤ length positions.now) × (1536 ≤ length indices.now) ×
-        (1024 ≤ length materials.now) }
+    requires { (192 ≤ length c.meshes.now) × (1024 ≤ length c.transforms.now) × (6144 ≤ length c.positions.now) × (1536 ≤ length c.indices.now) ×
+        (1024 ≤ length c.materials.now) }
 {
-    heading::print_before(rt, s, w, f, materials)?;
-    let rows = 16 * limited(casefile::word(w, 7), 64);
-    let mesh_words = 3 * limited(casefile::word(w, 8), 64);
-    let mesh_floats = 16 * limited(casefile::word(w, 8), 64);
-    let coordinates = 3 * limited(casefile::word(w, 9), 2048);
-    let corners = limited(casefile::word(w, 10), 1536);
-    trace_and_name(
-        rt,
-        out,
-        plane_floats,
-        plane_words,
-        on,
-        w,
-        f,
-        &meshes[..mesh_words],
-        &transforms[..mesh_floats],
-        &positions[..coordinates],
-        &indices[..corners],
-        &materials[..rows],
-    )
+    heading::print_before(rt, s, c.w, c.f, c.materials)?;
+    let rows = 16 * limited(casefile::word(c.w, 7), 64);
+    let mesh_words = 3 * limited(casefile::word(c.w, 8), 64);
+    let mesh_floats = 16 * limited(casefile::word(c.w, 8), 64);
+    let coordinates = 3 * limited(casefile::word(c.w, 9), 2048);
+    let corners = limited(casefile::word(c.w, 10), 1536);
+    let filled = Case {
+        meshes: &c.meshes[..mesh_words],
+        transforms: &c.transforms[..mesh_floats],
+        positions: &c.positions[..coordinates],
+        indices: &c.indices[..corners],
+        materials: &c.materials[..rows],
+        ..c
+    };
+    trace_and_name(rt, out, plane_floats, plane_words, on, filled)
 }
 
 // ---- a text
@@ -799,10 +613,7 @@ fn report(
     if r.refusal != 0 {
         return faults::say_refusal(rt, s, r.refusal, settings_of(w, f), casefile::word(w, 3));
     }
-    if out.len() < bytes {
-        return Ok(());
-    }
-    if on.len() < planes {
+    if out.len() < bytes || on.len() < planes {
         return Ok(());
     }
     table::print_table(
@@ -837,19 +648,13 @@ fn print_notes(rt: &impl Print, on: &[u8], named: Named, w: &[u32], f: &[f32]) -
 // Asks for a case that was read, and says what the answer is.
 fn answer_case(
     rt: &(impl Files + Print + ErrorBytes + AllocGlobal),
-    w: &[u32],
-    f: &[f32],
-    meshes: &[u32],
-    transforms: &[f32],
-    positions: &[f32],
-    indices: &[u32],
-    materials: &[f32],
+    c: Case,
     s: &[u8],
     path: &[u8],
     by_time: bool,
 ) -> io::Result<()>
-    requires { (192 ≤ length meshes.now) × (1024 ≤ length transforms.now) × (6144 ≤ length positions.now) × (1536 ≤ length indices.now) ×
-        (1024 ≤ length materials.now) }
+    requires { (192 ≤ length c.meshes.now) × (1024 ≤ length c.transforms.now) × (6144 ≤ length c.positions.now) × (1536 ≤ length c.indices.now) ×
+        (1024 ≤ length c.materials.now) }
 {
     let mut out = areas::fresh_output();
     let mut plane_floats = areas::fresh_plane_floats();
@@ -861,13 +666,7 @@ fn answer_case(
         &mut plane_floats,
         &mut plane_words,
         &mut on,
-        w,
-        f,
-        meshes,
-        transforms,
-        positions,
-        indices,
-        materials,
+        c,
         s,
     )?;
     report(
@@ -877,8 +676,8 @@ fn answer_case(
         &plane_words,
         &on,
         named,
-        w,
-        f,
+        c.w,
+        c.f,
         path,
         s,
         by_time,
@@ -899,7 +698,7 @@ pub(crate) fn run(
     let mut transforms = areas::fresh_case_rows();
     let mut positions = areas::fresh_case_positions();
     let mut indices = areas::fresh_case_indices();
-    let c = casefile::read_case(
+    if let Err(fault) = casefile::read_case(
         s,
         &mut w,
         &mut f,
@@ -908,23 +707,19 @@ pub(crate) fn run(
         &mut transforms,
         &mut positions,
         &mut indices,
-    );
-    if c.wrong != 0 {
-        return faults::say_wrong(rt, s, c);
+    ) {
+        return faults::say_wrong(rt, s, fault);
     }
-    answer_case(
-        rt,
-        &w,
-        &f,
-        &meshes,
-        &transforms,
-        &positions,
-        &indices,
-        &materials,
-        s,
-        path,
-        by_time,
-    )
+    let c = Case {
+        w: &w,
+        f: &f,
+        meshes: &meshes,
+        transforms: &transforms,
+        positions: &positions,
+        indices: &indices,
+        materials: &materials,
+    };
+    answer_case(rt, c, s, path, by_time)
 }
 
 // ---- files
@@ -983,7 +778,7 @@ fn has_bytes(file: &mut (impl Read + Seek), bytes: &[u8]) -> bool {
     }
     let mut buf = room();
     let n = read_full(file, &mut buf);
-    text::same(&buf[..n], bytes)
+    &buf[..n] == bytes
 }
 
 // Whether the file that is named has the bytes of the scene, as where both names are of one file.
@@ -999,8 +794,7 @@ fn is_scene(rt: &impl Files, path: &[u8], bytes: &[u8]) -> bool {
 
 // Whether a text begins with a byte order mark.
 fn is_marked(s: &[u8]) -> bool {
-    text::byte_at(s, 0, 0) == 0xef
-        && (text::byte_at(s, 1, 0) == 0xbb && text::byte_at(s, 2, 0) == 0xbf)
+    s.starts_with(b"\xef\xbb\xbf")
 }
 
 // Runs a scene's bytes. The packet's file is emptied first, so that no failure leaves the packet of an earlier run.
@@ -1053,7 +847,7 @@ fn run_names(
     path: &[u8],
     by_time: bool,
 ) -> io::Result<()> {
-    if text::same(scene, path) {
+    if scene == path {
         return table::say(rt, b"the scene and the packet have the same name\n");
     }
     run_file(rt, scene, path, by_time)
@@ -1072,10 +866,7 @@ fn buffer() -> [u8; 4096]
 fn arg(rt: &impl Env, k: usize, buf: &mut [u8]) -> usize
     ensures { result ≤ length buf.new }
 {
-    match rt.arg(k, buf) {
-        Ok(n) => n,
-        Err(_) => 0,
-    }
+    rt.arg(k, buf).unwrap_or(0)
 }
 
 // How many arguments there are, with the program's name.
@@ -1115,10 +906,7 @@ fn run_both(
     let n = arg(rt, k, &mut scene);
     let mut path = buffer();
     let m = arg(rt, k + 1, &mut path);
-    if n == 0 {
-        return faults::say_usage(rt);
-    }
-    if m == 0 {
+    if n == 0 || m == 0 {
         return faults::say_usage(rt);
     }
     run_names(rt, &scene[..n], &path[..m], by_time)
@@ -1150,7 +938,7 @@ fn run_all(
 fn is_arg(rt: &impl Env, k: usize, word: &[u8]) -> bool {
     let mut buf = buffer();
     let n = arg(rt, k, &mut buf);
-    text::same(&buf[..n], word)
+    &buf[..n] == word
 }
 
 // The arguments from k on.

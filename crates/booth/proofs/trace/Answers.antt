@@ -2,84 +2,6 @@
 use mathlib.Core.Path.{sym}
 use Rattle.booth.proofs.trace.Goals as goal
 
-pub fresh_triangles-triangles-requires : goal.fresh_triangles-triangles-requires
-fresh_triangles-triangles-requires c = tt
-
-pub fresh_handles-handles-requires : goal.fresh_handles-handles-requires
-fresh_handles-handles-requires c = tt
-
-pub fresh_tree-tree-requires : goal.fresh_tree-tree-requires
-fresh_tree-tree-requires c = tt
-
-pub fresh_nodes-nodes-requires : goal.fresh_nodes-nodes-requires
-fresh_nodes-nodes-requires c = tt
-
-pub fresh_leaf_order-leaf_order-requires : goal.fresh_leaf_order-leaf_order-requires
-fresh_leaf_order-leaf_order-requires c = tt
-
-pub fresh_keys-keys-requires : goal.fresh_keys-keys-requires
-fresh_keys-keys-requires c = tt
-
-pub fresh_low_keys-low_keys-requires : goal.fresh_low_keys-low_keys-requires
-fresh_low_keys-low_keys-requires c = tt
-
-pub fresh_words-words-requires : goal.fresh_words-words-requires
-fresh_words-words-requires c = tt
-
-pub fresh_scratch-scratch-requires : goal.fresh_scratch-scratch-requires
-fresh_scratch-scratch-requires c = tt
-
-pub fresh_index-index-requires : goal.fresh_index-index-requires
-fresh_index-index-requires c = tt
-
-pub fresh_numbers-numbers-requires : goal.fresh_numbers-numbers-requires
-fresh_numbers-numbers-requires c = tt
-
-pub fresh_adjacency-adjacency-requires : goal.fresh_adjacency-adjacency-requires
-fresh_adjacency-adjacency-requires c = tt
-
-pub fresh_queue-queue-requires : goal.fresh_queue-queue-requires
-fresh_queue-queue-requires c = tt
-
-pub fresh_offsets-offsets-requires : goal.fresh_offsets-offsets-requires
-fresh_offsets-offsets-requires c = tt
-
-pub fresh_floats-floats-requires : goal.fresh_floats-floats-requires
-fresh_floats-floats-requires c = tt
-
-pub fresh_plane_triangles-plane_triangles-requires : goal.fresh_plane_triangles-plane_triangles-requires
-fresh_plane_triangles-plane_triangles-requires c = tt
-
-pub fresh_plane_floats-plane_floats-requires : goal.fresh_plane_floats-plane_floats-requires
-fresh_plane_floats-plane_floats-requires c = tt
-
-pub fresh_plane_words-plane_words-requires : goal.fresh_plane_words-plane_words-requires
-fresh_plane_words-plane_words-requires c = tt
-
-pub fresh_plane_edges-plane_edges-requires : goal.fresh_plane_edges-plane_edges-requires
-fresh_plane_edges-plane_edges-requires c = tt
-
-pub settings_taps-settings-requires : goal.settings_taps-settings-requires
-settings_taps-settings-requires c = tt
-
-pub point_of-source-requires : goal.point_of-source-requires
-point_of-source-requires c = tt
-
-pub point_of-listener-requires : goal.point_of-listener-requires
-point_of-listener-requires c = tt
-
-pub word-requires : goal.word-requires
-word-requires c = tt
-
-pub room_of-room-requires : goal.room_of-room-requires
-room_of-room-requires c = tt
-
-pub word-count-requires : goal.word-count-requires
-word-count-requires c = tt
-
-pub separated_of-separated-requires : goal.separated_of-separated-requires
-separated_of-separated-requires c = tt
-
 pub slice_bounds-trace_early_reflections-end : goal.slice_bounds-trace_early_reflections-end
 slice_bounds-trace_early_reflections-end c = sym c.fresh_triangles-triangles.ensures
 
@@ -137,11 +59,5 @@ slice_bounds-trace_early_reflections-end-18 c = sym c.fresh_plane_words-plane_wo
 pub slice_bounds-trace_early_reflections-end-19 : goal.slice_bounds-trace_early_reflections-end-19
 slice_bounds-trace_early_reflections-end-19 c = sym c.fresh_plane_edges-plane_edges.ensures
 
-pub trace_early_reflections-requires : goal.trace_early_reflections-requires
-trace_early_reflections-requires c = tt
-
 pub shape_of-out : goal.shape_of-out
 shape_of-out c = c.trace_early_reflections.auto.out
-
-pub returns : goal.returns
-returns c = tt
