@@ -34,7 +34,6 @@ pub bounds-uses-k-in-loop-e : goal.bounds-uses-k-in-loop-e
 bounds-uses-k-in-loop-e c =
     let b = below_at (length c.args.first.now) c.args.first.now c.loop-e.e c.requires.below c.loop-e-test.true in let s = c.loop-e.invariant.long in omega arith
 
-
 pub loop-e-preserved : goal.loop-e-preserved
 loop-e-preserved c =
     let first = c.args.first.now in let h = c.loop-e-test.true in let b = below_at (length c.args.first.now) c.args.first.now c.loop-e.e c.requires.below c.loop-e-test.true in

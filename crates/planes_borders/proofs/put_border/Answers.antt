@@ -22,7 +22,6 @@ put_sides-r-requires c =
       k_in_bounds = omega arith;
     }
 
-
 pub loop-k-preserved : goal.loop-k-preserved
 loop-k-preserved c = let a = c.args in let h = c.loop-k-test.true in let i = c.loop-k.invariant.1 in let s = c.put_sides-r.ensures.upper_bound in
     (omega arith, omega arith, c.put_sides-r.auto.plane_edges ∙ c.loop-k.invariant.2, border_more a.triangles.now a.n a.first.now a.uses.now a.tris.now c.loop-k.k a.plane_edges.now c.loop-k.plane_edges c.put_sides-r.new.plane_edges a.at c.loop-k.r c.put_sides-r.result h c.loop-k.invariant.3 c.put_sides-r.ensures.appended)

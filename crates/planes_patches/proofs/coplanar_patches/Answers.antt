@@ -20,7 +20,6 @@ turn-np-requires c =
       standing = f.standing;
     }
 
-
 pub loop-t-preserved : goal.loop-t-preserved
 loop-t-preserved c =
     let a = c.args in let ts = triangles_in a.triangles.now a.handles.now a.n a.m in

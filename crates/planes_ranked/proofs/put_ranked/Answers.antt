@@ -57,7 +57,6 @@ put_plane-requires c =
           c.bordered-p.ensures.value.1;
     }
 
-
 pub loop-r-preserved : goal.loop-r-preserved
 loop-r-preserved c =
     putting_more _ _ _ _ _ _ _ _ _ _ _ _ _ _ _ _ _ _ _ c.plane_at-plane.result _ c.loop-r.invariant c.loop-r-test.true c.plane_at-plane.ensures c.bordered-p.ensures.value.0 c.bordered-p.ensures.value.1 c.bordered-p.ensures.appended
