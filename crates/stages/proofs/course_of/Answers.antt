@@ -39,7 +39,6 @@ bounds-images-k-in-loop-k c =
       c.requires.count_in_bounds.2,
     )
 
-
 pub loop-k-preserved : goal.loop-k-preserved
 loop-k-preserved c =
     let a = c.args in (

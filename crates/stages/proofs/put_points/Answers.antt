@@ -13,7 +13,6 @@ bounds-all-k c = omega (arith, c.loop-k-test.true)
 pub put_point-requires : goal.put_point-requires
 put_point-requires c = omega (arith, c.loop-k-test.true, c.loop-k.invariant.1, c.requires)
 
-
 pub loop-k-preserved : goal.loop-k-preserved
 loop-k-preserved c = (
   omega (arith, c.loop-k-test.true),
