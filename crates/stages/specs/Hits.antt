@@ -3,7 +3,6 @@ use Rattle.std.specs.Prelude.{ℕ, Float, get_or, ◌≡◌, Bool, List, [], ◌
 use Rattle.std.specs.Option.{option_map_or}
 use Rattle.std.specs.Float.{nan}
 use Rattle.std.proofs.lemmas.List.Edits.{sets}
-use Rattle.float.specs.Literals.{zero32}
 use Rattle.vector.specs.declared.Ray.{Ray}
 use Rattle.vector.specs.Vector.{vec}
 use Rattle.tree_trace.specs.declared.RayHit.{RayHit}
