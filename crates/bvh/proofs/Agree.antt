@@ -21,7 +21,8 @@ use Rattle.geometry.specs.declared.Triangle.{Triangle}
 use Rattle.vector.specs.declared.Ray.{Ray}
 use Rattle.tree_trace.specs.declared.Closest.{Closest}
 use Rattle.tree_trace.specs.Leaf.{visit_of, visit_all_of}
-use Rattle.tree_trace.specs.Trace.{Test, entered, trace_tree}
+use Rattle.std.specs.Prelude.{is_some}
+use Rattle.tree_trace.specs.Trace.{Test, trace_tree}
 use Rattle.tree_trace.proofs.Laws.{turn_same}
 use Rattle.bvh.proofs.Leaves.{perm_below, sort_on_perm, axis_perm, axes_perm, split_perm}
 
@@ -140,9 +141,9 @@ module _ (n : ℕ) (tri sri : ℕ → Triangle) (same : (i : ℕ) → i < n → 
 
   pub trace_agree : (test : Test) (t : Tree) (best : Closest) → Below n (leaves_of t) → trace_tree test tri ray t best ≡ trace_tree test sri ray t best
   unfolding trace_tree leaves_of
-  trace_agree test (leaf b xs) best h = ap (λ (c : Closest). cond (entered (test b ray best.distance)) c best) (visits_agree xs best h)
+  trace_agree test (leaf b xs) best h = ap (λ (c : Closest). cond (is_some (test b ray best.distance)) c best) (visits_agree xs best h)
   trace_agree test (node b l r) best h =
-      ap (λ (c : Closest). cond (entered (test b ray best.distance)) c best)
+      ap (λ (c : Closest). cond (is_some (test b ray best.distance)) c best)
       (turn_same (test (box_of l) ray best.distance) (test (box_of r) ray best.distance)
       (trace_tree test tri ray l) (trace_tree test tri ray r) (trace_tree test sri ray l) (trace_tree test sri ray r) best
       (λ x. trace_agree test l x (below_front n (leaves_of l) (leaves_of r) h)) (λ x. trace_agree test r x (below_back n (leaves_of l) (leaves_of r) h)))

@@ -10,15 +10,12 @@ use lib.Dec.{eqb}
 use lib.Ieee.{Float, lt, le}
 use Rattle.vector.specs.declared.Ray.{Ray}
 use Rattle.geometry.specs.declared.Triangle.{Triangle}
-use Rattle.geometry.specs.declared.Crossing.{Crossing}
-use Rattle.geometry.specs.declared.Crossing.TheVariants as crossing
-use Rattle.geometry.specs.declared.Entry.{Entry}
-use Rattle.geometry.specs.declared.Entry.TheVariants as entry
-use Rattle.geometry.specs.Intersect.{intersect_max_of}
+use Rattle.std.specs.Prelude.{Option, None, Some, is_some}
+use Rattle.geometry.specs.Intersect.{Crossing, intersect_max_of}
 use Rattle.tree_build.specs.Tree.{Tree, leaf, node, box_of, leaves_of}
 use Rattle.tree_trace.specs.declared.Closest.{Closest}
 use Rattle.tree_trace.specs.Leaf.{visit_of, visit_all_of}
-use Rattle.tree_trace.specs.Trace.{Test, entered, near_first, trace_tree, none}
+use Rattle.tree_trace.specs.Trace.{Test, near_first, trace_tree, none}
 
 -- i is one of xs
 unfoldable pub Among : ℕ → List ℕ → Type 0
@@ -41,7 +38,7 @@ pub record IsHit (tri : ℕ → Triangle) (ray : Ray) (xs : List ℕ) (c : Close
   pub within : Float
   pub u : Float
   pub v : Float
-  pub crosses : intersect_max_of (tri c.index) ray within ≡ crossing.At c.distance u v
+  pub crosses : intersect_max_of (tri c.index) ray within ≡ Some (c.distance, u, v)
 
 module _ (tri : ℕ → Triangle) (ray : Ray) where
   -- nothing new, or a hit
@@ -62,8 +59,8 @@ module _ (tri : ℕ → Triangle) (ray : Ray) where
   visit_kept i best = go (intersect_max_of (tri i) ray best.distance) refl
     where
       go : (x : Crossing) → intersect_max_of (tri i) ray best.distance ≡ x → Kept (i ∷ []) best (Rattle.tree_trace.specs.Leaf.keep_of x i best)
-      go crossing.Miss e = inl refl
-      go (crossing.At t p q) e = by (lt t best.distance || eqb best.found 0)
+      go None e = inl refl
+      go (Some (t, p, q)) e = by (lt t best.distance || eqb best.found 0)
         where
           hit : Closest
           hit = record { distance = t; index = i; found = 1 }
@@ -81,12 +78,12 @@ module _ (tri : ℕ → Triangle) (ray : Ray) where
       (kept_wider (x ∷ []) (x ∷ xs) best next (λ i h. ⊎_elim (λ e. inl e) (λ z. absurd z) h) (visit_kept x best))
       (kept_wider xs (x ∷ xs) next (visit_all_of tri ray xs next) (λ i h. inr h) (visits_kept xs next))
 
-  turns_kept : (xs : List ℕ) (a b : Entry) (f g : Closest → Closest) (best : Closest) → ((x : Closest) → Kept xs x (f x)) → ((x : Closest) → Kept xs x (g x)) →
+  turns_kept : (xs : List ℕ) (a b : Option Float) (f g : Closest → Closest) (best : Closest) → ((x : Closest) → Kept xs x (f x)) → ((x : Closest) → Kept xs x (g x)) →
       Kept xs best (foldl (λ (x : Closest) (h : Closest → Closest). h x) best (near_first a b f g))
-  turns_kept xs entry.Miss entry.Miss f g best p q = inl refl
-  turns_kept xs entry.Miss (entry.At y) f g best p q = q best
-  turns_kept xs (entry.At x) entry.Miss f g best p q = p best
-  turns_kept xs (entry.At x) (entry.At y) f g best p q = go (le x y)
+  turns_kept xs None None f g best p q = inl refl
+  turns_kept xs None (Some y) f g best p q = q best
+  turns_kept xs (Some x) None f g best p q = p best
+  turns_kept xs (Some x) (Some y) f g best p q = go (le x y)
     where
       go : (t : Bool) → Kept xs best (foldl (λ (x : Closest) (h : Closest → Closest). h x) best (cond t (f ∷ g ∷ []) (g ∷ f ∷ [])))
       go true = kept_then xs best (f best) (g (f best)) (p best) (q (f best))
@@ -94,13 +91,13 @@ module _ (tri : ℕ → Triangle) (ray : Ray) where
 
   trace_kept : (test : Test) (t : Tree) (best : Closest) → Kept (leaves_of t) best (trace_tree test tri ray t best)
   unfolding trace_tree leaves_of
-  trace_kept test (leaf b xs) best = go (entered (test b ray best.distance))
+  trace_kept test (leaf b xs) best = go (is_some (test b ray best.distance))
     where
       go : (k : Bool) → Kept xs best (cond k (visit_all_of tri ray xs best) best)
       go true = visits_kept xs best
       go false = inl refl
   trace_kept test (node b l r) best =
-      go (entered (test b ray best.distance))
+      go (is_some (test b ray best.distance))
       (turns_kept (leaves_of l ++ leaves_of r) (test (box_of l) ray best.distance) (test (box_of r) ray best.distance) (trace_tree test tri ray l) (trace_tree test tri ray r) best
       (λ x. kept_wider (leaves_of l) (leaves_of l ++ leaves_of r) x (trace_tree test tri ray l x) (λ i h. among_left i (leaves_of l) (leaves_of r) h) (trace_kept test l x))
       (λ x. kept_wider (leaves_of r) (leaves_of l ++ leaves_of r) x (trace_tree test tri ray r x) (λ i h. among_right i (leaves_of l) (leaves_of r) h) (trace_kept test r x)))

@@ -19,9 +19,12 @@ use Rattle.mirror.specs.Plane.{no_point, nth_plane}
 use Rattle.mirror.specs.Mirror.{mirror_of}
 use Rattle.mirror.specs.Rows.{planes_in}
 use Rattle.bounces.specs.Image.{image_of}
+use Rattle.std.specs.Prelude.{Ok, Err}
+use Rattle.bounces.specs.declared.Lost.{Lost}
+use Rattle.bounces.specs.declared.Lost.TheVariants as lost
 use Rattle.bounces.specs.declared.Trail.{Trail}
-use Rattle.bounces.specs.Bounces.{Bounces, not_crossed, off_surface, made}
-use Rattle.bounces.specs.Areas.{max_order, made_fate, not_crossed_fate, off_surface_fate, fate_of, trail_of, point_floats, point_in}
+use Rattle.bounces.specs.Bounces.{Bounces}
+use Rattle.bounces.specs.Areas.{max_order, trail_of, point_floats, point_in}
 use Rattle.search.specs.Contract.{point_put}
 use Rattle.search.proofs.Points.{put_same, put_other}
 use Rattle.bounces.proofs.Laws.{images_put}
@@ -31,7 +34,7 @@ use Rattle.paths.specs.Path.{number_of_fate}
 use Rattle.paths.specs.declared.Verdict.{Verdict}
 use Rattle.stages.specs.declared.Course.{Course}
 use Rattle.stages.specs.declared.FlatPath.{FlatPath}
-use Rattle.stages.specs.Paths.{Coursed, nothing_of, flat_path_of, path_floats, Walked, trail_fate, points_of, Bounced}
+use Rattle.stages.specs.Paths.{Coursed, nothing_of, flat_path_of, path_floats, Walked, lost_number, points_of, Bounced}
 
 abbrev pub course : List ℕ → List Vec3 → Course
 course seq images = record { seq = seq; images = images }
@@ -114,38 +117,25 @@ walked_not v p found rays e z =
 
 -- ---- the points of bounces
 
-module _ (t : Trail) (n : ℕ) where
-  abbrev said : Bool → Bool → Bounces
-  said c d = cond c (made (take n t.points) (take n t.tris) t.weight) (cond d not_crossed off_surface)
+-- what a trail says, by its points
+pub bounced_made :
+    (t : Trail) (n : ℕ) (b : Bounces) (points : List Float) → n ≤ max_order → trail_of (Ok t) n ≡ b →
+    ((j : ℕ) → j < max_order → point_in points j ≡ get_or t.points j no_point) → Bounced b 0 points
+unfolding trail_of
+bounced_made t n b points few is are =
+    subst (λ (u : Bounces). Bounced u 0 points) is
+    (record {
+      fate_is = refl;
+      points_are = λ j h. let k : j < n = omega (arith, length-take n t.points) in are j (omega (arith, k)) ∙ sym (get_or-take n t.points j no_point k);
+    })
 
-  trail_number : trail_fate t.fate ≡ fate_of (trail_of t n)
-  unfolding trail_fate trail_of fate_of
-  trail_number = by (eqb t.fate made_fate) (eqb t.fate not_crossed_fate) where
-    by : (c d : Bool) → cond c made_fate (cond d not_crossed_fate off_surface_fate) ≡ fate_of (said c d)
-    by true d = refl
-    by false true = refl
-    by false false = refl
-
-  -- a point that a trail has
-  trail_point :
-      (j : ℕ) → j < length (points_of (trail_of t n)) → (j < n) × (get_or t.points j no_point ≡ get_or (points_of (trail_of t n)) j no_point)
-  unfolding trail_of
-  trail_point j = by (eqb t.fate made_fate) (eqb t.fate not_crossed_fate) where
-    by : (c d : Bool) → j < length (points_of (said c d)) → (j < n) × (get_or t.points j no_point ≡ get_or (points_of (said c d)) j no_point)
-    by true d h = let k : j < n = omega (arith, length-take n t.points) in (k, sym (get_or-take n t.points j no_point k))
-    by false true h = absurd (let no : ⊥ = omega arith in no)
-    by false false h = absurd (let no : ⊥ = omega arith in no)
-
-  -- what a trail says, by its fate's number and its points
-  pub bounced_trail :
-      (b : Bounces) (r : ℕ) (points : List Float) → n ≤ max_order → trail_of t n ≡ b → r ≡ trail_fate t.fate →
-      ((j : ℕ) → j < max_order → point_in points j ≡ get_or t.points j no_point) → Bounced b r points
-  bounced_trail b r points few is e are =
-      subst (λ (u : Bounces). Bounced u r points) is
-      (record {
-        fate_is = e ∙ trail_number;
-        points_are = λ j h. let k = trail_point j h in are j (omega (arith, k.0)) ∙ k.1;
-      })
+-- what one that fails says: it has no points
+pub bounced_lost : (e : Lost) (n : ℕ) (b : Bounces) (points : List Float) → trail_of (Err e) n ≡ b → Bounced b (lost_number e) points
+unfolding trail_of
+bounced_lost lost.NotCrossed n b points is =
+    subst (λ (u : Bounces). Bounced u 2 points) is (record { fate_is = refl; points_are = λ j h. absurd (let no : ⊥ = omega arith in no) })
+bounced_lost lost.OffSurface n b points is =
+    subst (λ (u : Bounces). Bounced u 3 points) is (record { fate_is = refl; points_are = λ j h. absurd (let no : ⊥ = omega arith in no) })
 
 -- one point more
 pub points_more :

@@ -9,7 +9,9 @@ use Rattle.mirror.specs.Plane.{no_point}
 use Rattle.mirror.specs.Rows.{planes_in}
 use Rattle.bounces.specs.Image.{image_of}
 use Rattle.bounces.specs.Bounces.{Bounces, not_crossed, off_surface, made}
-use Rattle.bounces.specs.Areas.{max_order, made_fate, not_crossed_fate, off_surface_fate, fate_of, point_in}
+use Rattle.bounces.specs.Areas.{max_order, point_in}
+use Rattle.bounces.specs.declared.Lost.{Lost}
+use Rattle.bounces.specs.declared.Lost.TheVariants as lost
 use Rattle.paths.specs.declared.Fate.{Fate}
 use Rattle.paths.specs.declared.Fate.TheVariants.{TooFar, NotCrossed, OffSurface, TooLong, Faded, Blocked, Faint, Passed}
 use Rattle.paths.specs.declared.Verdict.{Verdict}
@@ -53,9 +55,15 @@ pub record Walked (v : Verdict) (found : List Float) (rays : List ℕ) (r : ℕ)
   pub floats : found' ≡ cond (eqb (number_of_fate v.fate) 0) (sets found 0 (path_floats (flat_path_of v.fate))) found
   pub traced : rays' ≡ sets rays 0 (v.rays ∷ [])
 
--- the number of a trail's fate: it is one of three
-unfoldable pub trail_fate : ℕ → ℕ
-trail_fate k = cond (eqb k made_fate) made_fate (cond (eqb k not_crossed_fate) not_crossed_fate off_surface_fate)
+-- the number of what a bounce fails by, and of the fate of bounces: 0 where all are made
+abbrev pub lost_number : Lost → ℕ
+lost_number lost.NotCrossed = 2
+lost_number lost.OffSurface = 3
+
+abbrev pub fate_number : Bounces → ℕ
+fate_number not_crossed = lost_number lost.NotCrossed
+fate_number off_surface = lost_number lost.OffSurface
+fate_number (made points tris weight) = 0
 
 -- the points of bounces that were all made
 abbrev pub points_of : Bounces → List Vec3
@@ -65,5 +73,5 @@ points_of (made points tris weight) = points
 
 -- the answer is the fate's number; the points stand one after the other
 pub record Bounced (b : Bounces) (r : ℕ) (points : List Float) : Type 0 where
-  pub fate_is : r ≡ fate_of b
+  pub fate_is : r ≡ fate_number b
   pub points_are : (j : ℕ) → j < length (points_of b) → point_in points j ≡ get_or (points_of b) j no_point

@@ -1,6 +1,6 @@
 -- `stages::biv_bounces` meets its contract: by that of `bounces::back`, on the course of the sequence.
 use Prim.Native.Nat.{ℕ}
-use mathlib.Core.Path.{◌≡◌, ap, ◌∙◌}
+use mathlib.Core.Path.{◌≡◌, sym, ap, ◌∙◌}
 use mathlib.Core.List.{[]}
 use native.Mathlib.Omega.{arith}
 use lib.ListN.{length, get_or}
@@ -11,7 +11,7 @@ use Rattle.mirror.specs.Rows.{planes_in}
 use Rattle.bounces.specs.Bounces.{back_of, plane_on, bounces_of}
 use Rattle.bounces.specs.Areas.{trail_of}
 use Rattle.paths.proofs.Laws.{path_bounces}
-use Rattle.stages.proofs.Courses.{whole, planes_below, bounced_trail}
+use Rattle.stages.proofs.Courses.{whole, planes_below, bounced_made, bounced_lost}
 use Rattle.stages.proofs.biv_bounces.Goals as goal
 
 pub point_from-start-requires : goal.point_from-start-requires
@@ -27,8 +27,8 @@ course_of-course-requires c =
       by_index = c.requires.by_index;
     }
 
-pub back-trail-requires : goal.back-trail-requires
-back-trail-requires c =
+pub back-made-requires : goal.back-made-requires
+back-made-requires c =
     let a = c.args in
     let is = c.course_of-course.ensures in
     let l = c.course_of-course.result.seq in record {
@@ -41,33 +41,33 @@ back-trail-requires c =
 pub put_points-requires : goal.put_points-requires
 put_points-requires c = c.requires.source_len.2
 
-pub shape_of-points : goal.shape_of-points
-shape_of-points c = c.put_points.auto.points
+pub returns-in-Ok-clause-bounced : goal.returns-in-Ok-clause-bounced
+returns-in-Ok-clause-bounced c = λ tri h.
+    let a = c.args in
+    let is = c.course_of-course.ensures in
+    let l = c.course_of-course.result.seq in
+    let n : ℕ = length a.seq.now in
+    let planes = planes_in a.plane_floats.now a.plane_words.now a.plane_triangles.now a.plane_edges.now a.count in
+    let back : trail_of c.back-made.result n ≡ back_of tri a.fade (plane_on planes l) (λ j. get_or c.course_of-course.result.images j no_point) n c.point_from-end.result one32 [] [] =
+    rw (c.no_bounces.ensures.1, slice_empty n c.no_bounces.result.points, slice_empty n c.no_bounces.result.tris) at (c.back-made.ensures.by_index_2 tri h) in
+    rw (← c.point_from-start.ensures, ← c.point_from-end.ensures)
+    (bounced_made c.in-Ok.trail n _ c.put_points.new.points c.requires.in_bounds.1
+    (ap (λ r. trail_of r n) (sym c.in-Ok.is) ∙ back
+    ∙ path_bounces planes tri c.point_from-start.result c.point_from-end.result l (λ j. get_or c.course_of-course.result.images j no_point) n (omega (arith, is.seq_room, c.requires.in_bounds.1)) (is.mirrored a.plane_triangles.now a.plane_edges.now) a.fade
+    ∙ ap (bounces_of tri a.fade planes c.point_from-start.result c.point_from-end.result) (whole a.seq.now l is.planes))
+    c.put_points.ensures)
 
-pub returns : goal.returns
-returns c =
-    let same_length = c.put_points.auto.points in record {
-      bounced = (
-          λ tri h.
-          let a = c.args in
-          let is = c.course_of-course.ensures in
-          let l = c.course_of-course.result.seq in
-          let n : ℕ = length a.seq.now in
-          let planes = planes_in a.plane_floats.now a.plane_words.now a.plane_triangles.now a.plane_edges.now a.count in
-          let back : trail_of c.back-trail.result (length a.seq.now) ≡ back_of tri a.fade (plane_on planes l) (λ j. get_or c.course_of-course.result.images j no_point) (length a.seq.now) c.point_from-end.result one32 [] [] =
-          rw (c.no_bounces.ensures.1, slice_empty (length a.seq.now) c.no_bounces.result.points, slice_empty (length a.seq.now) c.no_bounces.result.tris) at (c.back-trail.ensures.by_index_2 tri h) in
-          rw (← c.point_from-start.ensures, ← c.point_from-end.ensures)
-          (bounced_trail c.back-trail.result (length a.seq.now) _ c.fate_number.result c.put_points.new.points c.requires.in_bounds.1
-          (back
-          ∙ path_bounces planes tri c.point_from-start.result c.point_from-end.result l (λ j. get_or c.course_of-course.result.images j no_point) (length a.seq.now) (omega (arith, is.seq_room, c.requires.in_bounds.1)) (is.mirrored a.plane_triangles.now a.plane_edges.now) a.fade
-          ∙ ap (bounces_of tri a.fade planes c.point_from-start.result c.point_from-end.result) (whole a.seq.now l is.planes))
-          c.fate_number.ensures c.put_points.ensures)
-          );
-      rest = same_length;
-    }
-
-pub no_bounces-requires : goal.no_bounces-requires
-no_bounces-requires c = tt
-
-pub fate_number-requires : goal.fate_number-requires
-fate_number-requires c = tt
+pub returns-in-Err-clause-bounced : goal.returns-in-Err-clause-bounced
+returns-in-Err-clause-bounced c = λ tri h.
+    let a = c.args in
+    let is = c.course_of-course.ensures in
+    let l = c.course_of-course.result.seq in
+    let n : ℕ = length a.seq.now in
+    let planes = planes_in a.plane_floats.now a.plane_words.now a.plane_triangles.now a.plane_edges.now a.count in
+    let back : trail_of c.back-made.result n ≡ back_of tri a.fade (plane_on planes l) (λ j. get_or c.course_of-course.result.images j no_point) n c.point_from-end.result one32 [] [] =
+    rw (c.no_bounces.ensures.1, slice_empty n c.no_bounces.result.points, slice_empty n c.no_bounces.result.tris) at (c.back-made.ensures.by_index_2 tri h) in
+    rw (← c.point_from-start.ensures, ← c.point_from-end.ensures, c.fate_number.ensures)
+    (bounced_lost c.in-Err.lost n _ a.points.now
+    (ap (λ r. trail_of r n) (sym c.in-Err.is) ∙ back
+    ∙ path_bounces planes tri c.point_from-start.result c.point_from-end.result l (λ j. get_or c.course_of-course.result.images j no_point) n (omega (arith, is.seq_room, c.requires.in_bounds.1)) (is.mirrored a.plane_triangles.now a.plane_edges.now) a.fade
+    ∙ ap (bounces_of tri a.fade planes c.point_from-start.result c.point_from-end.result) (whole a.seq.now l is.planes)))

@@ -4,9 +4,6 @@ use native.Mathlib.Omega.{arith}
 use lib.ListN.{length-set}
 use Rattle.stages.proofs.biv_intersect.Goals as goal
 
-pub flat-hit_is-requires : goal.flat-hit_is-requires
-flat-hit_is-requires c = tt
-
 pub bounds-hit-0 : goal.bounds-hit-0
 bounds-hit-0 c = let h = c.requires.in_bounds in omega arith
 
@@ -22,18 +19,10 @@ bounds-hit-3 c = let h = c.requires.in_bounds in simp length-set (omega arith)
 pub bounds-place-0 : goal.bounds-place-0
 bounds-place-0 c = let h = c.requires.in_bounds_2 in omega arith
 
-pub shape_of-hit-then-hit_is : goal.shape_of-hit-then-hit_is
-shape_of-hit-then-hit_is c = simp length-set
-
-pub shape_of-place-then-hit_is : goal.shape_of-place-then-hit_is
-shape_of-place-then-hit_is c = simp length-set
-
-pub returns-then-hit_is : goal.returns-then-hit_is
-returns-then-hit_is c = λ tri t rows hs tree.
-    let e = sym (c.intersect.ensures tri t rows hs tree) in
-    rw (← c.ray_from.ensures, e, ← c.flat-hit_is.ensures, c.if-hit_is.true) (record { found = refl; floats = refl; triangle = refl })
+pub returns-in_default : goal.returns-in_default
+returns-in_default c = λ tri t rows hs tree.
+    rw (← c.ray_from.ensures, sym (c.intersect.ensures tri t rows hs tree), c.in_default.is) (record { found = refl; floats = refl; triangle = refl })
 
 pub returns : goal.returns
 returns c = λ tri t rows hs tree.
-    let e = sym (c.intersect.ensures tri t rows hs tree) in
-    rw (← c.ray_from.ensures, e, ← c.flat-hit_is.ensures, c.if-hit_is.false) (record { found = refl; floats = refl; triangle = refl })
+    rw (← c.ray_from.ensures, sym (c.intersect.ensures tri t rows hs tree), c.in-Some.is) (record { found = refl; floats = refl; triangle = refl })
