@@ -5,7 +5,8 @@
 ghost use Rattle.std.specs.Prelude.{◌≤◌, ◌<◌};
 
 use listing::RECORDS;
-use numbering::{BAD_NUMBER, Walls, sequence_of};
+use numbering::{Walls, sequence_of};
+use refusals::Refusal;
 use sequences::{MAX_IMAGE_ORDER, RECORD, enumerate};
 use std::io;
 
@@ -52,13 +53,17 @@ fn print_planes(rt: &impl Print, planes: [u8; MAX_IMAGE_ORDER], len: usize) -> i
     Ok(())
 }
 
-fn print_walls(rt: &impl Print, w: Walls) -> io::Result<()> {
-    if w.refusal == 0 {
-        let planes = w.planes;
-        return print_planes(rt, planes, w.len);
+fn print_walls(rt: &impl Print, found: Result<Walls, Refusal>) -> io::Result<()> {
+    match found {
+        Ok(w) => {
+            let planes = w.planes;
+            print_planes(rt, planes, w.len)
+        }
+        Err(refusal) => {
+            print(rt, b" refused ")?;
+            print_number(rt, refusal.number() as u64)
+        }
     }
-    print(rt, b" refused ")?;
-    print_number(rt, w.refusal as u64)
 }
 
 fn show(rt: &impl Print, planes: u32, order: u32, on: &[u8], number: u32) -> io::Result<()> {
@@ -144,7 +149,7 @@ fn agrees(w: Walls, records: &[u8], at: u32) -> bool {
             return false;
         }
     }
-    w.refusal == 0 && w.len == text::byte_at(records, from + MAX_IMAGE_ORDER, 255) as usize
+    w.len == text::byte_at(records, from + MAX_IMAGE_ORDER, 255) as usize
 }
 
 // Walls were compared.
@@ -167,18 +172,22 @@ fn compare_all(
 ) -> Tally {
     let mut t = before;
     for n in 0..images {
-        t = compared(t, agrees(sequence_of(planes, order, on, n + 1), records, n));
+        let so = match sequence_of(planes, order, on, n + 1) {
+            Ok(w) => agrees(w, records, n),
+            Err(_) => false,
+        };
+        t = compared(t, so);
     }
     t
 }
 
 // A number that no image has.
 fn compare_none(t: Tally, order: u32, planes: u32, on: &[u8], number: u32) -> Tally {
-    let w = sequence_of(planes, order, on, number);
+    let found = sequence_of(planes, order, on, number);
     Tally {
         compared: t.compared,
         refused: plus(t.refused),
-        differ: plus_unless(t.differ, w.refusal == BAD_NUMBER && w.len == 0),
+        differ: plus_unless(t.differ, found.is_err()),
     }
 }
 
