@@ -22,6 +22,7 @@ ghost use Rattle.mirror.specs.Rows.{plane_float_count, plane_word_count};
 use air::Air;
 use answer::Answered;
 use placing::Loaded;
+use refusals::Refusal;
 use scene::Settings;
 use std::env::{Env, FillError};
 use std::fs::{Files, OpenOptions};
@@ -243,7 +244,7 @@ fn load(
     positions: &[f32],
     indices: &[u32],
     materials: &[f32],
-) -> Loaded {
+) -> Result<Loaded, Refusal> {
     let mut triangles = areas::fresh_triangles();
     let mut handles = areas::fresh_handles();
     placing::load_scene(
