@@ -22,6 +22,7 @@ ghost use Rattle.mirror.specs.Rows.{plane_float_count, plane_word_count};
 use air::Air;
 use answer::Answered;
 use placing::Loaded;
+use refusals::Refusal;
 use scene::Settings;
 use std::env::{Env, FillError};
 use std::fs::{Files, OpenOptions};
@@ -235,7 +236,7 @@ fn mark(on: &mut [u8], plane_floats: &[f32], plane_words: &[u32], planes: usize,
 }
 
 // Loads the scene, or its first meshes, once more, in areas of its own.
-fn load(c: Case) -> Loaded {
+fn load(c: Case) -> Result<Loaded, Refusal> {
     let mut triangles = areas::fresh_triangles();
     let mut handles = areas::fresh_handles();
     placing::load_scene(

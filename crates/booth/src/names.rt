@@ -22,9 +22,15 @@ fn count_of(on: &[u8]) -> u32 {
     0
 }
 
-// The walls of the echo with this image, the one next to the source first.
+// The walls of the echo with this image, the one next to the source first; none where no image has the number.
 fn walls_of(on: &[u8], order: u32, number: u32) -> Walls {
-    numbering::sequence_of(count_of(on), order, on, number)
+    match numbering::sequence_of(count_of(on), order, on, number) {
+        Ok(met) => met,
+        Err(_) => Walls {
+            len: 0,
+            planes: [0; MAX_IMAGE_ORDER],
+        },
+    }
 }
 
 fn wall_at(planes: [u8; MAX_IMAGE_ORDER], k: usize) -> u8 {

@@ -2,6 +2,7 @@
 use crate::Named;
 use crate::table::{print, print_count};
 use placing::Loaded;
+use refusals::Refusal;
 use sequences::MAX_IMAGE_NODES;
 use std::io;
 
@@ -172,18 +173,18 @@ fn print_left(rt: &impl Print, triples: usize, placings: usize, kept: usize) -> 
     Ok(())
 }
 
-pub(crate) fn print_loaded(rt: &impl Print, loaded: Loaded) -> io::Result<()> {
+pub(crate) fn print_loaded(rt: &impl Print, loaded: Result<Loaded, Refusal>) -> io::Result<()> {
     match loaded {
-        Loaded::Refused(_) => Ok(()),
-        Loaded::Triangles(kept, placings, triples) => print_left(rt, triples, placings, kept),
+        Ok(loaded) => print_left(rt, loaded.triples, loaded.placings, loaded.triangles),
+        Err(_) => Ok(()),
     }
 }
 
 // How many triangles were kept.
-pub(crate) fn kept_of(loaded: Loaded) -> u32 {
+pub(crate) fn kept_of(loaded: Result<Loaded, Refusal>) -> u32 {
     match loaded {
-        Loaded::Refused(_) => 0,
-        Loaded::Triangles(kept, placings, triples) => small(kept),
+        Ok(loaded) => small(loaded.triangles),
+        Err(_) => 0,
     }
 }
 

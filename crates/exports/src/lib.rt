@@ -7,7 +7,7 @@ ghost use Rattle.std.specs.Prelude.{◌≡◌, List, [], ◌∷◌, ◌++◌, �
 ghost use Rattle.refusals.specs.Numbers.{number_told};
 ghost use Rattle.packet.specs.Reader.{read_answer, read_area, read_counts};
 ghost use Rattle.packet.specs.Writer.{write_answer, write_out, write_length};
-ghost use Rattle.numbering.specs.Walls.{sequence_answer};
+ghost use Rattle.numbering.specs.Walls.{sequence_answer, planes_told, length_told};
 ghost use Rattle.scene.specs.Scene.{scene};
 ghost use Rattle.scene.specs.Limits.{most_triples};
 ghost use Rattle.scene.specs.Speed.{speed_of};
@@ -96,15 +96,23 @@ pub extern "C" fn biv_walls(
     found: &mut [usize; 1],
 ) -> u32
     ensures { let answer = sequence_answer planes order on.now number in
-        (result ≡ answer.refusal) ×
-        (walls.new ≡ answer.planes) ×
-        (found.new ≡ answer.len ∷ []) }
+        (result ≡ number_told answer) ×
+        (walls.new ≡ planes_told answer) ×
+        (found.new ≡ length_told answer ∷ []) }
 {
-    let w = numbering::sequence_of(planes, order, on, number);
-    let walled = w.planes;
-    *walls = walled;
-    *found = [w.len];
-    w.refusal
+    match numbering::sequence_of(planes, order, on, number) {
+        Ok(walled) => {
+            let met = walled.planes;
+            *walls = met;
+            *found = [walled.len];
+            0
+        }
+        Err(refusal) => {
+            *walls = [0; sequences::MAX_IMAGE_ORDER];
+            *found = [0];
+            refusal.number()
+        }
+    }
 }
 
 // ---- the areas

@@ -3,14 +3,13 @@ use Rattle.std.specs.Prelude.{ℕ, min, Bool, cond, not, ◌&&◌, ◌||◌, eqb
 use Rattle.float.specs.Compare.{is_finite}
 use Rattle.vector.specs.declared.Vec3.{Vec3}
 use Rattle.scene.specs.declared.Settings.{Settings}
-use Rattle.placing.specs.declared.Loaded.{Loaded}
-use Rattle.placing.specs.declared.Loaded.TheVariants.{Refused, Triangles}
+use Rattle.placing.specs.Loading.{LoadSaid, Refused, Triangles}
 use Rattle.bounces.specs.Areas.{max_order}
 use Rattle.packet.specs.Limits.{most_taps}
 use Rattle.front.specs.declared.Front.{Front}
 
 -- the answer of loading as plain numbers
-abbrev pub front_of_loaded : Loaded → Front
+abbrev pub front_of_loaded : LoadSaid → Front
 front_of_loaded (Refused k) = record { refusal = k; kept = 0; triples = 0 }
 front_of_loaded (Triangles kept p triples) = record { refusal = 0; kept = kept; triples = triples }
 

@@ -3,9 +3,11 @@
 #![tactic(auto)]
 
 ghost use Rattle.std.specs.Prelude.{◌≡◌, min};
+ghost use Rattle.placing.specs.Loading.{load_said};
 ghost use Rattle.front.specs.Asked.{front_of_loaded, early_of, is_finite_point, silent_of, order_of_search, limit_of};
 
 use placing::Loaded;
+use refusals::Refusal;
 use scene::Settings;
 use vector::Vec3;
 
@@ -19,19 +21,19 @@ pub struct Front {
     pub triples: usize,
 }
 
-pub fn front_of(loaded: Loaded) -> Front
-    ensures { result ≡ front_of_loaded loaded }
+pub fn front_of(loaded: Result<Loaded, Refusal>) -> Front
+    ensures { result ≡ front_of_loaded (load_said loaded) }
 {
     match loaded {
-        Loaded::Refused(k) => Front {
-            refusal: k,
+        Err(refusal) => Front {
+            refusal: refusal.number(),
             kept: 0,
             triples: 0,
         },
-        Loaded::Triangles(kept, _, triples) => Front {
+        Ok(loaded) => Front {
             refusal: 0,
-            kept,
-            triples,
+            kept: loaded.triangles,
+            triples: loaded.triples,
         },
     }
 }

@@ -14,7 +14,7 @@ use Rattle.sequences.specs.Members.{Image}
 use Rattle.sequences.proofs.Counting.{allowed_length, visited_length}
 use Rattle.sequences.proofs.Numbers.{is_numbered, visited_alone}
 use Rattle.numbering.specs.declared.Walls.{Walls}
-use Rattle.numbering.specs.Walls.{flags, is_one_to, takes, walls_of, found, refused, sequence_answer}
+use Rattle.numbering.specs.Walls.{flags, is_one_to, takes, walls_of, walls_from, found, refused, sequence_answer}
 use Rattle.numbering.specs.Unrank.{unrank}
 use Rattle.numbering.specs.Contract.{Placed}
 use Rattle.numbering.specs.Undone.{Room, Undone, NumberingUndone}
@@ -110,7 +110,8 @@ turned_away_lem planes order on number e = ap (λ (b : Bool). cond b (found (wal
 -- the planes of an answer say the sequence
 found_once : (s t : List ℕ) → found s ≡ found t → s ≡ t
 found_once s t e =
-    sym (take-append_seam s (padding s)) ∙ ap₂ (λ (k : ℕ) (l : List ℕ). take k l) (ap (λ (w : Walls). w.len) e) (ap (λ (w : Walls). w.planes) e)
+    let f : walls_from s ≡ walls_from t = cc in
+    sym (take-append_seam s (padding s)) ∙ ap₂ (λ (k : ℕ) (l : List ℕ). take k l) (ap (λ (w : Walls). w.len) f) (ap (λ (w : Walls). w.planes) f)
     ∙ take-append_seam t (padding t)
   where
     padding : List ℕ → List ℕ
@@ -138,7 +139,7 @@ module _ (on : List ℕ) (order : ℕ) (room : Room on order) where
   walls_of_lem n s i = i.is
 
   no_walls : (s : List ℕ) → refused ≡ found s → ⊥
-  no_walls s e = let z : ◌≡◌ {A = ℕ} 13 0 = ap (λ (w : Walls). w.refusal) e in omega arith
+  no_walls s e = cc
 
   taken_back : (n : ℕ) (s : List ℕ) → sequence_answer (length on) order on n ≡ found s → takes (length on) order on n ≡ true
   taken_back n s e = by (takes (length on) order on n) refl

@@ -10,7 +10,7 @@ use lib.Seq.{length-take-le, take-suc-set, set_split, drop-drop, drop-set-lt}
 use Rattle.sequences.specs.Allowed.{may, below, most, most_order}
 use Rattle.sequences.specs.Count.{count, series}
 use Rattle.sequences.proofs.Counting.{upto_length, below_length, series_suc}
-use Rattle.numbering.specs.Walls.{padded, found}
+use Rattle.numbering.specs.Walls.{padded, walls_from}
 use Rattle.numbering.specs.Unrank.{nth, unrank}
 use Rattle.numbering.specs.Contract.{block_of, Placed, Followed}
 use Rattle.numbering.proofs.Laws.{block_div, block_mod, block_some}
@@ -136,7 +136,7 @@ module _ (on : List ℕ) (order place : ℕ) (placed : Placed on order place) (p
           sym (drop-drop 1 len planes) ∙ ap (drop 1) w.zeros ∙ zeros_less (most_order - len)
           ∙ ap (λ (k : ℕ). replicate k 0) (let e : most_order - len - 1 ≡ most_order - (len + 1) = omega arith in e)
 
-      pub walk_end : rest % b ≡ 0 → record { refusal = 0; len = len + 1; planes = set planes len p } ≡ found (unrank on order [] place)
+      pub walk_end : rest % b ≡ 0 → record { len = len + 1; planes = set planes len p } ≡ walls_from (unrank on order [] place)
       walk_end z =
           let s : List ℕ = take len planes ++ next on (take len planes) d rest ∷ [] in
           let e : s ≡ unrank on order [] place = sym (turn_end on (take len planes) d rest w.there (sym left ∙ z)) ∙ w.goes in
@@ -149,7 +149,7 @@ module _ (on : List ℕ) (order place : ℕ) (placed : Placed on order place) (p
           ∙ ap (λ (zs : List ℕ). take len planes ++ p ∷ zs) (behind ∙ ap (λ (n : ℕ). replicate (most_order - n) 0) (sym l))
           ∙ ap (λ (q : ℕ). take len planes ++ q ∷ replicate (most_order - length s) 0) here
           ∙ sym (append_one (take len planes) (next on (take len planes) d rest) (replicate (most_order - length s) 0)) in
-          (λ i. record { refusal = 0; len = sym l i; planes = f i }) ∙ ap found e
+          (λ i. record { len = sym l i; planes = f i }) ∙ ap walls_from e
         where
           append_one : (a : List ℕ) (x : ℕ) (zs : List ℕ) → (a ++ x ∷ []) ++ zs ≡ a ++ x ∷ zs
           append_one [] x zs = refl

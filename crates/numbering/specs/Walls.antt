@@ -1,13 +1,11 @@
 -- Document 02, Note 2: what `sequence_of` answers.
 -- `on` has a byte for each plane: 1 where the source lies on the plane, else 0.
-use Rattle.std.specs.Prelude.{ℕ, ◌-◌, Bool, true, cond, ◌&&◌, List, [], ◌∷◌, ◌++◌, length, get_or, replicate, leb, eqb}
+use Rattle.std.specs.Prelude.{ℕ, ◌-◌, Bool, true, cond, ◌&&◌, List, [], ◌∷◌, ◌++◌, length, get_or, replicate, leb, eqb, Result, Ok, Err}
 use Rattle.sequences.specs.Allowed.{visited, most_order, most_planes}
 use Rattle.sequences.specs.Count.{firsts, images}
+use Rattle.refusals.specs.declared.Refusal.{Refusal}
+use Rattle.refusals.specs.declared.Refusal.TheVariants.{NoImage}
 use Rattle.numbering.specs.declared.Walls.{Walls}
-
--- "Turned away: 13"
-abbrev pub refusal13 : ℕ
-refusal13 = 13
 
 -- "one byte a plane (1 where the source lies on it, else 0)"
 unfoldable pub flags : List ℕ → Bool
@@ -32,14 +30,27 @@ walls_of on order number = get_or (visited on order) (number - 1) []
 abbrev pub padded : List ℕ → List ℕ
 padded s = s ++ replicate (most_order - length s) 0
 
--- an answer with these walls
-abbrev pub found : List ℕ → Walls
-found s = record { refusal = 0; len = length s; planes = padded s }
+abbrev pub walls_from : List ℕ → Walls
+walls_from s = record { len = length s; planes = padded s }
 
--- "zeros after a refusal"
-abbrev pub refused : Walls
-refused = record { refusal = refusal13; len = 0; planes = replicate most_order 0 }
+-- an answer with these walls
+abbrev pub found : List ℕ → Result Walls Refusal
+found s = Ok (walls_from s)
+
+-- "Turned away: 13"
+abbrev pub refused : Result Walls Refusal
+refused = Err NoImage
 
 -- the answer of `sequence_of`
-unfoldable pub sequence_answer : ℕ → ℕ → List ℕ → ℕ → Walls
+unfoldable pub sequence_answer : ℕ → ℕ → List ℕ → ℕ → Result Walls Refusal
 sequence_answer planes order on number = cond (takes planes order on number) (found (walls_of on order number)) refused
+
+-- ---- an answer in plain numbers, with "zeros after a refusal"
+
+abbrev pub planes_told : Result Walls Refusal → List ℕ
+planes_told (Ok w) = w.planes
+planes_told (Err r) = replicate most_order 0
+
+abbrev pub length_told : Result Walls Refusal → ℕ
+length_told (Ok w) = w.len
+length_told (Err r) = 0

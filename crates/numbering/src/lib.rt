@@ -8,6 +8,7 @@ ghost use Rattle.numbering.specs.Walls as spec;
 ghost use Rattle.numbering.specs.Unrank.{nth, unrank};
 ghost use Rattle.numbering.specs.Contract.{cap, block_of, Placed, Followed};
 
+use refusals::Refusal;
 use sequences::{MAX_IMAGE_NODES, MAX_IMAGE_ORDER, MAX_PLANES};
 
 // The limit of `sequences` as a u32, and one more, where the sizes of blocks are cut.
@@ -15,13 +16,9 @@ const MOST: u32 = MAX_IMAGE_NODES as u32;
 
 const CAP: u32 = MOST + 1;
 
-// What `sequence_of` refuses with.
-pub const BAD_NUMBER: u32 = 13;
-
-// The first `len` planes are the walls, the others are 0. After a refusal all is 0 but the refusal.
+// The first `len` planes are the walls, the others are 0.
 #[derive(Clone, Copy)]
 pub struct Walls {
-    pub refusal: u32,
     pub len: usize,
     pub planes: [u8; MAX_IMAGE_ORDER],
 }
@@ -147,7 +144,7 @@ fn plane_at(on: &[u8], planes: [u8; MAX_IMAGE_ORDER], len: usize, q: u32) -> u8
 // first sequence.
 fn walls_at(on: &[u8], order: u32, place: u32) -> Walls
     requires { Placed on.now order place }
-    ensures { result ≡ spec.found (unrank on.now order [] place) }
+    ensures { result ≡ spec.walls_from (unrank on.now order [] place) }
 {
     let m = (on.len() - 1) as u32;
     let mut planes = [0; MAX_IMAGE_ORDER];
@@ -161,7 +158,6 @@ fn walls_at(on: &[u8], order: u32, place: u32) -> Walls
         rest %= b;
         if rest == 0 {
             return Walls {
-                refusal: 0,
                 len: len,
                 planes: planes,
             };
@@ -173,15 +169,11 @@ fn walls_at(on: &[u8], order: u32, place: u32) -> Walls
 
 // The planes of the image with that number, without a walk over the earlier ones. `on` has a byte for each plane: 1 where the source lies on it,
 // else 0. Refuses with 13 an order outside 1 to 8, planes outside 1 to 256, bytes of another count or value, and a number that no image has.
-pub fn sequence_of(planes: u32, order: u32, on: &[u8], number: u32) -> Walls
+pub fn sequence_of(planes: u32, order: u32, on: &[u8], number: u32) -> Result<Walls, Refusal>
     ensures { result ≡ spec.sequence_answer planes order on.now number }
 {
-    if takes(planes, order, on, number) {
-        return walls_at(on, order, number - 1);
+    if !takes(planes, order, on, number) {
+        return Err(Refusal::NoImage);
     }
-    Walls {
-        refusal: BAD_NUMBER,
-        len: 0,
-        planes: [0; MAX_IMAGE_ORDER],
-    }
+    Ok(walls_at(on, order, number - 1))
 }

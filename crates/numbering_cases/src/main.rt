@@ -5,7 +5,8 @@
 ghost use Rattle.std.specs.Prelude.{◌≤◌, ◌<◌};
 
 use listing::RECORDS;
-use numbering::{BAD_NUMBER, Walls, sequence_of};
+use numbering::{Walls, sequence_of};
+use refusals::Refusal;
 use sequences::{MAX_IMAGE_ORDER, RECORD, enumerate};
 use std::io;
 use text::filled;
@@ -26,15 +27,19 @@ struct Tally {
 
 // ---- the ends of the ranges
 
-fn print_walls(rt: &impl Print, w: Walls) -> io::Result<()> {
-    if w.refusal != 0 {
-        let refusal = w.refusal;
-        return print!(rt; " refused {refusal}");
+fn print_walls(rt: &impl Print, found: Result<Walls, Refusal>) -> io::Result<()> {
+    match found {
+        Ok(w) => {
+            for p in w.planes.iter().take(w.len) {
+                print!(rt; " {p}")?;
+            }
+            Ok(())
+        }
+        Err(refusal) => {
+            let number = refusal.number();
+            print!(rt; " refused {number}")
+        }
     }
-    for p in w.planes.iter().take(w.len) {
-        print!(rt; " {p}")?;
-    }
-    Ok(())
 }
 
 fn show(rt: &impl Print, planes: u32, order: u32, on: &[u8], number: u32) -> io::Result<()> {
@@ -114,7 +119,7 @@ fn agrees(w: Walls, records: &[u8], at: u32) -> bool {
             return false;
         }
     }
-    w.refusal == 0 && w.len == text::byte_at(records, from + MAX_IMAGE_ORDER, 255) as usize
+    w.len == text::byte_at(records, from + MAX_IMAGE_ORDER, 255) as usize
 }
 
 // Walls were compared.
@@ -137,17 +142,21 @@ fn compare_all(
 ) -> Tally {
     let mut t = before;
     for n in 0..images {
-        t = compared(t, agrees(sequence_of(planes, order, on, n + 1), records, n));
+        let so = match sequence_of(planes, order, on, n + 1) {
+            Ok(w) => agrees(w, records, n),
+            Err(_) => false,
+        };
+        t = compared(t, so);
     }
     t
 }
 
 // A number that no image has.
 fn compare_none(t: Tally, order: u32, planes: u32, on: &[u8], number: u32) -> Tally {
-    let w = sequence_of(planes, order, on, number);
+    let found = sequence_of(planes, order, on, number);
     Tally {
         refused: plus(t.refused),
-        differ: plus_unless(t.differ, w.refusal == BAD_NUMBER && w.len == 0),
+        differ: plus_unless(t.differ, found.is_err()),
         ..t
     }
 }

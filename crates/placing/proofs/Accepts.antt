@@ -1,5 +1,5 @@
 -- What the answer of `check` says of the refusals.
-use mathlib.Core.Path.{◌≡◌, refl, sym, ◌∙◌}
+use mathlib.Core.Path.{◌≡◌, refl, sym, ap, ◌∙◌}
 use mathlib.Core.Bool.{Bool, true, false, cond, ◌&&◌, true≢false}
 use mathlib.Core.List.{List, [], ◌∷◌}
 use Prim.Native.Nat.{ℕ, zero, suc, ◌*◌, ◌≤◌}
@@ -9,19 +9,19 @@ use lib.Dec.{eqb}
 use lib.Ieee.{Float}
 use lib.ListN.{length}
 use Rattle.scene.specs.declared.Settings.{Settings}
-use Rattle.scene.specs.declared.Checked.TheVariants.{Refused, Accepted}
+use Rattle.std.specs.Prelude.{Ok, Err}
+use Rattle.refusals.specs.declared.Refusal.{Refusal}
+use Rattle.refusals.specs.declared.Refusal.TheVariants as refusal
+use Rattle.refusals.specs.Numbers.{number_of}
 use Rattle.scene.specs.Scene.{Scene, headers, vertex_sum, index_sum}
-use Rattle.scene.specs.Refusals.{refusal1, refusal2, refusal3, refusal4, refusal5, first, answer, first_of_five, check_of, lengths_right_of, meshes_are_whole, transforms_are_right, positions_are_right, indices_are_right, materials_are_right, triples_in}
+use Rattle.scene.specs.Refusals.{refusal1, refusal2, refusal3, refusal4, refusal5, first, Refused, Accepted, answer, first_of_five, check_of, lengths_right_of, meshes_are_whole, transforms_are_right, positions_are_right, indices_are_right, materials_are_right, triples_in}
 use Rattle.scene.specs.Limits.{most_triples}
 use Rattle.scene.proofs.Answers.{NoneOfFive, AcceptedScene, accepted_scene}
 use Rattle.placing.specs.Corners.{refusal6, corners, triangles, placings}
-use Rattle.placing.specs.Passing.{Fits, PassedOver}
+use Rattle.placing.specs.Passing.{Fits, pass, PassedOver}
 use Rattle.placing.specs.declared.Placed.{Placed}
-use Rattle.placing.specs.declared.Placed.TheVariants.{Far, Kept}
-use Rattle.placing.specs.declared.Loaded.{Loaded}
-use Rattle.placing.specs.declared.Loaded.TheVariants.{Triangles}
-use Rattle.placing.specs.declared.Loaded.TheVariants as said
-use Rattle.placing.specs.Loading.{first_refusal, loaded_of, Loading}
+use Rattle.placing.specs.Loading.{first_refusal, LoadSaid, Triangles, loaded_of, Loading}
+use Rattle.placing.specs.Loading as said
 
 -- one of five refuses: the sixth is not asked
 pub record Stopped (k first : ℕ) (s : Scene) : Type 0 where
@@ -92,18 +92,20 @@ pub few : (s : Scene) (n : ℕ) → refusal4 s ≡ false → triples_in s ≡ n 
 unfolding refusal4
 few s n not_so count = rw count at (ltb-false most_triples (triples_in s) not_so)
 
-far_told : (b : Bool) (p x y z : ℕ) → Far p ≡ cond b (Far x) (Kept y z) → b ≡ true
-far_told true p x y z e = refl
-far_told false p x y z e = let o : ◌≡◌ {A = ℕ} 0 1 = cc in absurd (omega arith)
+far_told : (b : Bool) (x y : ℕ) (r : Placed) (e : Refusal) → r ≡ pass b x y → r.kept ≡ Err e → (b ≡ true) × (e ≡ refusal.Far)
+far_told true x y r e p q = let k : r.kept ≡ Err refusal.Far = ap (λ (z : Placed). z.kept) p in (refl, cc)
+far_told false x y r e p q = let k : r.kept ≡ Ok y = ap (λ (z : Placed). z.kept) p in cc
 
 record Told (b : Bool) (k p y z : ℕ) : Type 0 where
   pub near : b ≡ false
   pub kept : k ≡ y
   pub placed : p ≡ z
 
-kept_told : (b : Bool) (k p x y z : ℕ) → Kept k p ≡ cond b (Far x) (Kept y z) → Told b k p y z
-kept_told true k p x y z e = let o : ◌≡◌ {A = ℕ} 0 1 = cc in absurd (omega arith)
-kept_told false k p x y z e = record { near = refl; kept = cc; placed = cc }
+kept_told : (b : Bool) (x y k : ℕ) (r : Placed) → r ≡ pass b x y → r.kept ≡ Ok k → Told b k r.placings y x
+kept_told true x y k r p q = let e : r.kept ≡ Err refusal.Far = ap (λ (z : Placed). z.kept) p in cc
+kept_told false x y k r p q =
+    let e : r.kept ≡ Ok y = ap (λ (z : Placed). z.kept) p in
+    record { near = refl; kept = cc; placed = ap (λ (z : Placed). z.placings) p }
 
 module _ (st : Settings) (c : ℕ) (s : Scene) (lens : List ℕ) (columns : List Float) (handles : List ℕ) where
   pub load_refused : (k : ℕ) → check_of st c s lens ≡ Refused k → Loading (first_refusal st c s lens) s columns handles (said.Refused k) columns handles
@@ -118,22 +120,23 @@ module _ (st : Settings) (c : ℕ) (s : Scene) (lens : List ℕ) (columns : List
 
   module _ (n : ℕ) (none : NoneOfFive st c s lens n) (r : Placed) (columns' : List Float) (handles' : List ℕ) (passed : PassedOver (corners s) n columns handles r columns' handles') where
     pub load_far :
-        (p : ℕ) → r ≡ Far p → Loading (first_refusal st c s lens) s columns handles (said.Refused 6) columns' handles'
-    load_far p e =
+        (e : Refusal) → r.kept ≡ Err e → Loading (first_refusal st c s lens) s columns handles (said.Refused (number_of e)) columns' handles'
+    load_far e is =
         let o = accepted st c s lens n none in
-        let yes : refusal6 s ≡ true = far_told (refusal6 s) p _ _ _ (sym e ∙ passed.answer) in
+        let t = far_told (refusal6 s) _ _ r e passed.answer is in
+        let yes : refusal6 s ≡ true = t.0 in
         let six : first_refusal st c s lens ≡ 6 = rw yes at o in
         record {
-          answer = rw six;
+          answer = rw (six, t.1);
           filled = rw six (rw yes at passed.filled);
           named = rw six (rw yes at passed.named);
           reads = λ z. let w : ◌≡◌ {A = ℕ} 6 0 = sym six ∙ z in absurd (omega arith);
         }
 
-    pub load_kept : (k p : ℕ) → r ≡ Kept k p → Loading (first_refusal st c s lens) s columns handles (Triangles k p n) columns' handles'
-    load_kept k p e =
+    pub load_kept : (k : ℕ) → r.kept ≡ Ok k → Loading (first_refusal st c s lens) s columns handles (Triangles k r.placings n) columns' handles'
+    load_kept k e =
         let o = accepted st c s lens n none in
-        let t = kept_told (refusal6 s) k p _ _ _ (sym e ∙ passed.answer) in
+        let t = kept_told (refusal6 s) _ _ k r passed.answer e in
         let zero_is : first_refusal st c s lens ≡ 0 = rw t.near at o in
         record {
           answer = rw (zero_is, t.kept, t.placed, none.count);
@@ -170,7 +173,7 @@ module _ (st : Settings) (c : ℕ) (s : Scene) (lens : List ℕ) where
 
   -- the settings, the scene and the areas passed the test
   pub loaded_accepted :
-      (columns : List Float) (handles : List ℕ) (r : Loaded) (columns' : List Float) (handles' : List ℕ) (m p n : ℕ) →
+      (columns : List Float) (handles : List ℕ) (r : LoadSaid) (columns' : List Float) (handles' : List ℕ) (m p n : ℕ) →
       Loading (first_refusal st c s lens) s columns handles r columns' handles' → r ≡ Triangles m p n → AcceptedScene st c s lens n
   loaded_accepted columns handles r columns' handles' m p n l e =
       let t = counted (first_refusal st c s lens) m p n s (sym e ∙ l.answer) in

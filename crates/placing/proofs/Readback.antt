@@ -15,8 +15,7 @@ use Rattle.columns.proofs.Storing.{put_other}
 use Rattle.columns.proofs.Readback.{triangle_same, edges_same, dots_same, triangle_other, edges_other, dots_other, length_stored}
 use Rattle.placing.specs.declared.State.{State}
 use Rattle.placing.specs.Corners.{Corners, far_in, any_far, triangles_of, up_to_far}
-use Rattle.placing.specs.declared.Placed.TheVariants.{Far, Kept}
-use Rattle.placing.specs.Passing.{World, world, state, step_of, run, put_all, put_handles, Reads, PassedOver}
+use Rattle.placing.specs.Passing.{pass, World, world, state, step_of, run, put_all, put_handles, Reads, PassedOver}
 use Rattle.placing.proofs.Passes.{run_far}
 
 -- ---- reading
@@ -177,7 +176,7 @@ module _
         st.far ≡ true →
         length columns₁ ≡ length columns →
         length handles₁ ≡ length handles →
-        columns₂ ≡ replicate (length columns₁) zero32 → handles₂ ≡ replicate (length handles₁) 0 → PassedOver qs n columns handles (Far st.placings) columns₂ handles₂
+        columns₂ ≡ replicate (length columns₁) zero32 → handles₂ ≡ replicate (length handles₁) 0 → PassedOver qs n columns handles (pass true st.placings st.kept) columns₂ handles₂
     passed_far columns₂ handles₂ far wide long cleared blank =
         let yes : any_far qs ≡ true = sym ended.far ∙ far in
         let placings : st.placings ≡ 3 * up_to_far qs = omega (arith, ended.placed) in
@@ -193,7 +192,7 @@ module _
     -- none was met
     pub passed_kept :
         st.far ≡ false →
-        column_count * n ≤ length columns → n ≤ length handles → st.kept ≤ n → PassedOver qs n columns handles (Kept st.kept st.placings) columns₁ handles₁
+        column_count * n ≤ length columns → n ≤ length handles → st.kept ≤ n → PassedOver qs n columns handles (pass false st.placings st.kept) columns₁ handles₁
     passed_kept near wide long some =
         let no : any_far qs ≡ false = sym ended.far ∙ near in
         let count : st.kept ≡ length (triangles_of qs) = omega (arith, ended.count no) in

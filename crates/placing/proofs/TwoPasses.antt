@@ -17,11 +17,9 @@ use Rattle.scene.specs.Scene.{Scene, Mesh, meshes_of}
 use Rattle.scene.specs.declared.Settings.{Settings}
 use Rattle.scene.specs.Refusals.{refusal1, refusal2, refusal3, refusal4, refusal5, first, first_of_five, triples_in}
 use Rattle.placing.specs.Corners.{Triple, triples, Corners, far_in, corners_in, corners_of, corners_all, corners, any_far, triangles_of, triangles, up_to_far, placings, refusal6, in_range}
-use Rattle.placing.specs.Passing.{put_all, put_handles, placed_of, PassedOver}
-use Rattle.placing.specs.Loading.{first_refusal, loaded_of, left, Loading}
+use Rattle.placing.specs.Passing.{put_all, put_handles, pass, placed_of, PassedOver}
+use Rattle.placing.specs.Loading.{LoadSaid, first_refusal, loaded_of, left, Loading}
 use Rattle.placing.specs.declared.Placed.{Placed}
-use Rattle.placing.specs.declared.Placed.TheVariants.{Far, Kept}
-use Rattle.placing.specs.declared.Loaded.{Loaded}
 use Rattle.placing.specs.TwoPasses.{MeshTriple, mesh_triple, mesh_triples, ranged, placed, test_pass, keep_pass, placings_for, refusal_of, kept_of, placings_of, AsTwoPasses, loaded_by, LoadsAsTwoPasses}
 
 -- ---- the corners of the triples in range
@@ -102,15 +100,15 @@ module _ (ms : List Mesh) where
 
 -- ---- the pass
 
-refusal_is : (b : Bool) (p k : ℕ) → refusal_of (cond b (Far p) (Kept k p)) ≡ cond b 6 0
+refusal_is : (b : Bool) (p k : ℕ) → refusal_of (pass b p k) ≡ cond b 6 0
 refusal_is true p k = refl
 refusal_is false p k = refl
 
-placed_is : (b : Bool) (p k : ℕ) → placings_of (cond b (Far p) (Kept k p)) ≡ p
+placed_is : (b : Bool) (p k : ℕ) → placings_of (pass b p k) ≡ p
 placed_is true p k = refl
 placed_is false p k = refl
 
-kept_is : (b : Bool) (p k : ℕ) → b ≡ false → kept_of (cond b (Far p) (Kept k p)) ≡ k
+kept_is : (b : Bool) (p k : ℕ) → b ≡ false → kept_of (pass b p k) ≡ k
 kept_is b p k e = rw (e)
 
 -- what is to be read of triangles whose list has another name
@@ -160,13 +158,13 @@ sixth false false false true b5 b6 e = absurd (let n : ⊥ = omega arith in n)
 sixth false false false false true b6 e = absurd (let n : ⊥ = omega arith in n)
 sixth false false false false false b6 e = refl
 
-loaded_is : (b : Bool) (s : Scene) (n p k : ℕ) → n ≡ length (triangles s) → p ≡ placings s → k ≡ cond b 6 0 → loaded_of k s ≡ loaded_by (triples_in s) (cond b (Far p) (Kept n p))
+loaded_is : (b : Bool) (s : Scene) (n p k : ℕ) → n ≡ length (triangles s) → p ≡ placings s → k ≡ cond b 6 0 → loaded_of k s ≡ loaded_by (triples_in s) (pass b p n)
 loaded_is true s n p k e f g = rw (g)
 loaded_is false s n p k e f g = rw (g, e, f)
 
 module _ (st : Settings) (c : ℕ) (s : Scene) (lens : List ℕ) where
   pub load_two_passes :
-      (columns₀ columns : List Float) (handles₀ handles : List ℕ) (r : Loaded) → first_of_five st c s lens ≡ 0 →
+      (columns₀ columns : List Float) (handles₀ handles : List ℕ) (r : LoadSaid) → first_of_five st c s lens ≡ 0 →
       Loading (first_refusal st c s lens) s columns₀ handles₀ r columns handles → LoadsAsTwoPasses s r columns handles
   unfolding first_of_five first_refusal
   load_two_passes columns₀ columns handles₀ handles r none loading =

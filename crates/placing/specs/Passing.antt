@@ -1,5 +1,5 @@
 -- The pass over the corners: what it carries, a step, and what the whole answers.
-use Rattle.std.specs.Prelude.{ℕ, ◌+◌, ◌*◌, ◌≤◌, ◌<◌, Float, length, set, get_or, replicate, ◌≡◌, Bool, true, false, cond, List, [], ◌∷◌}
+use Rattle.std.specs.Prelude.{ℕ, ◌+◌, ◌*◌, ◌≤◌, ◌<◌, Float, length, set, get_or, replicate, ◌≡◌, Bool, true, false, cond, List, [], ◌∷◌, Ok, Err}
 use Rattle.std.specs.Float.{nan}
 use Rattle.geometry.specs.declared.Triangle.{Triangle}
 use Rattle.geometry.specs.Triangle.{is_degenerate_of, triangle_of_corners}
@@ -8,7 +8,7 @@ use Rattle.vector.specs.declared.Vec3.{Vec3}
 use Rattle.placing.specs.declared.State.{State}
 use Rattle.placing.specs.declared.Placing.{Placing}
 use Rattle.placing.specs.declared.Placed.{Placed}
-use Rattle.placing.specs.declared.Placed.TheVariants.{Far, Kept}
+use Rattle.refusals.specs.declared.Refusal.TheVariants.{Far}
 use Rattle.placing.specs.Corners.{Corners, far_in, any_far, triangles_of, up_to_far}
 use Rattle.float.specs.Literals.{zero32}
 use Rattle.geometry.specs.Intersect.{edges_of_corners}
@@ -75,9 +75,13 @@ pub record Fits (ms : List ℕ) (transforms positions indices n : ℕ) : Type 0 
   pub listed : indices ≡ index_sum (headers ms)
   pub whole : n ≡ triple_sum (headers ms)
 
--- what the pass answers: refusal 6, or the count of triangles; with the placings
+-- the placings, with refusal 6 or the count of triangles
+abbrev pub pass : Bool → ℕ → ℕ → Placed
+pass far placings kept = record { placings = placings; kept = cond far (Err Far) (Ok kept) }
+
+-- what the pass answers
 abbrev pub placed_of : List Corners → Placed
-placed_of qs = cond (any_far qs) (Far (3 * up_to_far qs)) (Kept (length (triangles_of qs)) (3 * up_to_far qs))
+placed_of qs = pass (any_far qs) (3 * up_to_far qs) (length (triangles_of qs))
 
 -- what is read at i: the triangle t, its edges and their products
 pub record Reads (columns : List Float) (handles : List ℕ) (n i : ℕ) (t : Triangle) : Type 0 where

@@ -1,5 +1,5 @@
 -- The one pass over the triples, held against two plain ones (document 02, note 6): a testing pass followed by a keeping pass; and its placings.
-use Rattle.std.specs.Prelude.{ℕ, ◌+◌, ◌<◌, Float, length, get_or, replicate, ◌≡◌, Bool, true, false, cond, not, ◌&&◌, ◌||◌, List, [], ◌∷◌, ◌++◌, map}
+use Rattle.std.specs.Prelude.{ℕ, ◌+◌, ◌<◌, Float, length, get_or, replicate, ◌≡◌, Bool, true, false, cond, not, ◌&&◌, ◌||◌, List, [], ◌∷◌, ◌++◌, map, Result, Ok, Err}
 use Rattle.float.specs.Literals.{zero32}
 use Rattle.geometry.specs.declared.Triangle.{Triangle}
 use Rattle.geometry.specs.Triangle.{is_degenerate_of, triangle_of_corners}
@@ -8,9 +8,9 @@ use Rattle.scene.specs.Scene.{Scene, Mesh, meshes_of}
 use Rattle.scene.specs.Refusals.{triples_in}
 use Rattle.placing.specs.Corners.{Triple, triples, Corners, corners3, corner_of, in_range, far_in}
 use Rattle.placing.specs.declared.Placed.{Placed}
-use Rattle.placing.specs.declared.Placed.TheVariants.{Far, Kept}
-use Rattle.placing.specs.declared.Loaded.{Loaded}
-use Rattle.placing.specs.declared.Loaded.TheVariants.{Refused, Triangles}
+use Rattle.refusals.specs.declared.Refusal.{Refusal}
+use Rattle.refusals.specs.Numbers.{number_of, number_told}
+use Rattle.placing.specs.Loading.{LoadSaid, Refused, Triangles}
 
 -- a triple with the mesh that it is of
 pub record MeshTriple : Type 0 where
@@ -61,16 +61,17 @@ placings_for (x ∷ xs) = cond (ranged x) (3 + cond (far_in (placed x)) 0 (placi
 
 -- an answer of the one pass: document 01's number of its refusal, what it kept, what it placed
 abbrev pub refusal_of : Placed → ℕ
-refusal_of (Far p) = 6
-refusal_of (Kept k p) = 0
+refusal_of r = number_told r.kept
+
+abbrev pub count_told : Result ℕ Refusal → ℕ
+count_told (Err e) = 0
+count_told (Ok k) = k
 
 abbrev pub kept_of : Placed → ℕ
-kept_of (Far p) = 0
-kept_of (Kept k p) = k
+kept_of r = count_told r.kept
 
 abbrev pub placings_of : Placed → ℕ
-placings_of (Far p) = p
-placings_of (Kept k p) = p
+placings_of r = r.placings
 
 -- Of the triples of a scene, for the answer r of `triangles_from_scene` and its areas afterwards, whose columns have n floats each: "its refusal, or else
 -- its triangles, are those of a testing pass followed by a keeping pass", and its placings are as many as the note says. What else the areas hold is in `Passed`.
@@ -83,13 +84,16 @@ pub record AsTwoPasses (xs : List MeshTriple) (n : ℕ) (r : Placed) (columns : 
   pub placings : placings_of r ≡ placings_for xs
 
 -- `load_scene`'s answer by that of the pass
-abbrev pub loaded_by : ℕ → Placed → Loaded
-loaded_by n (Far p) = Refused 6
-loaded_by n (Kept k p) = Triangles k p n
+abbrev pub loaded_with : ℕ → ℕ → Result ℕ Refusal → LoadSaid
+loaded_with n p (Err e) = Refused (number_of e)
+loaded_with n p (Ok k) = Triangles k p n
+
+abbrev pub loaded_by : ℕ → Placed → LoadSaid
+loaded_by n r = loaded_with n r.placings r.kept
 
 -- The same of `load_scene`, where none of the refusals 1 to 5 applies: it answers what the pass answered. Its refusal 6 has no counts, as document 01 says, so that
 -- the placings of a refused scene are those of the pass alone.
-pub record LoadsAsTwoPasses (s : Scene) (r : Loaded) (columns : List Float) (handles : List ℕ) : Type 0 where
+pub record LoadsAsTwoPasses (s : Scene) (r : LoadSaid) (columns : List Float) (handles : List ℕ) : Type 0 where
   pub pass : Placed
   pub answer : r ≡ loaded_by (triples_in s) pass
   pub passes : AsTwoPasses (scene_triples s) (triples_in s) pass columns handles

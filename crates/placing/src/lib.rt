@@ -7,10 +7,11 @@ ghost use Rattle.scene.specs.Scene.{scene, headers, cut};
 ghost use Rattle.placing.specs.Corners.{far_of, is_far_corner, has_far_corner, corner_of, triple, triples, corners3, corners_in, corners_of, corners_all};
 ghost use Rattle.columns.specs.Columns.{column_count};
 ghost use Rattle.scene.specs.Limits.{most_triples};
-ghost use Rattle.placing.specs.Loading.{first_refusal, Loading};
+ghost use Rattle.placing.specs.Loading.{first_refusal, load_said, Loading};
 ghost use Rattle.placing.specs.Passing.{world, state, placing, step_of, run, Room, Did, Fits, PassedOver};
 
-use scene::{Checked, Settings};
+use refusals::Refusal;
+use scene::Settings;
 use vector::Vec3;
 
 const FARTHEST: f32 = 10000.0;
@@ -30,18 +31,19 @@ struct Placing {
     made: usize,
 }
 
-// Refusal 6 with the placings made, or how many triangles were kept and placings made.
+// The placings made, and how many triangles were kept, or refusal 6.
 #[derive(Clone, Copy)]
-pub enum Placed {
-    Far(usize),
-    Kept(usize, usize),
+pub struct Placed {
+    pub placings: usize,
+    pub kept: Result<usize, Refusal>,
 }
 
-// The first refusal of 1 to 6 that applies; or how many triangles were kept, placings made, and whole triples the scene has.
+// How many triangles were kept, placings made, and whole triples the scene has.
 #[derive(Clone, Copy)]
-pub enum Loaded {
-    Refused(u32),
-    Triangles(usize, usize, usize),
+pub struct Loaded {
+    pub triangles: usize,
+    pub placings: usize,
+    pub triples: usize,
 }
 
 // Two comparisons and no branch, so that nine coordinates are tested four at a time: what is not a number lies between no two.
@@ -273,15 +275,22 @@ pub fn triangles_from_scene(
     let st = place_all(
         meshes, transforms, positions, indices, n, triangles, handles,
     );
+    let placings = st.placings;
     if st.far {
         triangles.fill(0.0);
         handles.fill(0);
-        return Placed::Far(st.placings);
+        return Placed {
+            placings,
+            kept: Err(Refusal::Far),
+        };
     }
-    Placed::Kept(st.kept, st.placings)
+    Placed {
+        placings,
+        kept: Ok(st.kept),
+    }
 }
 
-// The front of a query: settings, scene and areas tested, triangles placed. `lens` are the lengths of all areas.
+// The front of a query: settings, scene and areas tested, triangles placed; or the first refusal of 1 to 6 that applies. `lens` are the lengths of all areas.
 pub fn load_scene(
     settings: Settings,
     c: u32,
@@ -294,25 +303,21 @@ pub fn load_scene(
     lens: [usize; scene::AREAS],
     triangles: &mut [f32],
     handles: &mut [u32],
-) -> Loaded
+) -> Result<Loaded, Refusal>
     requires { (get_or lens 0 0 ≤ length triangles.old) × (get_or lens 1 0 ≤ length handles.old) }
     ensures { let areas = scene meshes.now transforms.now positions.now indices.now materials.now rows in
-        Loading (first_refusal settings c areas lens) areas triangles.old handles.old result triangles.new handles.new }
+        Loading (first_refusal settings c areas lens) areas triangles.old handles.old (load_said result) triangles.new
+        handles.new }
 {
-    let checked = scene::check(
+    let triples = scene::check(
         settings, c, meshes, transforms, positions, indices, materials, rows, lens,
-    );
-    let n = match checked {
-        Checked::Refused(k) => {
-            return Loaded::Refused(k);
-        }
-        Checked::Accepted(n) => n,
-    };
+    )?;
     let placed = triangles_from_scene(
-        meshes, transforms, positions, indices, n, triangles, handles,
+        meshes, transforms, positions, indices, triples, triangles, handles,
     );
-    match placed {
-        Placed::Far(_) => Loaded::Refused(6),
-        Placed::Kept(kept, placings) => Loaded::Triangles(kept, placings, n),
-    }
+    Ok(Loaded {
+        triangles: placed.kept?,
+        placings: placed.placings,
+        triples: triples,
+    })
 }

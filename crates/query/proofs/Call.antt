@@ -21,9 +21,7 @@ use Rattle.scene.specs.Scene.{Scene}
 use Rattle.scene.specs.Refusals.{refusal1, refusal2, refusal3, refusal4, refusal5, first}
 use Rattle.scene.specs.Speed.{speed_of}
 use Rattle.placing.specs.Corners.{triangles, placings, refusal6}
-use Rattle.placing.specs.Loading.{first_refusal, loaded_of, left}
-use Rattle.placing.specs.declared.Loaded.{Loaded}
-use Rattle.placing.specs.declared.Loaded.TheVariants.{Triangles}
+use Rattle.placing.specs.Loading.{first_refusal, LoadSaid, Triangles, loaded_of, left}
 use Rattle.bounces.specs.Areas.{max_order}
 use Rattle.sequences.specs.Allowed.{most_planes, visited}
 use Rattle.cost.specs.Forecast.{most_rays}
@@ -53,15 +51,15 @@ refusal_of_lem : (k : ℕ) (s : Scene) → (front_of_loaded (loaded_of k s)).ref
 refusal_of_lem zero s = refl
 refusal_of_lem (suc k) s = refl
 
-pub front_refusal : (k : ℕ) (s : Scene) (l : Loaded) (f : Front) → l ≡ loaded_of k s → f ≡ front_of_loaded l → f.refusal ≡ k
+pub front_refusal : (k : ℕ) (s : Scene) (l : LoadSaid) (f : Front) → l ≡ loaded_of k s → f ≡ front_of_loaded l → f.refusal ≡ k
 front_refusal k s l f e g = ap (λ (x : Front). x.refusal) (g ∙ ap front_of_loaded e) ∙ refusal_of_lem k s
 
 -- loaded: how many triangles
-pub record Fronted (s : Scene) (l : Loaded) (f : Front) : Type 0 where
+pub record Fronted (s : Scene) (l : LoadSaid) (f : Front) : Type 0 where
   pub kept : f.kept ≡ length (triangles s)
   pub loaded : l ≡ Triangles f.kept (placings s) f.triples
 
-pub fronted : (k : ℕ) (s : Scene) (l : Loaded) (f : Front) → l ≡ loaded_of k s → f ≡ front_of_loaded l → k ≡ 0 → Fronted s l f
+pub fronted : (k : ℕ) (s : Scene) (l : LoadSaid) (f : Front) → l ≡ loaded_of k s → f ≡ front_of_loaded l → k ≡ 0 → Fronted s l f
 fronted zero s l f e g z =
     let h = g ∙ ap front_of_loaded e in
     let many : f.kept ≡ length (triangles s) = ap (λ (x : Front). x.kept) h in
@@ -70,7 +68,7 @@ fronted zero s l f e g z =
 fronted (suc k) s l f e g z = absurd (omega arith)
 
 -- with a refusal there are none
-pub none_kept : (k : ℕ) (s : Scene) (l : Loaded) (f : Front) → l ≡ loaded_of k s → f ≡ front_of_loaded l → (f.refusal ≡ 0 → ⊥) → f.kept ≡ 0
+pub none_kept : (k : ℕ) (s : Scene) (l : LoadSaid) (f : Front) → l ≡ loaded_of k s → f ≡ front_of_loaded l → (f.refusal ≡ 0 → ⊥) → f.kept ≡ 0
 none_kept zero s l f e g some = absurd (some (front_refusal 0 s l f e g))
 none_kept (suc k) s l f e g some = ap (λ (x : Front). x.kept) (g ∙ ap front_of_loaded e)
 

@@ -6,11 +6,10 @@ use Prim.Native.Nat.{ℕ, ◌≤◌}
 use native.Mathlib.Omega.{arith}
 use borrow.Author.Tests.{ltb-false, not-false}
 use Rattle.scene.specs.declared.Settings.{Settings}
-use Rattle.scene.specs.declared.Checked.TheVariants.{Accepted}
 use Rattle.scene.specs.Scene.{Scene, headers}
 use Rattle.scene.specs.Limits.{settings_of, most_triples}
 use Rattle.scene.specs.Areas.{short_of, RoomyIn}
-use Rattle.scene.specs.Refusals.{refusal1, refusal2, refusal3, refusal4, refusal5, first, answer, first_of_five, check_of, lengths_are_right, has_unknown_handle, triples_in}
+use Rattle.scene.specs.Refusals.{refusal1, refusal2, refusal3, refusal4, refusal5, first, Accepted, answer, first_of_five, check_of, lengths_are_right, has_unknown_handle, triples_in}
 use Rattle.scene.proofs.Rooms.{rooms}
 
 -- none of the refusals 1 to 5 applies, and the scene has t whole triples

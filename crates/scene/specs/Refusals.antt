@@ -1,8 +1,8 @@
 -- The refusals 1 to 5, each in document 01's words and decided as if the others were not there, and the first that applies.
-use Rattle.std.specs.Prelude.{ℕ, zero, suc, ◌*◌, ltb, eqb, length, Bool, false, cond, not, ◌&&◌, ◌||◌, List, [], ◌∷◌}
+use Rattle.std.specs.Prelude.{ℕ, zero, suc, ◌*◌, ltb, eqb, length, Bool, false, cond, not, ◌&&◌, ◌||◌, List, [], ◌∷◌, Result, Ok, Err}
+use Rattle.refusals.specs.declared.Refusal.{Refusal}
+use Rattle.refusals.specs.Numbers.{number_of}
 use Rattle.scene.specs.declared.Settings.{Settings}
-use Rattle.scene.specs.declared.Checked.{Checked}
-use Rattle.scene.specs.declared.Checked.TheVariants.{Refused, Accepted}
 use Rattle.scene.specs.Limits.{settings_of, most_triples}
 use Rattle.scene.specs.Areas.{short_of}
 use Rattle.scene.specs.Scene.{Scene, Header, headers, vertex_sum, index_sum, triple_sum}
@@ -63,6 +63,16 @@ first k (b ∷ bs) = cond b k (first (suc k) bs)
 
 unfoldable pub first_of_five : Settings → ℕ → Scene → List ℕ → ℕ
 first_of_five st c s lens = first 1 (refusal1 st c ∷ refusal2 s ∷ refusal3 s ∷ refusal4 s ∷ refusal5 s c lens ∷ [])
+
+-- what is answered: a refusal's number, or the count of whole triples
+pub data Checked : Type 0 where
+  Refused : ℕ → Checked
+  Accepted : ℕ → Checked
+
+-- that of a result
+abbrev pub checked : Result ℕ Refusal → Checked
+checked (Ok t) = Accepted t
+checked (Err r) = Refused (number_of r)
 
 -- the answer with a refusal's number, or with the count of whole triples
 abbrev pub answer : ℕ → ℕ → Checked

@@ -8,10 +8,11 @@ ghost use Rattle.scene.specs.Limits.{probe_settings_of, air_number_of, low_air_o
 ghost use Rattle.scene.specs.Speed.{speed_of};
 ghost use Rattle.scene.specs.Scene.{scene, headers, triple_sum};
 ghost use Rattle.scene.specs.Areas.{short_of};
-ghost use Rattle.scene.specs.Refusals.{meshes_are_whole, transforms_are_right, positions_are_right, indices_are_right, materials_are_right, lengths_right_of, has_unknown_handle, check_of};
+ghost use Rattle.scene.specs.Refusals.{meshes_are_whole, transforms_are_right, positions_are_right, indices_are_right, materials_are_right, lengths_right_of, has_unknown_handle, check_of, checked};
 
 use air::Air;
 use bands::DistanceModel;
+use refusals::Refusal;
 
 // The settings of a query, by the Rust's names. `plane_merge_angle_deg` is its cosine, and whether it is above 0. `crossing_limit` and `probe_radius` are
 // the Rust's constants `OCCLUSION_MAX_CROSSINGS` and `REFLECTION_VISIBILITY_RADIUS`; `air` is what the air takes in each band.
@@ -32,13 +33,6 @@ pub struct Settings {
     pub crossing_limit: u32,
     pub probe_radius: f32,
     pub air: Air,
-}
-
-// The first refusal of 1 to 5 that applies, or how many whole triples the scene has.
-#[derive(Clone, Copy)]
-pub enum Checked {
-    Refused(u32),
-    Accepted(usize),
 }
 
 const MOST_PLANES: u32 = sequences::MAX_PLANES as u32;
@@ -455,7 +449,7 @@ fn areas_short(t: usize, c: u32, lens: [usize; AREAS]) -> bool
     false
 }
 
-// The lowest of the refusals 1 to 5 that applies.
+// The lowest of the refusals 1 to 5 that applies, or how many whole triples the scene has.
 pub fn check(
     settings: Settings,
     c: u32,
@@ -466,32 +460,32 @@ pub fn check(
     materials: &[f32],
     rows: u32,
     lens: [usize; AREAS],
-) -> Checked
-    ensures { result ≡ check_of settings c
+) -> Result<usize, Refusal>
+    ensures { checked result ≡ check_of settings c
         (scene meshes.now transforms.now positions.now indices.now materials.now rows) lens }
 {
-    if within_limits(settings, c) {
-        if lengths_right(
-            meshes,
-            transforms.len(),
-            positions.len(),
-            indices.len(),
-            materials.len(),
-            rows,
-        ) {
-            if unknown_handle(meshes, rows) {
-                return Checked::Refused(3);
-            }
-            let t = whole_triples(meshes);
-            if t > MOST_TRIPLES {
-                return Checked::Refused(4);
-            }
-            if areas_short(t, c, lens) {
-                return Checked::Refused(5);
-            }
-            return Checked::Accepted(t);
-        }
-        return Checked::Refused(2);
+    if !within_limits(settings, c) {
+        return Err(Refusal::Settings);
     }
-    Checked::Refused(1)
+    if !lengths_right(
+        meshes,
+        transforms.len(),
+        positions.len(),
+        indices.len(),
+        materials.len(),
+        rows,
+    ) {
+        return Err(Refusal::Lengths);
+    }
+    if unknown_handle(meshes, rows) {
+        return Err(Refusal::Material);
+    }
+    let t = whole_triples(meshes);
+    if t > MOST_TRIPLES {
+        return Err(Refusal::Triangles);
+    }
+    if areas_short(t, c, lens) {
+        return Err(Refusal::Areas);
+    }
+    Ok(t)
 }

@@ -22,9 +22,7 @@ use Rattle.scene.specs.Limits.{most_triples}
 use Rattle.scene.specs.Refusals.{refusal1, refusal2, refusal3, refusal4, refusal5, first, triples_in, lengths_are_right, lengths_right_of, meshes_are_whole, transforms_are_right, positions_are_right, indices_are_right, materials_are_right}
 use Rattle.placing.specs.Corners.{refusal6, corners, triangles}
 use Rattle.placing.specs.Passing.{Reads}
-use Rattle.placing.specs.Loading.{first_refusal, loaded_of, Loading}
-use Rattle.placing.specs.declared.Loaded.{Loaded}
-use Rattle.placing.specs.declared.Loaded.TheVariants.{Triangles}
+use Rattle.placing.specs.Loading.{first_refusal, LoadSaid, Triangles, loaded_of, Loading}
 use Rattle.placing.proofs.Passes.{whole_triples_lem}
 use Rattle.placing.proofs.Accepts.{fits, few}
 use Rattle.tree_build.specs.Tree.{count_to, build_of, max_depth}
@@ -86,7 +84,7 @@ told (suc k) s m p n e = let z : ◌≡◌ {A = ℕ} 0 1 = cc in absurd (omega a
 
 -- `SceneLoaded`, from what `load_scene` ensures
 pub loaded :
-    (st : Settings) (c : ℕ) (s : Scene) (a : List ℕ) (columns₀ : List Float) (handles₀ : List ℕ) (r : Loaded) (columns : List Float) (handles : List ℕ) (m p n : ℕ) →
+    (st : Settings) (c : ℕ) (s : Scene) (a : List ℕ) (columns₀ : List Float) (handles₀ : List ℕ) (r : LoadSaid) (columns : List Float) (handles : List ℕ) (m p n : ℕ) →
     r ≡ Triangles m p n → Loading (first_refusal st c s a) s columns₀ handles₀ r columns handles → SceneLoaded s columns handles n m
 loaded st c s a columns₀ handles₀ r columns handles m p n e l =
     record {
@@ -96,7 +94,7 @@ loaded st c s a columns₀ handles₀ r columns handles m p n e l =
       found_columns = columns₀;
       found_handles = handles₀;
       placings = p;
-      loading = subst (λ (q : Loaded). Loading (first_refusal st c s a) s columns₀ handles₀ q columns handles) e l;
+      loading = subst (λ (q : LoadSaid). Loading (first_refusal st c s a) s columns₀ handles₀ q columns handles) e l;
     }
 
 -- what is left of it: the counts, what no refusal says of the scene, and the reading of the areas as found

@@ -6,8 +6,7 @@ use Rattle.columns.specs.Columns.{column_count, triangle_at_of}
 use Rattle.scene.specs.declared.Settings.{Settings}
 use Rattle.scene.specs.Scene.{Scene}
 use Rattle.placing.specs.Corners.{triangles}
-use Rattle.placing.specs.Loading.{first_refusal, Loading}
-use Rattle.placing.specs.declared.Loaded.TheVariants.{Triangles}
+use Rattle.placing.specs.Loading.{Triangles, first_refusal, Loading}
 use Rattle.tree_build.specs.Tree.{Tree, build_of}
 use Rattle.tree_trace.specs.Trace.{Held}
 use Rattle.planes_patches.specs.Triangles.{nth_triangle, box_of, triangles_in}

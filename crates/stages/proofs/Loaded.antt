@@ -9,9 +9,7 @@ use lib.Ieee.{Float}
 use mathlib.Core.Bool.{false}
 use lib.ListN.{set}
 use Rattle.scene.specs.Scene.{Scene}
-use Rattle.placing.specs.declared.Loaded.{Loaded}
-use Rattle.placing.specs.declared.Loaded.TheVariants.{Refused, Triangles}
-use Rattle.placing.specs.Loading.{loaded_of, Loading}
+use Rattle.placing.specs.Loading.{LoadSaid, Refused, Triangles, loaded_of, Loading}
 use Rattle.placing.proofs.Accepts.{counted}
 use Rattle.stages.specs.Loads.{Loads}
 
@@ -25,7 +23,7 @@ not_zero zero j s e z = let o : ◌≡◌ {A = ℕ} 0 1 = cc in absurd (omega ar
 not_zero (suc k) j s e z = omega arith
 
 module _
-    (k : ℕ) (s : Scene) (columns : List Float) (handles found : List ℕ) (r : Loaded) (columns' : List Float) (handles' : List ℕ)
+    (k : ℕ) (s : Scene) (columns : List Float) (handles found : List ℕ) (r : LoadSaid) (columns' : List Float) (handles' : List ℕ)
     (l : Loading k s columns handles r columns' handles')
   where
     pub loads_refused : (j : ℕ) → r ≡ Refused j → Loads k s columns handles found j columns' handles' found

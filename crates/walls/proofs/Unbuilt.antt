@@ -14,8 +14,7 @@ use Rattle.scene.specs.Scene.{Scene}
 use Rattle.scene.specs.Refusals.{triples_in}
 use Rattle.placing.specs.Corners.{triangles}
 use Rattle.placing.specs.Passing.{put_all, put_handles}
-use Rattle.placing.specs.Loading.{left, Loading}
-use Rattle.placing.specs.declared.Loaded.{Loaded}
+use Rattle.placing.specs.Loading.{LoadSaid, left, Loading}
 use Rattle.query.specs.Areas.{Work}
 use Rattle.walls.specs.Walls.{with_scene, unbuilt_of}
 
@@ -40,7 +39,7 @@ both_unbuilt true w columns handles = refl
 both_unbuilt false w columns handles = refl
 
 pub work_unbuilt :
-    (k : ℕ) (s : Scene) (w : Work) (r : Loaded) (columns' : List Float) (handles' : List ℕ) → Loading k s w.triangles w.handles r columns' handles' → (k ≡ 0 → length (triangles s) ≡ 0) →
+    (k : ℕ) (s : Scene) (w : Work) (r : LoadSaid) (columns' : List Float) (handles' : List ℕ) → Loading k s w.triangles w.handles r columns' handles' → (k ≡ 0 → length (triangles s) ≡ 0) →
     ◌≡◌ {A = Work} (with_scene w columns' handles') (unbuilt_of k w)
 work_unbuilt k s w r columns' handles' l none =
     let cs : columns' ≡ cond (eqb k 6) (replicate (length w.triangles) zero32) w.triangles =

@@ -7,7 +7,7 @@ use lib.ListN.{length}
 use native.Mathlib.Omega.{arith}
 use Rattle.scene.specs.Scene.{scene}
 use Rattle.placing.specs.Corners.{placings}
-use Rattle.placing.specs.Loading.{first_refusal}
+use Rattle.placing.specs.Loading.{load_said, first_refusal}
 use Rattle.placing.proofs.Accepts.{loaded_accepted}
 use Rattle.scene_bvh.proofs.Scenes.{loaded, limits}
 use Rattle.claim.specs.Query.{refused}
@@ -34,7 +34,7 @@ returns-then-early c = let a = c.args in let st = a.settings in let s = scene a.
     let lens = lengths_of w a.out.now in
     let k = first_refusal st a.c s lens in
     let l = c.load_scene-loaded.ensures in
-    let is = front_refusal k s c.load_scene-loaded.result c.front_of-front.result l.answer c.front_of-front.ensures in
+    let is = front_refusal k s (load_said c.load_scene-loaded.result) c.front_of-front.result l.answer c.front_of-front.ensures in
     let e : early_of k ≡ true = sym (ap (λ (j : ℕ). early_of j) is) ∙ sym c.early.ensures ∙ c.if-early.true in
     let some = early_some k e in
     let less = early_less k e in
@@ -52,11 +52,11 @@ answer_loaded-requires c =
     let lens = lengths_of w a.out.now in
     let k = first_refusal st a.c s lens in
     let l = c.load_scene-loaded.ensures in
-    let is = front_refusal k s c.load_scene-loaded.result c.front_of-front.result l.answer c.front_of-front.ensures in record {
+    let is = front_refusal k s (load_said c.load_scene-loaded.result) c.front_of-front.result l.answer c.front_of-front.ensures in record {
       ready = λ none.
-          let fr = fronted k s c.load_scene-loaded.result c.front_of-front.result l.answer c.front_of-front.ensures (sym is ∙ none) in
-          let there = loaded st a.c s lens a.triangles.now a.handles.now c.load_scene-loaded.result c.load_scene-loaded.new.triangles c.load_scene-loaded.new.handles c.front_of-front.result.kept (placings s) c.front_of-front.result.triples fr.loaded l in
-          let acc = loaded_accepted st a.c s lens a.triangles.now a.handles.now c.load_scene-loaded.result c.load_scene-loaded.new.triangles c.load_scene-loaded.new.handles c.front_of-front.result.kept (placings s) c.front_of-front.result.triples l fr.loaded in
+          let fr = fronted k s (load_said c.load_scene-loaded.result) c.front_of-front.result l.answer c.front_of-front.ensures (sym is ∙ none) in
+          let there = loaded st a.c s lens a.triangles.now a.handles.now (load_said c.load_scene-loaded.result) c.load_scene-loaded.new.triangles c.load_scene-loaded.new.handles c.front_of-front.result.kept (placings s) c.front_of-front.result.triples fr.loaded l in
+          let acc = loaded_accepted st a.c s lens a.triangles.now a.handles.now (load_said c.load_scene-loaded.result) c.load_scene-loaded.new.triangles c.load_scene-loaded.new.handles c.front_of-front.result.kept (placings s) c.front_of-front.result.triples l fr.loaded in
           let room = acc.room in
           let lim = limits s c.load_scene-loaded.new.triangles c.load_scene-loaded.new.handles c.front_of-front.result.triples c.front_of-front.result.kept there in
           let inside = within st a.c acc.settings in
@@ -97,7 +97,7 @@ answer_loaded-requires c =
               out_room = room.output_room;
             };
           };
-      m_value = none_kept k s c.load_scene-loaded.result c.front_of-front.result l.answer c.front_of-front.ensures;
+      m_value = none_kept k s (load_said c.load_scene-loaded.result) c.front_of-front.result l.answer c.front_of-front.ensures;
     }
 
 pub shape_of-triangles : goal.shape_of-triangles
@@ -166,7 +166,7 @@ returns c = let a = c.args in let st = a.settings in let s = scene a.meshes.now 
     let lens = lengths_of w a.out.now in
     let k = first_refusal st a.c s lens in
     let l = c.load_scene-loaded.ensures in
-    let is = front_refusal k s c.load_scene-loaded.result c.front_of-front.result l.answer c.front_of-front.ensures in
+    let is = front_refusal k s (load_said c.load_scene-loaded.result) c.front_of-front.result l.answer c.front_of-front.ensures in
     let e : early_of k ≡ false = sym (ap (λ (j : ℕ). early_of j) is) ∙ sym
     c.early.ensures ∙ c.if-early.false in
     let left = work c.answer_loaded.new.triangles c.answer_loaded.new.handles c.answer_loaded.new.tree c.answer_loaded.new.nodes c.answer_loaded.new.leaf_order c.answer_loaded.new.keys c.answer_loaded.new.low_keys c.answer_loaded.new.words c.answer_loaded.new.scratch c.answer_loaded.new.index c.answer_loaded.new.numbers c.answer_loaded.new.adjacency
@@ -174,10 +174,10 @@ returns c = let a = c.args in let st = a.settings in let s = scene a.meshes.now 
     c.answer_loaded.new.plane_edges in
     traced st a.c s a.source a.listener a.separated c.answer_loaded.result a.out.now c.answer_loaded.new.out w left
     (loaded_answers st a.c s lens a.source a.listener a.separated c.front_of-front.result.refusal c.front_of-front.result.kept c.answer_loaded.result a.out.now c.answer_loaded.new.out is
-    (λ none. let fr = fronted k s c.load_scene-loaded.result c.front_of-front.result l.answer c.front_of-front.ensures (sym is ∙ none) in fr.kept)
+    (λ none. let fr = fronted k s (load_said c.load_scene-loaded.result) c.front_of-front.result l.answer c.front_of-front.ensures (sym is ∙ none) in fr.kept)
     (c.answer_loaded.ensures.answers_loaded.over s (λ none.
-    let fr = fronted k s c.load_scene-loaded.result c.front_of-front.result l.answer c.front_of-front.ensures (sym is ∙ none) in
-    let there = loaded st a.c s lens a.triangles.now a.handles.now c.load_scene-loaded.result c.load_scene-loaded.new.triangles c.load_scene-loaded.new.handles c.front_of-front.result.kept (placings s) c.front_of-front.result.triples fr.loaded l in there) refl))
+    let fr = fronted k s (load_said c.load_scene-loaded.result) c.front_of-front.result l.answer c.front_of-front.ensures (sym is ∙ none) in
+    let there = loaded st a.c s lens a.triangles.now a.handles.now (load_said c.load_scene-loaded.result) c.load_scene-loaded.new.triangles c.load_scene-loaded.new.handles c.front_of-front.result.kept (placings s) c.front_of-front.result.triples fr.loaded l in there) refl))
     (work_cleared k w left (all_zero w left c.answer_loaded.ensures.planes_zero c.answer_loaded.ensures.scene_zero record {
       triangles_same = ◌∙◌ {b = length c.load_scene-loaded.new.triangles} c.answer_loaded.auto.triangles c.load_scene-loaded.auto.triangles;
       handles_same = ◌∙◌ {b = length c.load_scene-loaded.new.handles} c.answer_loaded.auto.handles c.load_scene-loaded.auto.handles;

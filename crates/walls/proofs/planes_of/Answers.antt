@@ -5,7 +5,7 @@ use native.Mathlib.Omega.{arith}
 use native.Mathlib.Nat.{pos_of_ne-zero}
 use Rattle.scene.specs.Scene.{scene}
 use Rattle.placing.specs.Corners.{placings}
-use Rattle.placing.specs.Loading.{first_refusal}
+use Rattle.placing.specs.Loading.{load_said, first_refusal}
 use Rattle.placing.proofs.Accepts.{loaded_accepted}
 use Rattle.scene_bvh.proofs.Scenes.{loaded, limits}
 use Rattle.answer.proofs.Silence.{unrefused}
@@ -30,13 +30,13 @@ returns-then-front-eq0 c = let a = c.args in let st = a.settings in let s = scen
     let lens = lens_of areas in
     let k = first_refusal st a.c s lens in
     let l = c.load_scene-loaded.ensures in
-    let is = front_refusal k s c.load_scene-loaded.result c.front_of-front.result l.answer c.front_of-front.ensures in
+    let is = front_refusal k s (load_said c.load_scene-loaded.result) c.front_of-front.result l.answer c.front_of-front.ensures in
     record {
       refusal = is;
-      are = λ z some. absurd (let fr = fronted k s c.load_scene-loaded.result c.front_of-front.result l.answer c.front_of-front.ensures z in let no : ⊥ = omega (arith, fr.kept, some, c.if-front-eq0.true) in no);
+      are = λ z some. absurd (let fr = fronted k s (load_said c.load_scene-loaded.result) c.front_of-front.result l.answer c.front_of-front.ensures z in let no : ⊥ = omega (arith, fr.kept, some, c.if-front-eq0.true) in no);
       refused = λ no_answer. refl;
       bare = λ empty. refl;
-      unbuilt = λ empty. work_unbuilt k s areas c.load_scene-loaded.result c.load_scene-loaded.new.triangles c.load_scene-loaded.new.handles l empty;
+      unbuilt = λ empty. work_unbuilt k s areas (load_said c.load_scene-loaded.result) c.load_scene-loaded.new.triangles c.load_scene-loaded.new.handles l empty;
       few = omega arith;
       floats_room = omega arith;
       words_room = omega arith;
@@ -48,12 +48,12 @@ clear_from-requires c = let a = c.args in let st = a.settings in let s = scene a
     let lens = lens_of areas in
     let k = first_refusal st a.c s lens in
     let l = c.load_scene-loaded.ensures in
-    let is = front_refusal k s c.load_scene-loaded.result c.front_of-front.result l.answer c.front_of-front.ensures in
+    let is = front_refusal k s (load_said c.load_scene-loaded.result) c.front_of-front.result l.answer c.front_of-front.ensures in
     let some = pos_of_ne-zero c.if-front-eq0.false in
-    let none = unrefused c.front_of-front.result.refusal c.front_of-front.result.kept (none_kept k s c.load_scene-loaded.result c.front_of-front.result l.answer c.front_of-front.ensures) some in
-    let fr = fronted k s c.load_scene-loaded.result c.front_of-front.result l.answer c.front_of-front.ensures (sym is ∙ none) in
-    let there = loaded st a.c s lens a.triangles.now a.handles.now c.load_scene-loaded.result c.load_scene-loaded.new.triangles c.load_scene-loaded.new.handles c.front_of-front.result.kept (placings s) c.front_of-front.result.triples fr.loaded l in
-    let acc = loaded_accepted st a.c s lens a.triangles.now a.handles.now c.load_scene-loaded.result c.load_scene-loaded.new.triangles c.load_scene-loaded.new.handles c.front_of-front.result.kept (placings s) c.front_of-front.result.triples l fr.loaded in
+    let none = unrefused c.front_of-front.result.refusal c.front_of-front.result.kept (none_kept k s (load_said c.load_scene-loaded.result) c.front_of-front.result l.answer c.front_of-front.ensures) some in
+    let fr = fronted k s (load_said c.load_scene-loaded.result) c.front_of-front.result l.answer c.front_of-front.ensures (sym is ∙ none) in
+    let there = loaded st a.c s lens a.triangles.now a.handles.now (load_said c.load_scene-loaded.result) c.load_scene-loaded.new.triangles c.load_scene-loaded.new.handles c.front_of-front.result.kept (placings s) c.front_of-front.result.triples fr.loaded l in
+    let acc = loaded_accepted st a.c s lens a.triangles.now a.handles.now (load_said c.load_scene-loaded.result) c.load_scene-loaded.new.triangles c.load_scene-loaded.new.handles c.front_of-front.result.kept (placings s) c.front_of-front.result.triples l fr.loaded in
     let room = acc.room in
     let lim = limits s c.load_scene-loaded.new.triangles c.load_scene-loaded.new.handles c.front_of-front.result.triples c.front_of-front.result.kept there in omega (arith, lim.fewer, c.load_scene-loaded.auto.handles, room.handles_room)
 
@@ -63,12 +63,12 @@ build_scene-built-requires c = let a = c.args in let st = a.settings in let s = 
     let lens = lens_of areas in
     let k = first_refusal st a.c s lens in
     let l = c.load_scene-loaded.ensures in
-    let is = front_refusal k s c.load_scene-loaded.result c.front_of-front.result l.answer c.front_of-front.ensures in
+    let is = front_refusal k s (load_said c.load_scene-loaded.result) c.front_of-front.result l.answer c.front_of-front.ensures in
     let some = pos_of_ne-zero c.if-front-eq0.false in
-    let none = unrefused c.front_of-front.result.refusal c.front_of-front.result.kept (none_kept k s c.load_scene-loaded.result c.front_of-front.result l.answer c.front_of-front.ensures) some in
-    let fr = fronted k s c.load_scene-loaded.result c.front_of-front.result l.answer c.front_of-front.ensures (sym is ∙ none) in
-    let there = loaded st a.c s lens a.triangles.now a.handles.now c.load_scene-loaded.result c.load_scene-loaded.new.triangles c.load_scene-loaded.new.handles c.front_of-front.result.kept (placings s) c.front_of-front.result.triples fr.loaded l in
-    let acc = loaded_accepted st a.c s lens a.triangles.now a.handles.now c.load_scene-loaded.result c.load_scene-loaded.new.triangles c.load_scene-loaded.new.handles c.front_of-front.result.kept (placings s) c.front_of-front.result.triples l fr.loaded in
+    let none = unrefused c.front_of-front.result.refusal c.front_of-front.result.kept (none_kept k s (load_said c.load_scene-loaded.result) c.front_of-front.result l.answer c.front_of-front.ensures) some in
+    let fr = fronted k s (load_said c.load_scene-loaded.result) c.front_of-front.result l.answer c.front_of-front.ensures (sym is ∙ none) in
+    let there = loaded st a.c s lens a.triangles.now a.handles.now (load_said c.load_scene-loaded.result) c.load_scene-loaded.new.triangles c.load_scene-loaded.new.handles c.front_of-front.result.kept (placings s) c.front_of-front.result.triples fr.loaded l in
+    let acc = loaded_accepted st a.c s lens a.triangles.now a.handles.now (load_said c.load_scene-loaded.result) c.load_scene-loaded.new.triangles c.load_scene-loaded.new.handles c.front_of-front.result.kept (placings s) c.front_of-front.result.triples l fr.loaded in
     let room = acc.room in
     let lim = limits s c.load_scene-loaded.new.triangles c.load_scene-loaded.new.handles c.front_of-front.result.triples c.front_of-front.result.kept there in record {
       scene = s;
@@ -160,13 +160,13 @@ returns c = let a = c.args in let st = a.settings in let s = scene a.meshes.now 
     let lens = lens_of areas in
     let k = first_refusal st a.c s lens in
     let l = c.load_scene-loaded.ensures in
-    let is = front_refusal k s c.load_scene-loaded.result c.front_of-front.result l.answer c.front_of-front.ensures in
+    let is = front_refusal k s (load_said c.load_scene-loaded.result) c.front_of-front.result l.answer c.front_of-front.ensures in
     let some = pos_of_ne-zero
     c.if-front-eq0.false in
-    let none = unrefused c.front_of-front.result.refusal c.front_of-front.result.kept (none_kept k s c.load_scene-loaded.result c.front_of-front.result l.answer c.front_of-front.ensures) some in
-    let fr = fronted k s c.load_scene-loaded.result c.front_of-front.result l.answer c.front_of-front.ensures (sym is ∙ none) in
-    let there = loaded st a.c s lens a.triangles.now a.handles.now c.load_scene-loaded.result c.load_scene-loaded.new.triangles c.load_scene-loaded.new.handles c.front_of-front.result.kept (placings s) c.front_of-front.result.triples fr.loaded l in
-    let acc = loaded_accepted st a.c s lens a.triangles.now a.handles.now c.load_scene-loaded.result c.load_scene-loaded.new.triangles c.load_scene-loaded.new.handles c.front_of-front.result.kept (placings s) c.front_of-front.result.triples l fr.loaded in
+    let none = unrefused c.front_of-front.result.refusal c.front_of-front.result.kept (none_kept k s (load_said c.load_scene-loaded.result) c.front_of-front.result l.answer c.front_of-front.ensures) some in
+    let fr = fronted k s (load_said c.load_scene-loaded.result) c.front_of-front.result l.answer c.front_of-front.ensures (sym is ∙ none) in
+    let there = loaded st a.c s lens a.triangles.now a.handles.now (load_said c.load_scene-loaded.result) c.load_scene-loaded.new.triangles c.load_scene-loaded.new.handles c.front_of-front.result.kept (placings s) c.front_of-front.result.triples fr.loaded l in
+    let acc = loaded_accepted st a.c s lens a.triangles.now a.handles.now (load_said c.load_scene-loaded.result) c.load_scene-loaded.new.triangles c.load_scene-loaded.new.handles c.front_of-front.result.kept (placings s) c.front_of-front.result.triples l fr.loaded in
     let room = acc.room in let p = c.build_scene-built.ensures.planes_stand in let inside = within st a.c acc.settings in
     record {
       refusal = sym (sym is ∙ none);
