@@ -53,7 +53,6 @@ pub bounds-first-x : goal.bounds-first-x
 unfolding Below
 bounds-first-x c = omega (arith, c.requires.below_2 c.loop-p.p c.loop-p-test.true, c.requires.keys_in_bounds, c.loop-p.invariant.2)
 
-
 pub loop-p-preserved : goal.loop-p-preserved
 unfolding Below
 loop-p-preserved c = let k = key_at c.args.keys.now c.args.low_keys.now in
