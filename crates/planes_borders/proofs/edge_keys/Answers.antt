@@ -19,7 +19,6 @@ overflow_add-t c = let h = c.loop-t-test.true in let p = c.requires.keys_len in 
 pub overflow_mul-t-in-loop-t : goal.overflow_mul-t-in-loop-t
 overflow_mul-t-in-loop-t c = let h = c.loop-t-test.true in let p = c.requires.keys_len in omega arith
 
-
 pub put_key-requires-in-loop-t : goal.put_key-requires-in-loop-t
 put_key-requires-in-loop-t c =
     let h = c.loop-t-test.true in let p = c.requires.keys_len in let x = c.loop-t.invariant.len_hi in let y = c.loop-t.invariant.len_lo in let u = c.put_key.auto.keys in let v = c.put_key.auto.low_keys in (omega arith, omega arith)
@@ -37,8 +36,8 @@ put_key-requires-in-loop-t-2 c =
 pub loop-t-preserved : goal.loop-t-preserved
 loop-t-preserved c =
     let a = c.args in let h = c.loop-t-test.true in let p = c.requires.keys_len in
-      keyed_more a.numbers.now a.n a.of.now a.keys.now a.low_keys.now c.loop-t.keys c.loop-t.low_keys c.put_key.new.keys c.put_key.new.low_keys c.put_key-in-loop-t.new.keys c.put_key-in-loop-t.new.low_keys c.put_key-in-loop-t-2.new.keys c.put_key-in-loop-t-2.new.low_keys c.loop-t.t c.loop-t.invariant (omega arith)
-          (omega arith) (c.put_key.ensures.keys_after, (c.put_key.ensures.low_keys_after, c.put_key.ensures.q_bound)) (c.put_key-in-loop-t.ensures.keys_after, (c.put_key-in-loop-t.ensures.low_keys_after, c.put_key-in-loop-t.ensures.q_bound)) (c.put_key-in-loop-t-2.ensures.keys_after, (c.put_key-in-loop-t-2.ensures.low_keys_after, c.put_key-in-loop-t-2.ensures.q_bound))
+    keyed_more a.numbers.now a.n a.of.now a.keys.now a.low_keys.now c.loop-t.keys c.loop-t.low_keys c.put_key.new.keys c.put_key.new.low_keys c.put_key-in-loop-t.new.keys c.put_key-in-loop-t.new.low_keys c.put_key-in-loop-t-2.new.keys c.put_key-in-loop-t-2.new.low_keys c.loop-t.t c.loop-t.invariant (omega arith)
+    (omega arith) (c.put_key.ensures.keys_after, (c.put_key.ensures.low_keys_after, c.put_key.ensures.q_bound)) (c.put_key-in-loop-t.ensures.keys_after, (c.put_key-in-loop-t.ensures.low_keys_after, c.put_key-in-loop-t.ensures.q_bound)) (c.put_key-in-loop-t-2.ensures.keys_after, (c.put_key-in-loop-t-2.ensures.low_keys_after, c.put_key-in-loop-t-2.ensures.q_bound))
 
 pub shape_of-keys : goal.shape_of-keys
 shape_of-keys c = c.loop-t.invariant.len_hi
