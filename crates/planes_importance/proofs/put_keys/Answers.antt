@@ -81,7 +81,6 @@ offset_bounds-index-g c = omega (arith, c.loop-g-test.true, c.requires.index_len
 pub bounds-index-g : goal.bounds-index-g
 bounds-index-g c = omega (arith, c.loop-g-test.true, c.loop-g.invariant.0.index_long)
 
-
 pub shape_of-keys : goal.shape_of-keys
 shape_of-keys c = c.loop-g.invariant.0.keys_long ∙ sym c.requires.keys_len
 
