@@ -29,8 +29,8 @@ pub struct Walls {
 fn are_flags(on: &[u8]) -> bool
     ensures { result ≡ spec.flags on.now }
 {
-    for i in 0..on.len() {
-        if on[i] > 1 {
+    for byte in on {
+        if *byte > 1 {
             return false;
         }
     }
@@ -50,8 +50,8 @@ fn firsts(on: &[u8]) -> u32
     ensures { result ≡ firsts on.now }
 {
     let mut e = 0;
-    for p in 0..on.len() {
-        e += counts(on[p]);
+    for byte in on {
+        e += counts(*byte);
     }
     e
 }
@@ -116,8 +116,8 @@ fn first_plane(on: &[u8], q: u32) -> u8
     ensures { result ≡ nth (may on.now []) (length on.now) q }
 {
     let mut left = q;
-    for p in 0..on.len() {
-        let c = counts(on[p]);
+    for (p, byte) in on.iter().enumerate() {
+        let c = counts(*byte);
         if left < c {
             return p as u8;
         }

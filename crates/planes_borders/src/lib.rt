@@ -89,8 +89,8 @@ fn count_uses(first: &[u32], uses: &mut [u32])
     ensures { (k : ℕ) → k < length first.now → get_or uses.new k 0 ≡ count_in first.now k (length first.now) }
 {
     uses.fill(0);
-    for e in 0..first.len() {
-        let k = first[e] as usize;
+    for edge in first {
+        let k = *edge as usize;
         uses[k] = uses[k] + 1;
     }
 }
@@ -258,9 +258,8 @@ pub fn put_border(
         (border_in triangles.now n first.now uses.now tris.now) }
 {
     let mut r = at;
-    for k in 0..tris.len() {
-        let t = tris[k];
-        r = put_sides(triangles, n, t as usize, first, uses, plane_edges, r);
+    for t in tris {
+        r = put_sides(triangles, n, *t as usize, first, uses, plane_edges, r);
     }
     r
 }

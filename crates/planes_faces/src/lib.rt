@@ -106,17 +106,11 @@ pub fn higher(a: u32, b: u32) -> u32
     if a <= b { b } else { a }
 }
 
-fn wide(x: u32) -> u64
-    ensures { (result ≡ x) × (result < 4294967296) }
-{
-    x as u64
-}
-
 // x above y
 fn pair(x: u32, y: u32) -> u64
     ensures { result ≡ x * 4294967296 + y }
 {
-    wide(x) * 0x1_0000_0000 + wide(y)
+    x as u64 * 0x1_0000_0000 + y as u64
 }
 
 // The lowest of three above the middle one.
@@ -128,7 +122,7 @@ fn face_hi(a: u32, b: u32, c: u32) -> u64
     let low = lower(p, c);
     let rest = lower(q, c);
     let mid = higher(p, rest);
-    wide(low) * 0x1_0000_0000 + wide(mid)
+    low as u64 * 0x1_0000_0000 + mid as u64
 }
 
 // The highest of three.
@@ -137,7 +131,7 @@ fn face_lo(a: u32, b: u32, c: u32) -> u64
 {
     let q = higher(a, b);
     let high = higher(q, c);
-    wide(high)
+    high as u64
 }
 
 // ---- faces by the numbers of their corners
@@ -201,8 +195,8 @@ fn magnitude(i: u32) -> u32
         return 0;
     }
     if e < 158 {
-        let m = wide(0x80_0000 + i % 0x80_0000);
-        let k = wide(e - 126);
+        let m = (0x80_0000 + i % 0x80_0000) as u64;
+        let k = (e - 126) as u64;
         let moved = m << k;
         return ((moved + 0x80_0000) / 0x100_0000) as u32;
     }
@@ -258,7 +252,7 @@ fn point_keys(
         let y = step(triangles[i + at + n], scale);
         let z = step(triangles[i + at + 2 * n], scale);
         keys[put + i] = pair(x, y);
-        low_keys[put + i] = wide(z);
+        low_keys[put + i] = z as u64;
     }
 }
 

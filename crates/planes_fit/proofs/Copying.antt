@@ -1,47 +1,42 @@
 -- Values copied into an area, and the row of a plane that they make.
-use mathlib.Core.Path.{◌≡◌, refl, sym, ap, ◌∙◌}
+use mathlib.Core.Path.{◌≡◌, refl, ap, ◌∙◌}
 use mathlib.Core.Bool.{Bool, true, false, cond, not}
 use mathlib.Core.Logic.{◌⊎◌, inl, inr, ⊎_elim}
-use mathlib.Core.List.{List}
-use Prim.Native.Nat.{ℕ, ◌+◌, ◌*◌, ◌<◌, ◌≤◌}
-use native.Mathlib.Nat.{not-suc-le-zero}
+use mathlib.Core.List.{List, ◌++◌}
+use Prim.Native.Nat.{ℕ, ◌+◌, ◌-◌, ◌*◌, ◌<◌, ◌≤◌}
 use native.Mathlib.Omega.{arith}
 use lib.Dec.{eqb}
 use lib.Ieee.{Float, nan}
-use lib.ListN.{length, get_or, set, length-set}
-use lib.Seq.{get_or-set_same, get_or-set_other}
+use lib.ListN.{length, get_or, take, drop}
+use lib.Seq.{length-take-le}
+use borrow.Rule.Slice.PartMut.{put_mid}
+use Rattle.std.proofs.lemmas.List.{get_or-append_right, get_or_append_left, get_or-take, get_or-drop}
 use borrow.Author.Tests.{eq-eqb, ne_eqb}
 use Rattle.float.proofs.Numbers.{by_order}
-use Rattle.order.proofs.Stable.{by-eq}
 use Rattle.mirror.specs.declared.PlaneRow.{PlaneRow}
 use Rattle.mirror.specs.Rows.{vec_of_floats, row_of}
 use Rattle.planes_fit.specs.Rows.{floats_of_row, words_of}
 
--- the first k values stand from `at` on, and what is not theirs is as it was
-pub record Copied {A : Type 0} (d : A) (values area₀ area : List A) (at k : ℕ) : Type 0 where
-  pub within : k ≤ length values
-  pub len : length area ≡ length area₀
-  pub done : (j : ℕ) → j < k → get_or area (at + j) d ≡ get_or values j d
-  pub beside : (q : ℕ) → (q < at) ⊎ (at + length values ≤ q) → get_or area q d ≡ get_or area₀ q d
+-- a part of an area that was lent and came back as ys: ys stands there, and what is not of the part is as it was
+module _ {A : Type 0} (at n : ℕ) (area ys : List A) (d : A) (long : length ys ≡ n) (within : at + n ≤ length area) where
+  pub stands : (k : ℕ) → k < n → get_or (put_mid at n area ys) (at + k) d ≡ get_or ys k d
+  stands k h =
+      let size : length (take at area) ≡ at = length-take-le at area (omega (arith, within)) in
+      get_or-append_right (take at area) (ys ++ drop n (drop at area)) at (at + k) d size (omega arith)
+      ∙ ap (λ (i : ℕ). get_or (ys ++ drop n (drop at area)) i d) (let e : at + k - at ≡ k = omega arith in e)
+      ∙ get_or_append_left ys (drop n (drop at area)) d k (omega (arith, long, h))
 
-pub copied_none : {A : Type 0} (d : A) (values area : List A) (at : ℕ) → Copied d values area area at 0
-copied_none d values area at = record { within = omega arith; len = refl; done = λ j l. absurd (not-suc-le-zero l); beside = λ q w. refl }
-
-pub copied_more :
-    {A : Type 0} (d : A) (values area₀ area : List A) (at k : ℕ) (v : A) → Copied d values area₀ area at k → k < length values → at + length values ≤ length area₀ → v ≡ get_or values k d →
-    Copied d values area₀ (set area (at + k) v) at (k + 1)
-copied_more d values area₀ area at k v f h room e =
-    let len = f.len in
-    let inside : at + k < length area = omega arith in
-    record {
-      within = omega arith;
-      len = length-set area (at + k) v ∙ f.len;
-      done = λ j l.
-          by-eq j k
-          (λ s. ap (λ (i : ℕ). get_or (set area (at + k) v) (at + i) d) s ∙ get_or-set_same area (at + k) v d inside ∙ e ∙ ap (λ (i : ℕ). get_or values i d) (sym s))
-          (λ n. get_or-set_other area (at + k) (at + j) v d (λ w. n (omega arith)) ∙ f.done j (by_order k j (λ u. absurd (n (omega arith))) (λ u. u)));
-      beside = λ q w. get_or-set_other area (at + k) q v d (λ s. ⊎_elim (λ u. absurd (omega arith)) (λ u. absurd (omega arith)) w) ∙ f.beside q w;
-    }
+  pub beside : (q : ℕ) → (q < at) ⊎ (at + n ≤ q) → get_or (put_mid at n area ys) q d ≡ get_or area q d
+  beside q = ⊎_elim
+      (λ h.
+      let size : length (take at area) ≡ at = length-take-le at area (omega (arith, within)) in
+      get_or_append_left (take at area) (ys ++ drop n (drop at area)) d q (omega (arith, size, h)) ∙ get_or-take at area q d h)
+      (λ h.
+      let size : length (take at area) ≡ at = length-take-le at area (omega (arith, within)) in
+      get_or-append_right (take at area) (ys ++ drop n (drop at area)) at q d size (omega arith)
+      ∙ get_or-append_right ys (drop n (drop at area)) n (q - at) d long (omega (arith, h))
+      ∙ get_or-drop n (drop at area) (q - at - n) d ∙ get_or-drop at area (n + (q - at - n)) d
+      ∙ ap (λ (i : ℕ). get_or area i d) (let e : at + (n + (q - at - n)) ≡ q = omega (arith, h) in e))
 
 -- ---- the row of a plane
 

@@ -297,32 +297,12 @@ fn name_planes(of: &[u32], m: usize, group_of: &[u32], plane_of: &mut [u32])
 fn unpack(words: &mut [u32])
     ensures { words.new ≡ lows words.old }
 {
-    for i in 0..words.len() {
-        words[i] = words[i] % 4096;
+    for word in words.iter_mut() {
+        *word %= 4096;
     }
 }
 
 // ---- storing planes
-
-fn copy_f32(values: &[f32], area: &mut [f32], at: usize)
-    requires { at + length values.now ≤ length area.old }
-    ensures by_index { (k : ℕ) → k < length values.now → get_or area.new (at + k) nan ≡ get_or values.now k nan }
-    ensures by_index_2 { (q : ℕ) → (q < at) ⊎ (at + length values.now ≤ q) → get_or area.new q nan ≡ get_or area.old q nan }
-{
-    for k in 0..values.len() {
-        area[at + k] = values[k];
-    }
-}
-
-fn copy_u32(values: &[u32], area: &mut [u32], at: usize)
-    requires { at + length values.now ≤ length area.old }
-    ensures by_index { (k : ℕ) → k < length values.now → get_or area.new (at + k) 0 ≡ get_or values.now k 0 }
-    ensures by_index_2 { (q : ℕ) → (q < at) ⊎ (at + length values.now ≤ q) → get_or area.new q 0 ≡ get_or area.old q 0 }
-{
-    for k in 0..values.len() {
-        area[at + k] = values[k];
-    }
-}
 
 fn floats_of(r: PlaneRow) -> [f32; 12]
     ensures { result ≡ floats_of_row r }
@@ -377,8 +357,8 @@ pub fn put_plane(plane_floats: &mut [f32], plane_words: &mut [u32], g: usize, r:
 {
     let reals = floats_of(r);
     let counts = words_of(r);
-    copy_f32(&reals, plane_floats, 12 * g);
-    copy_u32(&counts, plane_words, 5 * g);
+    plane_floats[12 * g..12 * g + 12].copy_from_slice(&reals);
+    plane_words[5 * g..5 * g + 5].copy_from_slice(&counts);
 }
 
 // ---- all planes

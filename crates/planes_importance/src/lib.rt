@@ -131,8 +131,8 @@ fn moments_of(triangles: &[f32], handles: &[u32], n: usize, tris: &[u32]) -> Mom
         sum: zero,
         weight: 0.0,
     };
-    for k in 0..tris.len() {
-        let i = tris[k] as usize;
+    for t in tris {
+        let i = *t as usize;
         s = add_moment(s, columns::triangle_at(triangles, handles, n, i));
     }
     s

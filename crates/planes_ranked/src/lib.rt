@@ -76,8 +76,8 @@ fn put_ranked(
         (length index.now) }
 {
     let mut at = 0;
-    for r in 0..index.len() {
-        let plane = mirror::plane_at(group_floats, group_words, index[r] as usize);
+    for (r, number) in index.iter().enumerate() {
+        let plane = mirror::plane_at(group_floats, group_words, *number as usize);
         let p = bordered(
             triangles,
             n,

@@ -305,12 +305,6 @@ fn within_limits(s: Settings, c: u32) -> bool
 
 // ---- 2 to 4, the scene
 
-fn wide(x: u32) -> usize
-    ensures { (result ≡ x) × (result < 4294967296) }
-{
-    x as usize
-}
-
 fn meshes_whole(meshes: &[u32]) -> bool
     ensures { result ≡ meshes_are_whole meshes.now }
 {
@@ -336,14 +330,12 @@ fn positions_right(meshes: &[u32], n: usize) -> bool
     ensures { result ≡ positions_are_right meshes.now n }
 {
     let mut left = n;
-    let mut at = 0;
-    while meshes.len() - at >= 3 {
-        let v = wide(meshes[at]);
+    for i in 0..meshes.len() / 3 {
+        let v = meshes[3 * i] as usize;
         if left < 3 * v {
             return false;
         }
         left -= 3 * v;
-        at += 3;
     }
     if left == 0 {
         return true;
@@ -356,14 +348,12 @@ fn indices_right(meshes: &[u32], n: usize) -> bool
     ensures { result ≡ indices_are_right meshes.now n }
 {
     let mut left = n;
-    let mut at = 0;
-    while meshes.len() - at >= 3 {
-        let k = wide(meshes[at + 1]);
+    for i in 0..meshes.len() / 3 {
+        let k = meshes[3 * i + 1] as usize;
         if left < k {
             return false;
         }
         left -= k;
-        at += 3;
     }
     if left == 0 {
         return true;
@@ -374,7 +364,7 @@ fn indices_right(meshes: &[u32], n: usize) -> bool
 fn materials_right(rows: u32, n: usize) -> bool
     ensures { result ≡ materials_are_right rows n }
 {
-    if n == 16 * wide(rows) {
+    if n == 16 * rows as usize {
         return true;
     }
     false
@@ -383,13 +373,11 @@ fn materials_right(rows: u32, n: usize) -> bool
 fn unknown_handle(meshes: &[u32], rows: u32) -> bool
     ensures { result ≡ has_unknown_handle rows (headers meshes.now) }
 {
-    let mut at = 0;
-    while meshes.len() - at >= 3 {
-        let h = meshes[at + 2];
+    for i in 0..meshes.len() / 3 {
+        let h = meshes[3 * i + 2];
         if h >= rows {
             return true;
         }
-        at += 3;
     }
     false
 }
@@ -399,14 +387,12 @@ fn whole_triples(meshes: &[u32]) -> usize
     ensures { result ≡ min (most_triples + 1) (triple_sum (headers meshes.now)) }
 {
     let mut t = 0;
-    let mut at = 0;
-    while meshes.len() - at >= 3 {
-        let k = wide(meshes[at + 1]) / 3;
+    for i in 0..meshes.len() / 3 {
+        let k = meshes[3 * i + 1] as usize / 3;
         if k > MOST_TRIPLES - t {
             return TOO_MANY_TRIPLES;
         }
         t += k;
-        at += 3;
     }
     t
 }
@@ -440,7 +426,7 @@ fn areas_short(t: usize, c: u32, lens: [usize; AREAS]) -> bool
     requires { t ≤ most_triples }
     ensures { result ≡ short_of t c lens }
 {
-    let room = wide(c);
+    let room = c as usize;
     for i in 0..AREAS {
         if lens[i] < TRIPLES[i] * t + CANDIDATES[i] * room + MORE[i] {
             return true;

@@ -5,5 +5,5 @@ use lib.ListN.{length, drop}
 use Rattle.numbering.specs.Walls.{flags}
 use Rattle.numbering.proofs.are_flags.Given as goal
 
-abbrev pub invariant-loop-i : goal.invariant-loop-i
-invariant-loop-i l = (l.i ≤ length l.on) × (flags (drop l.i l.on) ≡ flags l.on)
+abbrev pub invariant-loop-byte : goal.invariant-loop-byte
+invariant-loop-byte l = (l.byte-index ≤ length l.on) × (flags (drop l.byte-index l.on) ≡ flags l.on)

@@ -7,5 +7,5 @@ use Rattle.sequences.specs.Allowed.{may}
 use Rattle.sequences.specs.Count.{count}
 use Rattle.numbering.proofs.firsts.Given as goal
 
-abbrev pub invariant-loop-p : goal.invariant-loop-p
-invariant-loop-p l = (l.p ≤ length l.on) × (l.e ≡ count (may l.on []) l.p)
+abbrev pub invariant-loop-byte : goal.invariant-loop-byte
+invariant-loop-byte l = (l.byte-index ≤ length l.on) × (l.e ≡ count (may l.on []) l.byte-index)

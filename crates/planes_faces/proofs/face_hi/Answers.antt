@@ -23,17 +23,9 @@ pub higher-mid-requires : goal.higher-mid-requires
 unfolding lowest middle
 higher-mid-requires c = search rules
 
-pub wide-requires : goal.wide-requires
-unfolding lowest middle
-wide-requires c = search rules
-
 pub overflow_mul-result : goal.overflow_mul-result
 unfolding lowest middle
 overflow_mul-result c = search rules
-
-pub wide-requires-2 : goal.wide-requires-2
-unfolding lowest middle
-wide-requires-2 c = search rules
 
 pub overflow_add-result : goal.overflow_add-result
 unfolding lowest middle
@@ -41,4 +33,4 @@ overflow_add-result c = search rules
 
 pub returns : goal.returns
 unfolding lowest middle
-returns c = rw (c.wide.ensures.0, c.wide-2.ensures.0, c.lower-low.ensures, c.higher-mid.ensures, c.lower-rest.ensures, c.lower-p.ensures, c.higher-q.ensures)
+returns c = rw (c.lower-low.ensures, c.higher-mid.ensures, c.lower-rest.ensures, c.lower-p.ensures, c.higher-q.ensures)

@@ -1,4 +1,5 @@
 -- `planes_faces::face_lo` meets its contract: its calls are those of the definition.
+use native.Mathlib.Omega.{arith}
 use Rattle.planes_faces.specs.Triples.{highest}
 use borrow.Author.Rules.{rules}
 use Rattle.planes_faces.proofs.face_lo.Goals as goal
@@ -11,10 +12,6 @@ pub higher-high-requires : goal.higher-high-requires
 unfolding highest
 higher-high-requires c = search rules
 
-pub wide-requires : goal.wide-requires
-unfolding highest
-wide-requires c = search rules
-
 pub returns : goal.returns
 unfolding highest
-returns c = (rw (c.wide.ensures.0, c.higher-high.ensures, c.higher-q.ensures), c.wide.ensures.1)
+returns c = (rw (c.higher-high.ensures, c.higher-q.ensures), omega arith)

@@ -2,5 +2,5 @@
 use Rattle.planes_fit.proofs.Naming.{Unpacked}
 use Rattle.planes_fit.proofs.unpack.Given as goal
 
-abbrev pub invariant-loop-i : goal.invariant-loop-i
-invariant-loop-i l = Unpacked l.initial.words l.words l.i
+abbrev pub invariant-loop-word : goal.invariant-loop-word
+invariant-loop-word l = Unpacked l.initial.words l.words l.word-index

@@ -1,11 +1,11 @@
 -- `planes_importance::moments_of` meets its contract: the triangles from here on give what all give.
 use mathlib.Core.Path.{◌≡◌}
 use mathlib.Core.List.{foldl}
-use lib.ListN.{length, drop}
+use lib.ListN.{drop}
 use Rattle.columns.specs.Columns.{triangle_at_of}
 use Rattle.planes_importance.specs.Importance.{moment_of}
 use Rattle.planes_importance.proofs.moments_of.Given as goal
 
-abbrev pub invariant-loop-k : goal.invariant-loop-k
-invariant-loop-k l =
-    foldl (λ r i. moment_of r (triangle_at_of l.triangles l.handles l.n i)) l.s (drop l.k l.tris) ≡ foldl (λ r i. moment_of r (triangle_at_of l.triangles l.handles l.n i)) l.initial.s l.tris
+abbrev pub invariant-loop-t : goal.invariant-loop-t
+invariant-loop-t l =
+    foldl (λ r i. moment_of r (triangle_at_of l.triangles l.handles l.n i)) l.s (drop l.t-index l.tris) ≡ foldl (λ r i. moment_of r (triangle_at_of l.triangles l.handles l.n i)) l.initial.s l.tris

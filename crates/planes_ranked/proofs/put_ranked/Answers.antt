@@ -19,9 +19,6 @@ offset_bounds-index-r c = omega (arith, c.loop-r-test.true, c.well_formed)
 pub bounds-index-r : goal.bounds-index-r
 bounds-index-r c = c.loop-r-test.true
 
-pub overflow_cast-index : goal.overflow_cast-index
-overflow_cast-index c = omega (arith, c.shared_slice_known-in-loop-r-1.given c.loop-r.r)
-
 pub plane_at-plane-requires : goal.plane_at-plane-requires
 unfolding Below
 plane_at-plane-requires c = let p = c.requires.ranked_lent in let b = p.below c.loop-r.r c.loop-r-test.true in

@@ -1,5 +1,4 @@
 -- `planes_ranked::put_ranked` meets its contract: the planes so far stand in their rows.
-use lib.ListN.{length}
 use Rattle.planes_ranked.proofs.Ranking.{Putting}
 use Rattle.planes_ranked.proofs.put_ranked.Given as goal
 

@@ -5,17 +5,9 @@ use Rattle.scene.specs.Refusals.{materials_are_right}
 use Rattle.scene.proofs.Cuts.{eqb_yes, eqb_no}
 use Rattle.scene.proofs.materials_right.Goals as goal
 
-pub wide-requires : goal.wide-requires
+pub returns-then-n-rows : goal.returns-then-n-rows
 unfolding materials_are_right
-wide-requires c = tt
-
-pub overflow_mul-wide : goal.overflow_mul-wide
-unfolding materials_are_right
-overflow_mul-wide c = omega arith
-
-pub returns-then-n-wide : goal.returns-then-n-wide
-unfolding materials_are_right
-returns-then-n-wide c = let a = c.args in eqb_yes a.n (16 * a.rows) (omega arith)
+returns-then-n-rows c = let a = c.args in eqb_yes a.n (16 * a.rows) (omega arith)
 
 pub returns : goal.returns
 unfolding materials_are_right
