@@ -19,7 +19,7 @@ loop-p-preserved c = let a = c.args in let i = c.loop-p.invariant in let l = i.1
     let g : c.loop-p.p < length a.on.now = omega (arith, l, h) in (
       omega (arith, l, h),
       length-set c.loop-p.on c.loop-p.p c.lies_on.result ∙ l,
-      λ members edges. mark_more c.loop-p.on (on_bytes (planes_in a.floats.now a.words.now members edges (length a.on.now)) a.source) c.loop-p.p c.lies_on.result h (i.2 members edges) (c.lies_on.ensures members edges (length a.on.now) g),
+      λ members edges. mark_more c.loop-p.on (on_bytes (planes_in a.floats.now a.words.now members edges (length a.on.now)) a.source) c.loop-p.p c.lies_on.result (omega (arith, l, h)) (i.2 members edges) (c.lies_on.ensures members edges (length a.on.now) g),
     )
 
 pub shape_of-on : goal.shape_of-on
@@ -28,4 +28,4 @@ shape_of-on c = c.loop-p.invariant.1
 pub returns : goal.returns
 returns c = let a = c.args in let i = c.loop-p.invariant in λ members edges.
     let e = marks_length a.floats.now a.words.now members edges (length a.on.now) a.source in
-    mark_all c.loop-p.on (on_bytes (planes_in a.floats.now a.words.now members edges (length a.on.now)) a.source) c.loop-p.p (i.1 ∙ sym e) c.loop-p-test.false (i.2 members edges)
+    mark_all c.loop-p.on (on_bytes (planes_in a.floats.now a.words.now members edges (length a.on.now)) a.source) c.loop-p.p (i.1 ∙ sym e) (let l = i.1 in let h = c.loop-p-test.false in omega (arith, l, h)) (i.2 members edges)
