@@ -148,7 +148,7 @@ fn token(s: &[u8], n: usize) -> Token {
     t
 }
 
-// The name of a setting, by its number in `settings_fault`.
+// The name of a setting, by its number in `settings_fault`, whose contract has numbers.
 fn say_name(rt: &impl ErrorBytes, fault: u32) -> io::Result<()> {
     match fault {
         1 => say(rt, b"max_reflection_planes"),

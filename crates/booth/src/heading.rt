@@ -1,6 +1,6 @@
 // What stands above the table: the scene and what it is traced with, what is held within its limits, and the forecast.
 use crate::forecast;
-use crate::table::{print, print_count, print_float};
+use crate::table::{print, print_float};
 use std::io;
 
 // The version of the product. include/bivelondry.h has it too, and bindings/installed.sh compares them.
@@ -12,35 +12,32 @@ fn print_version(rt: &impl Print) -> io::Result<()> {
 fn print_name(rt: &impl Print, s: &[u8]) -> io::Result<()> {
     let word = text::next_token(s, 0, 1);
     let t = text::next_token(s, word.end, word.line);
-    let start = t.start;
-    let end = t.end;
-    print(rt, &s[start..end])
+    print(rt, &s[t.start..t.end])
 }
 
 // The scene's name, and the settings that delays and images depend on.
 fn print_scene(rt: &impl Print, s: &[u8], order: u32, celsius: f32, rate: f32) -> io::Result<()> {
-    print(rt, b"booth ")?;
+    print!(rt; "booth ")?;
     print_version(rt)?;
-    print(rt, b", scene ")?;
+    print!(rt; ", scene ")?;
     print_name(rt, s)?;
-    print(rt, b"\n")?;
+    println!(rt)?;
     print_float(rt, celsius, 1, 0)?;
-    print(rt, b" degrees, sound at ")?;
+    print!(rt; " degrees, sound at ")?;
     print_float(rt, scene::speed_of_sound(celsius), 2, 0)?;
-    print(rt, b" metres a second, ")?;
+    print!(rt; " metres a second, ")?;
     print_float(rt, rate, 1, 0)?;
-    print_count(rt, b" samples a second, order ", order as u64)?;
-    print(rt, b".\n")
+    println!(rt; " samples a second, order {order}.")
 }
 
 // The delay of the direct sound, made as that of a tap.
 fn print_direct(rt: &impl Print, metres: f32, celsius: f32, rate: f32) -> io::Result<()> {
     let delay = metres * rate / scene::speed_of_sound(celsius);
-    print(rt, b"The direct sound, which is not among the taps, takes ")?;
+    print!(rt; "The direct sound, which is not among the taps, takes ")?;
     print_float(rt, delay, 2, 0)?;
-    print(rt, b" samples, ")?;
+    print!(rt; " samples, ")?;
     print_float(rt, delay * 1000.0 / rate, 3, 0)?;
-    print(rt, b" ms.\n")
+    println!(rt; " ms.")
 }
 
 // ---- what is held within its limits
@@ -51,13 +48,7 @@ fn one_more(n: u32) -> u32 {
 
 // n, and one more where x lies outside 0 to 1.
 fn counted(n: u32, x: f32) -> u32 {
-    if x < 0.0 {
-        return one_more(n);
-    }
-    if 1.0 < x {
-        return one_more(n);
-    }
-    n
+    if x < 0.0 || 1.0 < x { one_more(n) } else { n }
 }
 
 // How many of the first `end` floats lie outside 0 to 1.
@@ -74,8 +65,9 @@ fn print_held(rt: &impl Print, rows: &[f32], end: usize) -> io::Result<()> {
     if n == 0 {
         return Ok(());
     }
-    print_count(rt, b"Of the absorptions and transmissions ", n as u64)?;
-    print(rt, b" lie outside 0 to 1, and are held to 0 or 1.\n")
+    println!(rt;
+        "Of the absorptions and transmissions {n} lie outside 0 to 1, and are held to 0 or 1."
+    )
 }
 
 // All of it, for a case that was read.

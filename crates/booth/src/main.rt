@@ -48,18 +48,9 @@ pub(crate) fn real(f: &[f32], k: usize) -> f32 {
     if k < f.len() { f[k] } else { 0.0 }
 }
 
-// The curve is 0 for Inverse, else Linear.
-fn curve_of(number: u32) -> bands::DistanceCurve {
-    if number == 0 {
-        return bands::DistanceCurve::Inverse;
-    }
-    bands::DistanceCurve::Linear
-}
-
 fn model_of(w: &[u32], f: &[f32]) -> bands::DistanceModel {
-    let curve = curve_of(casefile::word(w, 5));
     bands::DistanceModel {
-        curve,
+        curve: arguments::curve_of(casefile::word(w, 5)),
         reference_distance: real(f, 7),
         rolloff_factor: real(f, 8),
         min_distance: real(f, 9),
@@ -730,7 +721,8 @@ fn room() -> [u8; 262_145] {
     [0u8; 262_145]
 }
 
-// Reads until `buf` is full, the file ends or a read fails. Answers how many bytes stand at its start.
+// Reads until `buf` is full, the file ends or a read fails: what was read before a failure counts, unlike in `text::read_full`. Answers how many bytes
+// stand at its start.
 fn read_full(file: &mut impl Read, buf: &mut [u8]) -> usize
     ensures { result ≤ length buf.new }
 {

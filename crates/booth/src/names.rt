@@ -1,7 +1,7 @@
 // The walls: those that each echo meets, and what they are.
 ghost use Rattle.std.specs.Prelude.{◌+◌, ◌*◌, ◌≤◌, length};
 
-use crate::table::{print, print_float, print_whole, word_of};
+use crate::table::{print_float, print_whole, word_of};
 use crate::{remarks, tags};
 use numbering::Walls;
 use sequences::{MAX_IMAGE_ORDER, MAX_PLANES};
@@ -9,7 +9,7 @@ use std::io;
 
 fn print_arrow(rt: &impl Print, k: usize) -> io::Result<()> {
     if 0 < k {
-        return print(rt, b" > ");
+        return print!(rt; " > ");
     }
     Ok(())
 }
@@ -34,7 +34,7 @@ fn walls_of(on: &[u8], order: u32, number: u32) -> Walls {
 }
 
 fn wall_at(planes: [u8; MAX_IMAGE_ORDER], k: usize) -> u8 {
-    if k < MAX_IMAGE_ORDER { planes[k] } else { 0 }
+    planes.get(k).copied().unwrap_or(0)
 }
 
 // The walls that the echo with this image meets.
@@ -71,30 +71,24 @@ fn occurs(taps: &[u32], on: &[u8], order: u32, count: usize, p: usize) -> bool {
 }
 
 fn print_heading(rt: &impl Print) -> io::Result<()> {
-    print(
-        rt,
-        b"The walls that these echoes meet: the unit normal, how far along it the wall lies from the origin,\n",
+    println!(rt;
+        "The walls that these echoes meet: the unit normal, how far along it the wall lies from the origin,"
     )?;
-    print(
-        rt,
-        b"the area of its triangles, in metres and square metres, and the mesh and the material of the first\n",
+    println!(rt;
+        "the area of its triangles, in metres and square metres, and the mesh and the material of the first"
     )?;
-    print(
-        rt,
-        b"of them (+: others are of other meshes), by their places in the scene, from 0, and with the\n",
+    println!(rt;
+        "of them (+: others are of other meshes), by their places in the scene, from 0, and with the"
     )?;
-    print(rt, b"remark that stands behind `mesh`.\n\n")?;
-    print(
-        rt,
-        b"wall normal x      y      z    offset       area  mesh material\n",
-    )
+    println!(rt; "remark that stands behind `mesh`.\n")?;
+    println!(rt; "wall normal x      y      z    offset       area  mesh material")
 }
 
 fn print_mark(rt: &impl Print, several: bool) -> io::Result<()> {
     if several {
-        return print(rt, b"+");
+        return print!(rt; "+");
     }
-    print(rt, b" ")
+    print!(rt; " ")
 }
 
 // One wall: a line.
@@ -120,7 +114,7 @@ fn print_wall(
     print_mark(rt, tags::is_of_several(tags, p))?;
     print_whole(rt, tags::material(tags, p) as u32, 8)?;
     remarks::print_mesh(rt, text, mesh)?;
-    print(rt, b"\n")
+    println!(rt)
 }
 
 // The line of plane p, if an echo meets it.
@@ -186,5 +180,5 @@ pub(crate) fn print_list(
     }
     print_heading(rt)?;
     print_lines(rt, taps, on, order, count, floats, words, tags, text)?;
-    print(rt, b"\n")
+    println!(rt)
 }

@@ -1,6 +1,5 @@
 // What may be missing from the table: a line each, where it applies.
 use crate::Named;
-use crate::table::{print, print_count};
 use placing::Loaded;
 use refusals::Refusal;
 use sequences::MAX_IMAGE_NODES;
@@ -13,14 +12,8 @@ fn print_stopped(rt: &impl Print, images: u32) -> io::Result<()> {
     if images < IMAGE_LIMIT {
         return Ok(());
     }
-    print_count(
-        rt,
-        b"The search stopped at its limit of ",
-        IMAGE_LIMIT as u64,
-    )?;
-    print(
-        rt,
-        b" images: echoes may be missing, loud ones too. Take a lower order or fewer walls.\n",
+    println!(rt;
+        "The search stopped at its limit of {IMAGE_LIMIT} images: echoes may be missing, loud ones too. Take a lower order or fewer walls."
     )
 }
 
@@ -32,22 +25,18 @@ fn print_full(
     heard: usize,
     longest: usize,
 ) -> io::Result<()> {
-    if count == 0 {
+    if count == 0 || count < most {
         return Ok(());
     }
-    if count < most {
-        return Ok(());
-    }
-    print_count(rt, b"The list is full with ", count as u64)?;
     if count < heard {
-        print_count(rt, b" taps of ", heard as u64)?;
-        print(rt, b" that are heard: the weaker ones are left out.\n")?;
+        println!(rt;
+            "The list is full with {count} taps of {heard} that are heard: the weaker ones are left out."
+        )?;
     } else {
-        print(rt, b" taps.\n")?;
+        println!(rt; "The list is full with {count} taps.")?;
     }
     if longest <= heard {
-        print_count(rt, b"No list is longer than ", longest as u64)?;
-        print(rt, b": weaker echoes may be missing.\n")?;
+        println!(rt; "No list is longer than {longest}: weaker echoes may be missing.")?;
     }
     Ok(())
 }
@@ -55,34 +44,19 @@ fn print_full(
 // `max_reflection_planes` keeps the most important walls. More than 256 are never found.
 fn print_walls(rt: &impl Print, planes: usize, found: usize) -> io::Result<()> {
     if planes < found {
-        print_count(rt, b"Of ", found as u64)?;
-        print_count(rt, b" walls that were found ", planes as u64)?;
-        print(
-            rt,
-            b" are used, as `max_reflection_planes` says: the others give no echo.\n",
+        println!(rt;
+            "Of {found} walls that were found {planes} are used, as `max_reflection_planes` says: the others give no echo."
         )?;
     }
     if 255 < found {
-        print(
-            rt,
-            b"No more than 256 walls are found: others may be missing.\n",
-        )?;
+        println!(rt; "No more than 256 walls are found: others may be missing.")?;
     }
     Ok(())
 }
 
-fn marked(on: &[u8], k: usize) -> bool {
-    if k < on.len() { on[k] != 0 } else { false }
-}
-
 // Whether the source lies on one of the planes.
 fn on_any(on: &[u8], planes: usize) -> bool {
-    for k in 0..planes {
-        if marked(on, k) {
-            return true;
-        }
-    }
-    false
+    on.iter().take(planes).any(|b| *b != 0)
 }
 
 // Why no echo is heard, where that is plain.
@@ -95,23 +69,18 @@ fn print_silence(
     separated: bool,
 ) -> io::Result<()> {
     if most == 0 {
-        print(rt, b"No tap is asked for: `max_reflections` is 0.\n")
+        println!(rt; "No tap is asked for: `max_reflections` is 0.")
     } else if order == 0 {
-        print(
-            rt,
-            b"No echo is searched for: `max_reflection_order` is 0.\n",
-        )
+        println!(rt; "No echo is searched for: `max_reflection_order` is 0.")
     } else if separated {
-        print(
-            rt,
-            b"Nothing is heard: the scene has `separated 1`, a wall between source and listener.\n",
+        println!(rt;
+            "Nothing is heard: the scene has `separated 1`, a wall between source and listener."
         )
     } else if planes == 0 {
-        print(rt, b"No echo is heard: there is no wall.\n")
+        println!(rt; "No echo is heard: there is no wall.")
     } else if on_any(on, planes) {
-        print(
-            rt,
-            b"No echo is heard, and the source lies on a wall, from which no echo begins. Move it off the wall.\n",
+        println!(rt;
+            "No echo is heard, and the source lies on a wall, from which no echo begins. Move it off the wall."
         )
     } else {
         print_unheard(rt)
@@ -119,13 +88,11 @@ fn print_silence(
 }
 
 fn print_unheard(rt: &impl Print) -> io::Result<()> {
-    print(
-        rt,
-        b"No echo is heard: each is blocked, misses its walls or is longer than `max_reflection_distance`.\n",
+    println!(rt;
+        "No echo is heard: each is blocked, misses its walls or is longer than `max_reflection_distance`."
     )?;
-    print(
-        rt,
-        b"A source or a listener behind a wall, as outside the room, is cut off from the others.\n",
+    println!(rt;
+        "A source or a listener behind a wall, as outside the room, is cut off from the others."
     )
 }
 
@@ -155,20 +122,13 @@ pub(crate) fn print_notes(
 fn print_left(rt: &impl Print, triples: usize, placings: usize, kept: usize) -> io::Result<()> {
     let placed = placings / 3;
     if placed < triples {
-        print_count(
-            rt,
-            b"Triangles left out, with an index out of range: ",
-            (triples - placed) as u64,
+        println!(rt;
+            "Triangles left out, with an index out of range: {}.",
+            triples - placed
         )?;
-        print(rt, b".\n")?;
     }
     if kept < placed {
-        print_count(
-            rt,
-            b"Triangles left out, with no area: ",
-            (placed - kept) as u64,
-        )?;
-        print(rt, b".\n")?;
+        println!(rt; "Triangles left out, with no area: {}.", placed - kept)?;
     }
     Ok(())
 }

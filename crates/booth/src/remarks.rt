@@ -1,5 +1,4 @@
 // The remarks of a scene's text: what stands behind `#` in a mesh's line.
-use crate::table::print;
 use std::io;
 use text::next_token;
 
@@ -50,7 +49,7 @@ fn place_of(s: &[u8], at: usize, b: u8) -> usize {
 pub(crate) fn print_mesh(rt: &impl Print, s: &[u8], j: u8) -> io::Result<()> {
     let from = place_of(s, mesh_place(s, j), b'#');
     if text::byte_at(s, from, b'\n') == b'#' {
-        print(rt, b"  ")?;
+        print!(rt; "  ")?;
         return crate::faults::print_some(rt, s, from, place_of(s, from, b','), 34);
     }
     Ok(())

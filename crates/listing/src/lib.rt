@@ -185,7 +185,7 @@ fn put_bytes(bytes: &[u8], out: &mut [u8], at: usize) -> usize
     end
 }
 
-// n in decimal, of at most `most` digits.
+// n in decimal, of at most `most` digits. By hand, since a format writes to no slice without an allocation.
 pub fn put_digits(n: usize, most: usize, out: &mut [u8], at: usize) -> usize
     requires { at + most ≤ length out.old }
     ensures { text.Wrote (text.digits_of most n) out.old at out.new result }

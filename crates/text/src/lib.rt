@@ -78,7 +78,7 @@ fn value(n: u64, word: &[u8]) -> u64
     v
 }
 
-// A whole number of 32 bits: digits alone.
+// A whole number of 32 bits: digits alone, where `parse` would take a plus before them.
 #[tactic(auto, unfolding(crate::specs::Numbers::whole_of))]
 pub fn whole(word: &[u8]) -> Option<u32>
     ensures { result ≡ numbers.whole_of word.now }
@@ -296,7 +296,8 @@ fn put_parts(m: usize, k: usize, tens: usize, out: &mut [u8], at: usize) -> usiz
     put_last(m, k, out, b)
 }
 
-// x with k decimals, at the front of `out`; `-` where it is NaN or too large.
+// x with k decimals, at the front of `out`; `-` where it is NaN or too large. By hand, since a format rounds a half to even and prints a minus before 0, and
+// says in no contract what it prints of a float.
 pub fn put_fixed(x: f32, k: usize, out: &mut [u8]) -> usize
     requires { (k ≤ 6) × (28 ≤ length out.old) }
     ensures { Wrote (fixed.fixed_of x k) out.old 0 out.new result × (result ≤ length out.new) }
