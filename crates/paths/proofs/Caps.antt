@@ -39,7 +39,7 @@ use Rattle.paths.specs.declared.Way.{Way}
 use Rattle.paths.specs.Visibility.{start_of, go_of, go_all_of, way_of}
 use Rattle.air.specs.declared.Air.{Air}
 use Rattle.air.specs.Air.{steps_of, factor_of_steps, band_of, bands_of, air_gain_of, millimetres_of}
-use Rattle.air.proofs.None.{factor_most}
+use Rattle.air.proofs.Nothing.{factor_most}
 use Rattle.air.proofs.Value.{band_value}
 use Rattle.paths.specs.Gains.{reflected_of, gains_of}
 use Rattle.paths.proofs.Most.{Most, Exact, value_most, mul_most, add_most, ninth_most, most_more, exact_power, exact_eighths, exact_small, exact_times, clamp_most, one_most, zero_is_most, less_most, sqrt_most}

@@ -38,22 +38,22 @@ pub overflow_mul-to : goal.overflow_mul-to
 overflow_mul-to c =
     let h = c.requires (◌∙◌ {b = c.silent.result} (sym c.silent.ensures) c.if-silent.false) in let t = h.lent in let few = t.few in let some = t.some in omega arith
 
-pub slice_bounds-search_images-count : goal.slice_bounds-search_images-count
-slice_bounds-search_images-count c =
+pub slice_bounds-bvh-count : goal.slice_bounds-bvh-count
+slice_bounds-bvh-count c =
     let h = c.requires (◌∙◌ {b = c.silent.result} (sym c.silent.ensures) c.if-silent.false) in let t = h.lent in let few = t.few in let some = t.some in let room = h.for_tree.tree_room in let long = c.build_scene-built.auto.tree in omega arith
 
-pub slice_bounds-search_images-start : goal.slice_bounds-search_images-start
-slice_bounds-search_images-start c =
+pub slice_bounds-bvh-start : goal.slice_bounds-bvh-start
+slice_bounds-bvh-start c =
     let h = c.requires (◌∙◌ {b = c.silent.result} (sym
     c.silent.ensures) c.if-silent.false) in let t = h.lent in let few = t.few in let some = t.some in let room = h.for_tree.tree_room in let long = c.build_scene-built.auto.tree in omega arith
 
-pub slice_bounds-search_images-end : goal.slice_bounds-search_images-end
-slice_bounds-search_images-end c =
+pub slice_bounds-bvh-end : goal.slice_bounds-bvh-end
+slice_bounds-bvh-end c =
     let h = c.requires (◌∙◌ {b = c.silent.result} (sym
     c.silent.ensures) c.if-silent.false) in let t = h.lent in let few = t.few in let some = t.some in let room = h.for_tree.tree_room in let long = c.build_scene-built.auto.tree in omega arith
 
-pub slice_bounds-search_images-end-2 : goal.slice_bounds-search_images-end-2
-slice_bounds-search_images-end-2 c =
+pub slice_bounds-bvh-end-2 : goal.slice_bounds-bvh-end-2
+slice_bounds-bvh-end-2 c =
     let h = c.requires (◌∙◌ {b = c.silent.result} (sym c.silent.ensures) c.if-silent.false) in omega (
       arith,
       c.build_scene-built.auto.leaf_order,
@@ -61,8 +61,8 @@ slice_bounds-search_images-end-2 c =
       h.lent.some,
     )
 
-pub slice_bounds-search_images-end-3 : goal.slice_bounds-search_images-end-3
-slice_bounds-search_images-end-3 c =
+pub slice_bounds-bvh-end-3 : goal.slice_bounds-bvh-end-3
+slice_bounds-bvh-end-3 c =
     let h = c.requires (◌∙◌ {b = c.silent.result} (sym c.silent.ensures)
     c.if-silent.false) in sym (length-take-le c.args.m c.build_scene-built.new.leaf_order (omega (
       arith,
@@ -75,16 +75,16 @@ pub offset_bounds-tree-from : goal.offset_bounds-tree-from
 offset_bounds-tree-from c =
     let h = c.requires (◌∙◌ {b = c.silent.result} (sym c.silent.ensures) c.if-silent.false) in let t = h.lent in let few = t.few in let some = t.some in omega arith
 
-pub slice_bounds-search_images-count-2 : goal.slice_bounds-search_images-count-2
-slice_bounds-search_images-count-2 c =
+pub slice_bounds-bvh-count-2 : goal.slice_bounds-bvh-count-2
+slice_bounds-bvh-count-2 c =
     let h = c.requires (◌∙◌ {b = c.silent.result} (sym c.silent.ensures) c.if-silent.false) in let t = h.lent in let few = t.few in let some = t.some in let room = h.for_tree.tree_room in let long = c.build_scene-built.auto.tree in omega arith
 
-pub slice_bounds-search_images-start-2 : goal.slice_bounds-search_images-start-2
-slice_bounds-search_images-start-2 c =
+pub slice_bounds-bvh-start-2 : goal.slice_bounds-bvh-start-2
+slice_bounds-bvh-start-2 c =
     let h = c.requires (◌∙◌ {b = c.silent.result} (sym c.silent.ensures) c.if-silent.false) in let t = h.lent in let few = t.few in let some = t.some in let room = h.for_tree.tree_room in let long = c.build_scene-built.auto.tree in omega arith
 
-pub slice_bounds-search_images-end-4 : goal.slice_bounds-search_images-end-4
-slice_bounds-search_images-end-4 c =
+pub slice_bounds-bvh-end-4 : goal.slice_bounds-bvh-end-4
+slice_bounds-bvh-end-4 c =
     let h = c.requires (◌∙◌ {b = c.silent.result} (sym c.silent.ensures) c.if-silent.false) in let t = h.lent in let few = t.few in let some = t.some in let room = h.for_tree.tree_room in let long = c.build_scene-built.auto.tree in omega arith
 
 pub search_images-requires : goal.search_images-requires

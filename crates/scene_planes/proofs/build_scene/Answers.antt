@@ -35,34 +35,34 @@ overflow_mul-from c = let t = c.requires.lent in let few = t.few in let some = t
 pub overflow_mul-to : goal.overflow_mul-to
 overflow_mul-to c = let t = c.requires.lent in let few = t.few in let some = t.some in omega arith
 
-pub slice_bounds-build_planes-count : goal.slice_bounds-build_planes-count
-slice_bounds-build_planes-count c = let h = c.requires in let t = h.lent in let few = t.few in let some = t.some in let room = h.for_tree.tree_room in let long = c.scene_bvh-nodes_count.auto.tree in omega arith
+pub slice_bounds-bvh-count : goal.slice_bounds-bvh-count
+slice_bounds-bvh-count c = let h = c.requires in let t = h.lent in let few = t.few in let some = t.some in let room = h.for_tree.tree_room in let long = c.scene_bvh-nodes_count.auto.tree in omega arith
 
-pub slice_bounds-build_planes-start : goal.slice_bounds-build_planes-start
-slice_bounds-build_planes-start c = let h = c.requires in let t = h.lent in let few = t.few in let some = t.some in let room = h.for_tree.tree_room in let long = c.scene_bvh-nodes_count.auto.tree in omega arith
+pub slice_bounds-bvh-start : goal.slice_bounds-bvh-start
+slice_bounds-bvh-start c = let h = c.requires in let t = h.lent in let few = t.few in let some = t.some in let room = h.for_tree.tree_room in let long = c.scene_bvh-nodes_count.auto.tree in omega arith
 
-pub slice_bounds-build_planes-end : goal.slice_bounds-build_planes-end
-slice_bounds-build_planes-end c = let h = c.requires in let t = h.lent in let few = t.few in let some = t.some in let room = h.for_tree.tree_room in let long = c.scene_bvh-nodes_count.auto.tree in omega arith
+pub slice_bounds-bvh-end : goal.slice_bounds-bvh-end
+slice_bounds-bvh-end c = let h = c.requires in let t = h.lent in let few = t.few in let some = t.some in let room = h.for_tree.tree_room in let long = c.scene_bvh-nodes_count.auto.tree in omega arith
 
-pub slice_bounds-build_planes-end-2 : goal.slice_bounds-build_planes-end-2
-slice_bounds-build_planes-end-2 c = let h = c.requires in omega (arith, c.scene_bvh-nodes_count.auto.leaf_order, h.for_tree.leaf_order_room, h.lent.some)
+pub slice_bounds-bvh-end-2 : goal.slice_bounds-bvh-end-2
+slice_bounds-bvh-end-2 c = let h = c.requires in omega (arith, c.scene_bvh-nodes_count.auto.leaf_order, h.for_tree.leaf_order_room, h.lent.some)
 
-pub slice_bounds-build_planes-end-3 : goal.slice_bounds-build_planes-end-3
-slice_bounds-build_planes-end-3 c =
+pub slice_bounds-bvh-end-3 : goal.slice_bounds-bvh-end-3
+slice_bounds-bvh-end-3 c =
     let h = c.requires in sym (length-take-le c.args.m c.scene_bvh-nodes_count.new.leaf_order
     (omega (arith, c.scene_bvh-nodes_count.auto.leaf_order, h.for_tree.leaf_order_room, h.lent.some)))
 
 pub offset_bounds-tree-from : goal.offset_bounds-tree-from
 offset_bounds-tree-from c = let t = c.requires.lent in let few = t.few in let some = t.some in omega arith
 
-pub slice_bounds-build_planes-count-2 : goal.slice_bounds-build_planes-count-2
-slice_bounds-build_planes-count-2 c = let h = c.requires in let t = h.lent in let few = t.few in let some = t.some in let room = h.for_tree.tree_room in let long = c.scene_bvh-nodes_count.auto.tree in omega arith
+pub slice_bounds-bvh-count-2 : goal.slice_bounds-bvh-count-2
+slice_bounds-bvh-count-2 c = let h = c.requires in let t = h.lent in let few = t.few in let some = t.some in let room = h.for_tree.tree_room in let long = c.scene_bvh-nodes_count.auto.tree in omega arith
 
-pub slice_bounds-build_planes-start-2 : goal.slice_bounds-build_planes-start-2
-slice_bounds-build_planes-start-2 c = let h = c.requires in let t = h.lent in let few = t.few in let some = t.some in let room = h.for_tree.tree_room in let long = c.scene_bvh-nodes_count.auto.tree in omega arith
+pub slice_bounds-bvh-start-2 : goal.slice_bounds-bvh-start-2
+slice_bounds-bvh-start-2 c = let h = c.requires in let t = h.lent in let few = t.few in let some = t.some in let room = h.for_tree.tree_room in let long = c.scene_bvh-nodes_count.auto.tree in omega arith
 
-pub slice_bounds-build_planes-end-4 : goal.slice_bounds-build_planes-end-4
-slice_bounds-build_planes-end-4 c = let h = c.requires in let t = h.lent in let few = t.few in let some = t.some in let room = h.for_tree.tree_room in let long = c.scene_bvh-nodes_count.auto.tree in omega arith
+pub slice_bounds-bvh-end-4 : goal.slice_bounds-bvh-end-4
+slice_bounds-bvh-end-4 c = let h = c.requires in let t = h.lent in let few = t.few in let some = t.some in let room = h.for_tree.tree_room in let long = c.scene_bvh-nodes_count.auto.tree in omega arith
 
 pub build_planes-planes-requires : goal.build_planes-planes-requires
 build_planes-planes-requires c =
