@@ -1,5 +1,5 @@
 -- The numbers of a text: whole numbers of 32 bits, and floats as decimals or by their bits.
-use Rattle.std.specs.Prelude.{ℕ, suc, ◌+◌, ◌-◌, ◌*◌, ◌%◌, ◌^◌, min, Bool, true, cond, not, ◌&&◌, List, [], ◌∷◌, length, take, drop, pos, ◌==◌, Option, Some, None, fold, position, Float, from_bits, nat_le, nat_lt, slice_index}
+use Rattle.std.specs.Prelude.{ℕ, suc, ◌+◌, ◌-◌, ◌*◌, ◌%◌, ◌/◌, ◌^◌, min, Bool, true, cond, not, ◌&&◌, List, [], ◌∷◌, length, take, drop, pos, ◌==◌, Option, Some, None, fold, position, Float, from_bits, nat_le, nat_lt, slice_index, slice_set}
 use Rattle.std.specs.Option.{is_some, unwrap_or, option_map, option_map_or}
 use Rattle.std.specs.List.{list_all}
 use Rattle.std.specs.Float.{binary32}
@@ -75,3 +75,12 @@ bits_of_hex w = cond (all_hex w) (Some (from_bits binary32 (hex_value_of w))) No
 -- `0x` and eight hexadecimal digits are a float's bits; anything else is a decimal, so that eight digits alone are no float
 unfoldable pub number_of : List ℕ → Option Float
 number_of w = cond (length w == 10) (cond (prefixed w) (bits_of_hex (drop 2 w)) (decimal_of w)) (decimal_of w)
+
+-- one byte of a line of hexadecimal digits: a digit goes on in its word, eight to a word, and is counted; another byte is passed over
+abbrev pub hex_step : List ℕ × ℕ → ℕ → List ℕ × ℕ
+hex_step s b =
+    cond (is_some (hex_digit_of b)) (slice_set s.0 (s.1 / 8) (push_hex_digit (slice_index s.0 (s.1 / 8)) b), s.1 + 1) s
+
+-- the words of a line's hexadecimal digits, from words as they are, and how many digits there are
+abbrev pub hex_words_of : List ℕ → List ℕ → List ℕ × ℕ
+hex_words_of line words = fold hex_step (words, 0) line

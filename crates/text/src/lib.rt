@@ -7,6 +7,7 @@
 #![tactic(auto)]
 
 ghost use Rattle.std.specs.Prelude.{◌≡◌, ◌+◌, ◌/◌, ◌^◌, ◌<◌, ◌≤◌, true, IfOk, IfSome, length, drop, fold, from_bits, slice_index, slice_index_or, slice_set};
+ghost use Rattle.std.specs.List.{All};
 ghost use Rattle.std.specs.Float.{binary32};
 ghost use Rattle.listing.specs.Request.{is_digit_byte, is_decimal_text};
 ghost use Rattle.listing.specs.Text.{Wrote};
@@ -391,7 +392,9 @@ pub fn next_token(s: &[u8], at: usize, line: u32) -> Token
 // ---- lines of hexadecimal digits
 
 // The hexadecimal digits of a text, to words that are zero, eight to a word; other bytes are passed over. Answers how many digits there are.
-pub fn hex_words(s: &[u8], words: &mut [u32]) -> usize {
+pub fn hex_words(s: &[u8], words: &mut [u32]) -> usize
+    ensures { (words.new, result) ≡ numbers.hex_words_of s.now words.old }
+{
     let mut k = 0;
     for b in s {
         if hex_digit(*b).is_some() {
@@ -406,7 +409,8 @@ pub fn hex_words(s: &[u8], words: &mut [u32]) -> usize {
 
 // An array of one value. A function, so that no proof looks into so long a list.
 pub fn filled<T: Copy, const N: usize>(value: T) -> [T; N]
-    ensures { length result ≡ N }
+    ensures each { All (λ x. x ≡ value) result }
+    ensures all { length result ≡ N }
 {
     [value; N]
 }
