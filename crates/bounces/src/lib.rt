@@ -207,10 +207,8 @@ pub fn fate_back(
         seq.now) (point_in images.now) order listener one32 [] []) }
 {
     let mut prev = listener;
-    let mut k = order;
-    while 0 < k {
-        let target = mirror::vec_in(images, POINT_FLOATS * k);
-        k -= 1;
+    for k in (0..order).rev() {
+        let target = mirror::vec_in(images, POINT_FLOATS * (k + 1));
         let p = seq[k] as usize;
         prev = turn_on(planes, p, prev, target)?;
     }

@@ -143,9 +143,7 @@ fn go_all(
     ensures rays_bound { result.rays ≤ 18 * (crossing_limit + 1) * (order + 1) }
 {
     let mut w = begin(listener);
-    let mut k = order;
-    while 0 < k {
-        k -= 1;
+    for k in (0..order).rev() {
         let to = points[k];
         w = go(bvh, materials, crossing_limit, probe_radius, to, w);
     }

@@ -14,8 +14,5 @@ abbrev pub invariant-loop-k : goal.invariant-loop-k
 invariant-loop-k l =
     (l.k ≤ l.order)
     × ((tri : ℕ → Triangle) (fade : Float) → PlanesRead tri l.planes.triangles.now l.planes.n l.planes.floats.now l.planes.words.now l.planes.members.now l.planes.count →
-    fate_of (back_of tri fade (plane_on (planes_in l.planes.floats.now l.planes.words.now l.planes.members.now l.planes.edges.now l.planes.count) l.seq) (point_in l.images) l.initial.k l.initial.prev one32 [] [])
+    fate_of (back_of tri fade (plane_on (planes_in l.planes.floats.now l.planes.words.now l.planes.members.now l.planes.edges.now l.planes.count) l.seq) (point_in l.images) l.order l.initial.prev one32 [] [])
     ≡ fate_of (back_of tri fade (plane_on (planes_in l.planes.floats.now l.planes.words.now l.planes.members.now l.planes.edges.now l.planes.count) l.seq) (point_in l.images) l.k l.prev one32 [] []))
-
-abbrev pub decreases-loop-k : goal.decreases-loop-k
-decreases-loop-k l = l.k

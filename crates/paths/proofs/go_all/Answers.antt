@@ -20,9 +20,6 @@ go-w-requires c =
       crossing_limit_bound = ways_fit (18 * (a.crossing_limit + 1)) a.order c.loop-k.k c.begin-w.result.rays c.loop-k.w.rays c.loop-k.invariant.2 c.begin-w.ensures.rays_value h.order_le_max_order.0 h.max_order_bound;
     }
 
-pub loop-k-smaller : goal.loop-k-smaller
-loop-k-smaller c = omega (arith, c.loop-k-test.true)
-
 pub loop-k-preserved : goal.loop-k-preserved
 loop-k-preserved c =
     let a = c.args in (

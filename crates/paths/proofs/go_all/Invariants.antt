@@ -14,6 +14,3 @@ invariant-loop-k l =
     (l.k ≤ l.order)
     × ((tri : ℕ → Triangle) (t : Tree) → TreeReads l.bvh.padded.now l.bvh.nodes.now l.bvh.leaf_order.now l.bvh.leaves.now l.bvh.handles.now tri t → l.w ≡ go_all_of (soft_in l.crossing_limit l.probe_radius tri t l.materials) l.initial.w (slice l.k l.order l.points))
     × (l.w.rays ≤ l.initial.w.rays + 18 * (l.crossing_limit + 1) * (l.order - l.k))
-
-abbrev pub decreases-loop-k : goal.decreases-loop-k
-decreases-loop-k l = l.k
