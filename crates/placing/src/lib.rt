@@ -125,12 +125,6 @@ fn keep(
     }
 }
 
-fn wide(x: u32) -> usize
-    ensures { (result ≡ x) × (result < 4294967296) }
-{
-    x as usize
-}
-
 // One triple of a mesh. After a far corner nothing is placed, so that the count is that of the placings made.
 fn place_triple(
     vertices: usize,
@@ -190,15 +184,13 @@ fn place_mesh(
         (corners_of vertices positions.now transform.now handle (triples indices.now))) }
 {
     let mut st = start;
-    let mut at = 0;
-    while indices.len() - at >= 3 {
-        let i = wide(indices[at]);
-        let j = wide(indices[at + 1]);
-        let k = wide(indices[at + 2]);
+    for t in 0..indices.len() / 3 {
+        let i = indices[3 * t] as usize;
+        let j = indices[3 * t + 1] as usize;
+        let k = indices[3 * t + 2] as usize;
         st = place_triple(
             vertices, positions, transform, i, j, k, handle, n, st, triangles, handles,
         );
-        at += 3;
     }
     st
 }
@@ -226,13 +218,12 @@ fn place_all(
         placings: 0,
         far: false,
     };
-    let mut at = 0;
     let mut t = 0;
     let mut p = 0;
     let mut x = 0;
-    while meshes.len() - at >= 3 {
-        let v = wide(meshes[at]);
-        let k = wide(meshes[at + 1]);
+    for m in 0..meshes.len() / 3 {
+        let v = meshes[3 * m] as usize;
+        let k = meshes[3 * m + 1] as usize;
         let te = t + 16;
         let pe = p + 3 * v;
         let xe = x + k;
@@ -241,7 +232,7 @@ fn place_all(
             &positions[p..pe],
             &indices[x..xe],
             &transforms[t..te],
-            meshes[at + 2],
+            meshes[3 * m + 2],
             n,
             st,
             triangles,
@@ -250,7 +241,6 @@ fn place_all(
         t = te;
         p = pe;
         x = xe;
-        at += 3;
     }
     st
 }

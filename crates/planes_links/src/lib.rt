@@ -260,15 +260,12 @@ fn link_neighbours(row: &[u32], words: &mut [u64], from: usize) -> usize
     ensures by_index { (a b : ℕ) → b < most_triangles →
         has (word_of a b) (uppers words.new result) ≡ has (word_of a b) (uppers words.old from) || links_next (lows row.now) a b }
 {
-    let n = row.len();
     let mut k = from;
-    let mut i = 0;
-    while i + 1 < n {
-        let p = row[i] % MOST_TRIANGLES;
-        let q = row[i + 1] % MOST_TRIANGLES;
+    for i in 1..row.len() {
+        let p = row[i - 1] % MOST_TRIANGLES;
+        let q = row[i] % MOST_TRIANGLES;
         k = push(words, k, p, q);
         k = push(words, k, q, p);
-        i += 1;
     }
     k
 }

@@ -9,75 +9,72 @@ use Rattle.placing.proofs.place_all.Goals as goal
 
 pub place_mesh-st-requires : goal.place_mesh-st-requires
 place_mesh-st-requires c =
-    let test = c.loop-at-test.true in
-    let inv = c.loop-at.invariant in
+    let test = c.loop-m-test.true in
+    let inv = c.loop-m.invariant in
     let pre = c.requires in
     let a = c.args in
-    let step = steps a.meshes.now c.loop-at.at (omega arith) in
-    let v = c.wide-v.result in
-    let v-is = c.wide-v.ensures.0 in
-    let k = c.wide-k.result in
-    let k-is = c.wide-k.ensures.0 in
-    let lp = part_length a.positions.now c.loop-at.p (c.loop-at.p + 3 * v) (omega arith) (omega arith) in
-    let lt = part_length a.transforms.now c.loop-at.t (c.loop-at.t + 16) (omega arith) (omega arith) in
-    let lx = part_length a.indices.now c.loop-at.x (c.loop-at.x + k) (omega arith) (omega arith) in
-    let third = triples_third (take (c.loop-at.x + k - c.loop-at.x) (drop c.loop-at.x a.indices.now)) (get_or a.meshes.now (c.loop-at.at + 1) 0) (omega arith) in
+    let step = steps a.meshes.now (3 * c.loop-m.m) (omega arith) in
+    let v = get_or a.meshes.now (3 * c.loop-m.m) 0 in
+    let k = get_or a.meshes.now (3 * c.loop-m.m + 1) 0 in
+    let lp = part_length a.positions.now c.loop-m.p (c.loop-m.p + 3 * v) (omega arith) (omega arith) in
+    let lt = part_length a.transforms.now c.loop-m.t (c.loop-m.t + 16) (omega arith) (omega arith) in
+    let lx = part_length a.indices.now c.loop-m.x (c.loop-m.x + k) (omega arith) (omega arith) in
+    let third = triples_third (take (c.loop-m.x + k - c.loop-m.x) (drop c.loop-m.x a.indices.now)) (get_or a.meshes.now (3 * c.loop-m.m + 1) 0) (omega arith) in
     omega arith
 
-pub loop-at-preserved : goal.loop-at-preserved
-loop-at-preserved c =
-    let test = c.loop-at-test.true in
-    let inv = c.loop-at.invariant in
+pub loop-m-preserved : goal.loop-m-preserved
+loop-m-preserved c =
+    let test = c.loop-m-test.true in
+    let inv = c.loop-m.invariant in
     let a = c.args in
-    let step = steps a.meshes.now c.loop-at.at (omega arith) in
-    let v = c.wide-v.result in
-    let v-is = c.wide-v.ensures.0 in
-    let k = c.wide-k.result in
-    let k-is = c.wide-k.ensures.0 in
+    let step = steps a.meshes.now (3 * c.loop-m.m) (omega arith) in
+    let v = get_or a.meshes.now (3 * c.loop-m.m) 0 in
+    let k = get_or a.meshes.now (3 * c.loop-m.m + 1) 0 in
     let done = c.place_mesh-st.ensures in
     let same = c.place_mesh-st.auto in
-    let lx = part_length a.indices.now c.loop-at.x (c.loop-at.x + k) (omega arith) (omega arith) in
-    let third = triples_third (take (c.loop-at.x + k - c.loop-at.x) (drop c.loop-at.x a.indices.now)) (get_or a.meshes.now (c.loop-at.at + 1) 0) (omega arith) in
-    let et : c.loop-at.t + 16 - c.loop-at.t ≡ 16 = omega arith in
-    let ep : c.loop-at.p + 3 * v - c.loop-at.p ≡ 3 * v = omega arith in
-    let ex : c.loop-at.x + k - c.loop-at.x ≡ k = omega arith in
+    let lx = part_length a.indices.now c.loop-m.x (c.loop-m.x + k) (omega arith) (omega arith) in
+    let third = triples_third (take (c.loop-m.x + k - c.loop-m.x) (drop c.loop-m.x a.indices.now)) (get_or a.meshes.now (3 * c.loop-m.m + 1) 0) (omega arith) in
+    let et : c.loop-m.t + 16 - c.loop-m.t ≡ 16 = omega arith in
+    let ep : c.loop-m.p + 3 * v - c.loop-m.p ≡ 3 * v = omega arith in
+    let ex : c.loop-m.x + k - c.loop-m.x ≡ k = omega arith in
+    let next : 3 * (c.loop-m.m + 1) ≡ 3 * c.loop-m.m + 3 = omega arith in
     record {
-      inside = omega arith;
+      inside = rw next (omega arith);
       wide = omega arith;
       long = omega arith;
-      placed = omega arith;
-      points = omega arith;
-      listed = omega arith;
-      some = omega arith;
-      few = omega arith;
+      placed = rw next (omega arith);
+      points = rw next (omega arith);
+      listed = rw next (omega arith);
+      some = rw next (omega arith);
+      few = rw next (omega arith);
       ran =
-          rw (done.made, et, ep, ex, v-is, k-is)
+          rw (next, done.made, et, ep, ex)
           (sym
-          (all_step a.n (world c.loop-at.triangles c.loop-at.handles c.loop-at.st) a.meshes.now a.transforms.now a.positions.now a.indices.now c.loop-at.at c.loop-at.t c.loop-at.p c.loop-at.x (omega arith))
+          (all_step a.n (world c.loop-m.triangles c.loop-m.handles c.loop-m.st) a.meshes.now a.transforms.now a.positions.now a.indices.now (3 * c.loop-m.m) c.loop-m.t c.loop-m.p c.loop-m.x (omega arith))
           ∙ inv.ran);
     }
 
 pub returns : goal.returns
 returns c =
-    let inv = c.loop-at.invariant in record {
-      result_after = sym (all_done _ _ _ _ _ _ c.loop-at.at (omega arith)) ∙ inv.ran;
+    let inv = c.loop-m.invariant in record {
+      result_after = sym (all_done _ _ _ _ _ _ (3 * c.loop-m.m) (omega arith)) ∙ inv.ran;
       kept_le_n = omega arith;
     }
 
 pub slice_bounds-place_mesh-end : goal.slice_bounds-place_mesh-end
-slice_bounds-place_mesh-end c = let test = c.loop-at-test.true in
-    let inv = c.loop-at.invariant in
-    let step = steps c.args.meshes.now c.loop-at.at (omega arith) in
+slice_bounds-place_mesh-end c = let test = c.loop-m-test.true in
+    let inv = c.loop-m.invariant in
+    let step = steps c.args.meshes.now (3 * c.loop-m.m) (omega arith) in
     omega arith
 
-pub slice_bounds-place_mesh-end-in-loop-at : goal.slice_bounds-place_mesh-end-in-loop-at
-slice_bounds-place_mesh-end-in-loop-at c = let test = c.loop-at-test.true in
-    let inv = c.loop-at.invariant in
-    let step = steps c.args.meshes.now c.loop-at.at (omega arith) in
+pub slice_bounds-place_mesh-end-in-loop-m : goal.slice_bounds-place_mesh-end-in-loop-m
+slice_bounds-place_mesh-end-in-loop-m c = let test = c.loop-m-test.true in
+    let inv = c.loop-m.invariant in
+    let step = steps c.args.meshes.now (3 * c.loop-m.m) (omega arith) in
     omega arith
 
-pub slice_bounds-place_mesh-end-in-loop-at-2 : goal.slice_bounds-place_mesh-end-in-loop-at-2
-slice_bounds-place_mesh-end-in-loop-at-2 c = let test = c.loop-at-test.true in
-    let inv = c.loop-at.invariant in
-    let step = steps c.args.meshes.now c.loop-at.at (omega arith) in
+pub slice_bounds-place_mesh-end-in-loop-m-2 : goal.slice_bounds-place_mesh-end-in-loop-m-2
+slice_bounds-place_mesh-end-in-loop-m-2 c = let test = c.loop-m-test.true in
+    let inv = c.loop-m.invariant in
+    let step = steps c.args.meshes.now (3 * c.loop-m.m) (omega arith) in
     omega arith
