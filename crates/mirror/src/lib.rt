@@ -235,8 +235,8 @@ fn snap_all(triangles: &[f32], n: usize, ray: Ray, plane_triangles: &[u32]) -> O
         result ≡ snap_all_of tri ray plane_triangles.now None }
 {
     let mut best: Option<(usize, f32)> = None;
-    for k in 0..plane_triangles.len() {
-        let i = plane_triangles[k] as usize;
+    for t in plane_triangles {
+        let i = *t as usize;
         best = snap_on(
             columns::corner_at(triangles, n, i),
             columns::edges_at(triangles, n, i),
@@ -268,8 +268,8 @@ fn find(triangles: &[f32], n: usize, p: Vec3, plane_triangles: &[u32]) -> Option
     ensures { (tri : ℕ → Triangle) → AllRead tri triangles.now n plane_triangles.now →
         result ≡ find_of tri p plane_triangles.now }
 {
-    for k in 0..plane_triangles.len() {
-        let i = plane_triangles[k] as usize;
+    for t in plane_triangles {
+        let i = *t as usize;
         if geometry::contains(
             columns::corner_at(triangles, n, i),
             columns::edges_at(triangles, n, i),

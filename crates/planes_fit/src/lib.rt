@@ -83,8 +83,8 @@ fn sums_of(rows: &[f32], np: usize, group: &[u32], seed: PatchRow) -> Sums
         area: 0.0,
         aabb,
     };
-    for k in 0..group.len() {
-        let p = group[k] as usize;
+    for patch in group {
+        let p = *patch as usize;
         s = add_patch(normal, s, planes_patches::row_at(rows, p));
     }
     s
@@ -114,8 +114,8 @@ fn mean_offset(triangles: &[f32], handles: &[u32], n: usize, normal: Vec3, tris:
         sum: 0.0,
         weight: 0.0,
     };
-    for k in 0..tris.len() {
-        let i = tris[k] as usize;
+    for t in tris {
+        let i = *t as usize;
         s = add_height(normal, s, columns::triangle_at(triangles, handles, n, i));
     }
     s.sum / float::max(s.weight, 1e-12)
@@ -144,8 +144,8 @@ fn spread_of(
     ensures { result ≡ spread_of (triangle_at_of triangles.now handles.now n) normal offset tris.now }
 {
     let mut s = 0.0;
-    for k in 0..tris.len() {
-        let i = tris[k] as usize;
+    for t in tris {
+        let i = *t as usize;
         s = reach(
             normal,
             offset,
@@ -245,8 +245,8 @@ fn name_group(group: &[u32], number: u32, group_of: &mut [u32])
     requires { Below (length group_of.old) group.now }
     ensures { (p : ℕ) → get_or group_of.new p 0 ≡ cond (has p group.now) number (get_or group_of.old p 0) }
 {
-    for k in 0..group.len() {
-        let p = group[k] as usize;
+    for patch in group {
+        let p = *patch as usize;
         group_of[p] = number;
     }
 }

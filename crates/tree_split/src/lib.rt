@@ -62,8 +62,8 @@ pub fn bounds(extents: &[f32], n: usize, part: &[u32]) -> Aabb
     ensures { result ≡ bounds_of (aabb_at_of extents.now) part.now }
 {
     let mut acc = geometry::new_empty();
-    for i in 0..part.len() {
-        let t = part[i] as usize;
+    for tri in part {
+        let t = *tri as usize;
         acc = geometry::union(acc, aabb_at(extents, t));
     }
     acc
@@ -76,8 +76,8 @@ fn centroid_aabb(extents: &[f32], n: usize, part: &[u32]) -> Aabb
     ensures { result ≡ bounds_of (λ i. from_point_of (centroid_at_of extents.now i)) part.now }
 {
     let mut acc = geometry::new_empty();
-    for i in 0..part.len() {
-        let t = part[i] as usize;
+    for tri in part {
+        let t = *tri as usize;
         acc = geometry::union(acc, geometry::from_point(centroid_at(extents, t)));
     }
     acc

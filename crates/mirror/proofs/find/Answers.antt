@@ -9,39 +9,39 @@ use Rattle.mirror.proofs.find.Goals as goal
 
 pub corner_at-requires : goal.corner_at-requires
 unfolding Below
-corner_at-requires c = (c.requires.0, c.requires.1 _ c.loop-k-test.true)
+corner_at-requires c = (c.requires.0, c.requires.1 _ c.loop-t-test.true)
 
 pub edges_at-requires : goal.edges_at-requires
 unfolding Below
-edges_at-requires c = (c.requires.0, c.requires.1 _ c.loop-k-test.true)
+edges_at-requires c = (c.requires.0, c.requires.1 _ c.loop-t-test.true)
 
 pub dots_at-requires : goal.dots_at-requires
 unfolding Below
-dots_at-requires c = (c.requires.0, c.requires.1 _ c.loop-k-test.true)
+dots_at-requires c = (c.requires.0, c.requires.1 _ c.loop-t-test.true)
 
 pub returns-then-contains : goal.returns-then-contains
 unfolding AllRead
 returns-then-contains c =
     let a = c.args in
-    let k = c.loop-k.k in
+    let k = c.loop-t.t-index in
     let i = get_or a.plane_triangles.now k 0 in
     λ tri h.
     let e : c.contains.result ≡ contains_point_of (tri i) a.p =
-    c.contains.ensures ∙ rw (c.corner_at.ensures, c.edges_at.ensures, c.dots_at.ensures) (contains_read a.triangles.now a.n i (tri i) a.p (h k c.loop-k-test.true)) in
-    rw (← c.loop-k.invariant tri h, find_step tri a.plane_triangles.now k a.p c.loop-k-test.true, ← e, c.if-contains.true)
+    c.contains.ensures ∙ rw (c.corner_at.ensures, c.edges_at.ensures, c.dots_at.ensures) (contains_read a.triangles.now a.n i (tri i) a.p (h k c.loop-t-test.true)) in
+    rw (← c.loop-t.invariant tri h, find_step tri a.plane_triangles.now k a.p c.loop-t-test.true, ← e, c.if-contains.true)
 
-pub loop-k-preserved : goal.loop-k-preserved
+pub loop-t-preserved : goal.loop-t-preserved
 unfolding AllRead
-loop-k-preserved c =
+loop-t-preserved c =
     let a = c.args in
-    let k = c.loop-k.k in
+    let k = c.loop-t.t-index in
     let i = get_or a.plane_triangles.now k 0 in
     λ tri h.
     let e : c.contains.result ≡ contains_point_of (tri i) a.p =
-    c.contains.ensures ∙ rw (c.corner_at.ensures, c.edges_at.ensures, c.dots_at.ensures) (contains_read a.triangles.now a.n i (tri i) a.p (h k c.loop-k-test.true)) in
-    rw (← c.loop-k.invariant tri h, find_step tri a.plane_triangles.now k a.p c.loop-k-test.true, ← e, c.if-contains.false)
+    c.contains.ensures ∙ rw (c.corner_at.ensures, c.edges_at.ensures, c.dots_at.ensures) (contains_read a.triangles.now a.n i (tri i) a.p (h k c.loop-t-test.true)) in
+    rw (← c.loop-t.invariant tri h, find_step tri a.plane_triangles.now k a.p c.loop-t-test.true, ← e, c.if-contains.false)
 
 pub returns : goal.returns
 returns c =
     let a = c.args in
-    λ tri h. sym (find_done tri a.plane_triangles.now c.loop-k.k a.p c.loop-k-test.false) ∙ c.loop-k.invariant tri h
+    λ tri h. sym (find_done tri a.plane_triangles.now c.loop-t.t-index a.p c.loop-t-test.false) ∙ c.loop-t.invariant tri h

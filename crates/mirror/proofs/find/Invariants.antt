@@ -7,6 +7,6 @@ use Rattle.mirror.specs.Locate.{find_of}
 use Rattle.mirror.specs.Rows.{AllRead}
 use Rattle.mirror.proofs.find.Given as goal
 
-abbrev pub invariant-loop-k : goal.invariant-loop-k
-invariant-loop-k l =
-    (tri : ℕ → Triangle) → AllRead tri l.triangles l.n l.plane_triangles → find_of tri l.p (drop l.k l.plane_triangles) ≡ find_of tri l.p l.plane_triangles
+abbrev pub invariant-loop-t : goal.invariant-loop-t
+invariant-loop-t l =
+    (tri : ℕ → Triangle) → AllRead tri l.triangles l.n l.plane_triangles → find_of tri l.p (drop l.t-index l.plane_triangles) ≡ find_of tri l.p l.plane_triangles

@@ -10,26 +10,26 @@ use Rattle.mirror.proofs.snap_all.Goals as goal
 
 pub corner_at-requires : goal.corner_at-requires
 unfolding Below
-corner_at-requires c = (c.requires.0, c.requires.1 _ c.loop-k-test.true)
+corner_at-requires c = (c.requires.0, c.requires.1 _ c.loop-t-test.true)
 
 pub edges_at-requires : goal.edges_at-requires
 unfolding Below
-edges_at-requires c = (c.requires.0, c.requires.1 _ c.loop-k-test.true)
+edges_at-requires c = (c.requires.0, c.requires.1 _ c.loop-t-test.true)
 
-pub loop-k-preserved : goal.loop-k-preserved
+pub loop-t-preserved : goal.loop-t-preserved
 unfolding AllRead
-loop-k-preserved c =
+loop-t-preserved c =
     let a = c.args in
-    let k = c.loop-k.k in
+    let k = c.loop-t.t-index in
     let i = get_or a.plane_triangles.now k 0 in
     λ tri h.
-    let e : c.snap_on-best.result ≡ snap_of (tri i) a.ray i c.loop-k.best =
-    c.snap_on-best.ensures ∙ rw (c.corner_at.ensures, c.edges_at.ensures) (snap_read a.triangles.now a.n i (tri i) a.ray c.loop-k.best (h k c.loop-k-test.true)) in
+    let e : c.snap_on-best.result ≡ snap_of (tri i) a.ray i c.loop-t.best =
+    c.snap_on-best.ensures ∙ rw (c.corner_at.ensures, c.edges_at.ensures) (snap_read a.triangles.now a.n i (tri i) a.ray c.loop-t.best (h k c.loop-t-test.true)) in
     ap (snap_all_of tri a.ray (drop (k + 1) a.plane_triangles.now)) e
-    ∙ sym (snap_step tri a.plane_triangles.now k a.ray c.loop-k.best c.loop-k-test.true)
-    ∙ c.loop-k.invariant tri h
+    ∙ sym (snap_step tri a.plane_triangles.now k a.ray c.loop-t.best c.loop-t-test.true)
+    ∙ c.loop-t.invariant tri h
 
 pub returns : goal.returns
 returns c =
     let a = c.args in
-    λ tri h. sym (snap_done tri a.plane_triangles.now c.loop-k.k a.ray c.loop-k.best c.loop-k-test.false) ∙ c.loop-k.invariant tri h
+    λ tri h. sym (snap_done tri a.plane_triangles.now c.loop-t.t-index a.ray c.loop-t.best c.loop-t-test.false) ∙ c.loop-t.invariant tri h

@@ -7,6 +7,6 @@ use Rattle.mirror.specs.Locate.{snap_all_of}
 use Rattle.mirror.specs.Rows.{AllRead}
 use Rattle.mirror.proofs.snap_all.Given as goal
 
-abbrev pub invariant-loop-k : goal.invariant-loop-k
-invariant-loop-k l =
-    (tri : ℕ → Triangle) → AllRead tri l.triangles l.n l.plane_triangles → snap_all_of tri l.ray (drop l.k l.plane_triangles) l.best ≡ snap_all_of tri l.ray l.plane_triangles l.initial.best
+abbrev pub invariant-loop-t : goal.invariant-loop-t
+invariant-loop-t l =
+    (tri : ℕ → Triangle) → AllRead tri l.triangles l.n l.plane_triangles → snap_all_of tri l.ray (drop l.t-index l.plane_triangles) l.best ≡ snap_all_of tri l.ray l.plane_triangles l.initial.best

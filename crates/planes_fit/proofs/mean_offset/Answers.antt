@@ -1,27 +1,23 @@
 -- `planes_fit::mean_offset` meets its contract: the triangles from here on give what all give.
 use mathlib.Core.Path.{◌∙◌, refl, sym}
-use native.Mathlib.Omega.{arith}
 use Rattle.laws.proofs.Lists.{fold_done, fold_step}
 use Rattle.order.specs.Sort.{Below}
 use Rattle.planes_fit.specs.Fit.{mean_offset_of}
 use Rattle.planes_fit.proofs.mean_offset.Goals as goal
 
-pub overflow_cast-i : goal.overflow_cast-i
-overflow_cast-i c = omega (arith, c.shared_slice_known-in-loop-k-1.given c.loop-k.k)
-
 pub triangle_at-requires : goal.triangle_at-requires
 unfolding Below
-triangle_at-requires c = let p = c.requires in (p.n_in_bounds, p.n_in_bounds_2, p.below _ c.loop-k-test.true)
+triangle_at-requires c = let p = c.requires in (p.n_in_bounds, p.n_in_bounds_2, p.below _ c.loop-t-test.true)
 
-pub loop-k-preserved : goal.loop-k-preserved
-loop-k-preserved c = rw (c.add_height-s.ensures, c.triangle_at.ensures) (sym (fold_step _ _ _ _ c.loop-k-test.true) ∙ c.loop-k.invariant)
+pub loop-t-preserved : goal.loop-t-preserved
+loop-t-preserved c = rw (c.add_height-s.ensures, c.triangle_at.ensures) (sym (fold_step _ _ _ _ c.loop-t-test.true) ∙ c.loop-t.invariant)
 
 pub returns : goal.returns
 unfolding mean_offset_of
-returns c = let e = sym (fold_done _ _ _ _ c.loop-k-test.false) ∙ c.loop-k.invariant in rw (c.max.ensures, ← e)
+returns c = let e = sym (fold_done _ _ _ _ c.loop-t-test.false) ∙ c.loop-t.invariant in rw (c.max.ensures, ← e)
 
-pub loop-k-init : goal.loop-k-init
-loop-k-init c = refl
+pub loop-t-init : goal.loop-t-init
+loop-t-init c = refl
 
 pub add_height-s-requires : goal.add_height-s-requires
 add_height-s-requires c = tt

@@ -6,6 +6,6 @@ use Rattle.columns.specs.Columns.{triangle_at_of}
 use Rattle.planes_fit.specs.Fit.{heights_of}
 use Rattle.planes_fit.proofs.mean_offset.Given as goal
 
-abbrev pub invariant-loop-k : goal.invariant-loop-k
-invariant-loop-k l =
-    foldl (λ r i. heights_of l.normal r (triangle_at_of l.triangles l.handles l.n i)) l.s (drop l.k l.tris) ≡ foldl (λ r i. heights_of l.normal r (triangle_at_of l.triangles l.handles l.n i)) l.initial.s l.tris
+abbrev pub invariant-loop-t : goal.invariant-loop-t
+invariant-loop-t l =
+    foldl (λ r i. heights_of l.normal r (triangle_at_of l.triangles l.handles l.n i)) l.s (drop l.t-index l.tris) ≡ foldl (λ r i. heights_of l.normal r (triangle_at_of l.triangles l.handles l.n i)) l.initial.s l.tris

@@ -6,6 +6,6 @@ use Rattle.planes_patches.specs.Rows.{row_in}
 use Rattle.planes_fit.specs.Rows.{summed_of}
 use Rattle.planes_fit.proofs.sums_of.Given as goal
 
-abbrev pub invariant-loop-k : goal.invariant-loop-k
-invariant-loop-k l =
-    foldl (λ r p. summed_of l.normal r (row_in l.rows p)) l.s (drop l.k l.group) ≡ foldl (λ r p. summed_of l.normal r (row_in l.rows p)) l.initial.s l.group
+abbrev pub invariant-loop-patch : goal.invariant-loop-patch
+invariant-loop-patch l =
+    foldl (λ r p. summed_of l.normal r (row_in l.rows p)) l.s (drop l.patch-index l.group) ≡ foldl (λ r p. summed_of l.normal r (row_in l.rows p)) l.initial.s l.group

@@ -5,5 +5,5 @@ use lib.ListN.{length, take}
 use Rattle.tree_split.specs.Split.{aabb_at_of, bounds_of}
 use Rattle.tree_split.proofs.bounds.Given as goal
 
-abbrev pub invariant-loop-i : goal.invariant-loop-i
-invariant-loop-i l = (l.i ≤ length l.part) × (l.acc ≡ bounds_of (aabb_at_of l.extents) (take l.i l.part))
+abbrev pub invariant-loop-tri : goal.invariant-loop-tri
+invariant-loop-tri l = (l.tri-index ≤ length l.part) × (l.acc ≡ bounds_of (aabb_at_of l.extents) (take l.tri-index l.part))

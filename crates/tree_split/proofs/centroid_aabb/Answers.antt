@@ -7,21 +7,18 @@ use Rattle.tree_split.specs.Split.{centroid_at_of}
 use Rattle.tree_split.proofs.Laws as law
 use Rattle.tree_split.proofs.centroid_aabb.Goals as goal
 
-pub loop-i-init : goal.loop-i-init
-loop-i-init c = (omega arith, c.new_empty-acc.ensures ∙ sym (law.bounds_none (λ j. from_point_of (centroid_at_of c.args.extents.now j)) c.args.part.now))
-
-pub overflow_cast-t : goal.overflow_cast-t
-overflow_cast-t c = omega (arith, c.shared_slice_known-2-1.given c.loop-i.i)
+pub loop-tri-init : goal.loop-tri-init
+loop-tri-init c = (omega arith, c.new_empty-acc.ensures ∙ sym (law.bounds_none (λ j. from_point_of (centroid_at_of c.args.extents.now j)) c.args.part.now))
 
 pub centroid_at-requires : goal.centroid_at-requires
 unfolding Below
-centroid_at-requires c = let p = c.requires.n_in_bounds in let h = c.requires.below c.loop-i.i c.loop-i-test.true in omega arith
+centroid_at-requires c = let p = c.requires.n_in_bounds in let h = c.requires.below c.loop-tri.tri-index c.loop-tri-test.true in omega arith
 
-pub loop-i-preserved : goal.loop-i-preserved
-loop-i-preserved c = (omega arith, rw (c.union-acc.ensures, c.from_point.ensures, c.centroid_at.ensures, c.loop-i.invariant.1) (sym (law.bounds_step _ _ c.loop-i.i c.loop-i-test.true)))
+pub loop-tri-preserved : goal.loop-tri-preserved
+loop-tri-preserved c = (omega arith, rw (c.union-acc.ensures, c.from_point.ensures, c.centroid_at.ensures, c.loop-tri.invariant.1) (sym (law.bounds_step _ _ c.loop-tri.tri-index c.loop-tri-test.true)))
 
 pub returns : goal.returns
-returns c = c.loop-i.invariant.1 ∙ law.bounds_all (λ j. from_point_of (centroid_at_of c.args.extents.now j)) c.args.part.now c.loop-i.i (omega arith)
+returns c = c.loop-tri.invariant.1 ∙ law.bounds_all (λ j. from_point_of (centroid_at_of c.args.extents.now j)) c.args.part.now c.loop-tri.tri-index (omega arith)
 
 pub new_empty-acc-requires : goal.new_empty-acc-requires
 new_empty-acc-requires c = tt

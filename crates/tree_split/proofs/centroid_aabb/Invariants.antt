@@ -6,5 +6,5 @@ use Rattle.geometry.specs.Aabb.{from_point_of}
 use Rattle.tree_split.specs.Split.{centroid_at_of, bounds_of}
 use Rattle.tree_split.proofs.centroid_aabb.Given as goal
 
-abbrev pub invariant-loop-i : goal.invariant-loop-i
-invariant-loop-i l = (l.i ≤ length l.part) × (l.acc ≡ bounds_of (λ j. from_point_of (centroid_at_of l.extents j)) (take l.i l.part))
+abbrev pub invariant-loop-tri : goal.invariant-loop-tri
+invariant-loop-tri l = (l.tri-index ≤ length l.part) × (l.acc ≡ bounds_of (λ j. from_point_of (centroid_at_of l.extents j)) (take l.tri-index l.part))
