@@ -1,5 +1,5 @@
 -- The laws of the loops of `bvh`, and of the whole:
---     extents_more, keys_more, counted_more, padded_more, rows_more     one more turn of each loop
+--     extents_more, keys_more, padded_more, rows_more     one more turn of each loop
 --     tree_padded      padded boxes read as the padded tree
 --     stands, traced   what the build leaves, and what a trace reads of it (`traced_in`: from the two parts of one area)
 use mathlib.Core.Path.{◌≡◌, refl, sym, ap, ◌∙◌, subst}
@@ -19,6 +19,8 @@ use Rattle.float.specs.Compare.{is_finite}
 use Rattle.float.specs.Key.{key_of_float}
 use Rattle.float.proofs.Keys.{float_key_leb}
 use Rattle.order.specs.Sort.{Below}
+use Rattle.order.specs.Runs.{up_to}
+use Rattle.order.proofs.Positions.{up_to_length, up_to_at, up_to_positions}
 use Rattle.order.proofs.Stable.{by-eq}
 use Rattle.vector.specs.declared.Vec3.{Vec3}
 use Rattle.vector.specs.Vector.{axis_of}
@@ -194,10 +196,6 @@ keyed_in e mid m keys same room k =
 
 -- ---- numbers
 
--- the first i positions hold their own number
-unfoldable pub CountedTo : List ℕ → ℕ → Type 0
-CountedTo p i = (k : ℕ) → k < i → get_or p k 0 ≡ k
-
 count_at : (i n k : ℕ) → k < n → get_or (count_to i n) k 0 ≡ i + k
 unfolding count_to
 count_at i zero k h = absurd (not-suc-le-zero h)
@@ -209,20 +207,11 @@ unfolding count_to
 count_length i zero = refl
 count_length i (suc n) = ap suc (count_length (suc i) n)
 
-pub counted_none : (p : List ℕ) → CountedTo p 0
-unfolding CountedTo
-counted_none p k h = absurd (not-suc-le-zero h)
-
-pub counted_more : (p : List ℕ) (i : ℕ) → i < length p → CountedTo p i → CountedTo (set p i i) (i + 1)
-unfolding CountedTo
-counted_more p i long old k h =
-    by-eq k i (λ same. rw same (get_or-set_same p i i 0 long)) (λ other. get_or-set_other p i k i 0 other ∙ old k (less k i h other))
-
-pub counted_done : (p : List ℕ) (n i : ℕ) → length p ≡ n → i ≡ n → CountedTo p i → (p ≡ count_to 0 n) × Below n p
-unfolding CountedTo Below
-counted_done p n i long same all = (
-  ext_get_or 0 p (count_to 0 n) (long ∙ sym (count_length 0 n)) (λ k h. all k (omega arith) ∙ sym (count_at 0 n k (omega arith) ∙ zero_plus k)),
-  λ k h. rw (all k (omega arith)) (omega arith),
+-- the positions from 0 are the leaves as the build begins
+pub counted : (p : List ℕ) (n : ℕ) → p ≡ up_to n → (p ≡ count_to 0 n) × Below n p
+counted p n e = (
+  e ∙ ext_get_or 0 (up_to n) (count_to 0 n) (up_to_length n ∙ sym (count_length 0 n)) (λ k h. let l = up_to_length n in up_to_at n k (omega arith) ∙ sym (count_at 0 n k (omega arith) ∙ zero_plus k)),
+  rw e (up_to_positions n),
 )
   where
     zero_plus : (k : ℕ) → 0 + k ≡ k

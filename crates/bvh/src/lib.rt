@@ -11,7 +11,6 @@ ghost use Rattle.vector.specs.Vector.{axis_of};
 ghost use Rattle.geometry.specs.Slab.{padded_of};
 ghost use Rattle.columns.specs.Columns.{column_count, vec_at_of};
 ghost use Rattle.tree_split.specs.Split.{aabb_at_of, centroid_at_of, KeysInOrder};
-ghost use Rattle.tree_build.specs.Tree.{count_to};
 ghost use Rattle.tree_build.specs.Areas.{box_at_of, part};
 ghost use Rattle.tree_trace.specs.Leaf.{corner_at_of, edges_at_of};
 ghost use Rattle.bvh.specs.Bvh.{aabb_of, centroid_in, extent_row, box_row, edges_row, all_finite, finite_of, padded_in, rows_in, KeysIn, BvhLent, TreeOf, BvhOf};
@@ -125,17 +124,6 @@ fn put_all_keys(
 
 // ---- the tree
 
-// Each position's own number.
-fn number(leaf_order: &mut [u32])
-    requires { length leaf_order.old < 65536 }
-    ensures { (leaf_order.new ≡ count_to 0 (length leaf_order.old)) ×
-        Below (length leaf_order.old) leaf_order.new }
-{
-    for i in 0..leaf_order.len() {
-        leaf_order[i] = i as u32;
-    }
-}
-
 // Builds the tree of as many triangles as leaf_order is long. The answer is the count of its nodes, and 0 where a centroid is not finite.
 fn build_tree(
     triangles: &[f32],
@@ -159,7 +147,7 @@ fn build_tree(
     let two = 2 * count;
     let three = 3 * count;
     if put_all_keys(triangles, handles, n, count, keys) {
-        number(leaf_order);
+        order::count_up(leaf_order);
         return tree_build::build_sah(
             &keys[0..count],
             &keys[count..two],
@@ -230,8 +218,8 @@ fn put_rows(triangles: &[f32], n: usize, leaf_order: &[u32], leaves: &mut [f32])
         (corner_at_of leaves.new k ≡ vec_at_of triangles.now n (get_or leaf_order.now k 0)) ×
         (edges_at_of leaves.new k ≡ Rattle.columns.specs.Columns.edges_at_of triangles.now n (get_or leaf_order.now k 0)) }
 {
-    for k in 0..leaf_order.len() {
-        let i = leaf_order[k] as usize;
+    for (k, leaf) in leaf_order.iter().enumerate() {
+        let i = *leaf as usize;
         put_row(
             leaves,
             k,

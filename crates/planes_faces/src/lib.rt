@@ -8,7 +8,7 @@ ghost use Rattle.std.specs.Float.{binary32};
 ghost use Rattle.std.specs.Float.Ieee.{of_fields};
 ghost use Rattle.order.specs.Open.{Open};
 ghost use Rattle.order.specs.Sort.{Below};
-ghost use Rattle.order.specs.Runs.{up_to, head_or, first_at, start_of_run, run_starts};
+ghost use Rattle.order.specs.Runs.{head_or, first_at, start_of_run, run_starts};
 ghost use Rattle.columns.specs.Columns.{column_count, vec_at_of};
 ghost use Rattle.planes_faces.specs.Whole.{whole_of, size_of, place_of};
 ghost use Rattle.planes_faces.specs.Key.{step_of, key_by, vertex_key};
@@ -17,16 +17,6 @@ ghost use Rattle.planes_faces.specs.Numbers.{key_at, number_of, is_new_at, Numbe
 ghost use Rattle.planes_faces.specs.Faces.{is_first, faces_in};
 
 // ---- the first index of each key
-
-// index becomes 0, 1, 2 and so on.
-fn count_up(index: &mut [u32])
-    requires { length index.old ≤ 4294967296 }
-    ensures { index.new ≡ up_to (length index.old) }
-{
-    for i in 0..index.len() {
-        index[i] = i as u32;
-    }
-}
 
 // The first of the run that x is in, start being the first of the run of the element before it.
 fn run_start(keys: &[u64], low_keys: &[u64], start: u32, x: u32) -> u32
@@ -86,7 +76,7 @@ pub fn first_indexes(
     ensures firsts { (i : ℕ) → i < length keys.now → get_or first.new i 0 ≡ first_at (key_at keys.now low_keys.now) i }
     ensures rest { Open index.old index.new × Open words.old words.new × Open scratch.old scratch.new }
 {
-    count_up(index);
+    order::count_up(index);
     order::sort_by_key(low_keys, index, words, scratch);
     order::sort_by_key(keys, index, words, scratch);
     mark_run_starts(keys, low_keys, index, first);

@@ -21,8 +21,8 @@ put_all_keys-requires c = let L = c.requires in record {
   count_in_bounds = L.keys_room;
 }
 
-pub number-requires : goal.number-requires
-number-requires c = c.requires.few
+pub count_up-requires : goal.count_up-requires
+count_up-requires c = let few = c.requires.few in omega arith
 
 pub slice_bounds-build_sah-count : goal.slice_bounds-build_sah-count
 slice_bounds-build_sah-count c =
@@ -108,14 +108,14 @@ build_sah-requires c =
     let m = length a.leaf_order.now in
     let ee = c.put_extents.auto.extents in
     let ek = c.put_all_keys.auto.keys in
-    let ep = c.number.auto.leaf_order in
+    let ep = c.count_up.auto.index in
     let some = L.some in
     let r1 = L.extents_room in
     let r2 = L.keys_room in
     let r5 = L.boxes_room in
     let r6 = L.nodes_room in
     let few = L.few in record {
-      listed = record { wide = omega arith; few = few; some = some; within = omega arith; size = ep; inside = c.number.ensures.1 };
+      listed = record { wide = omega arith; few = few; some = some; within = omega arith; size = ep; inside = (law.counted _ _ c.count_up.ensures).1 };
       sorts = record {
         keyed = law.keyed_in c.put_extents.new.extents (centroid_in a.triangles.now a.handles.now a.n) m c.put_all_keys.new.keys
             (λ i h. (c.put_extents.ensures i h).1) (omega arith) (c.put_all_keys.ensures.1 c.if-put_all_keys.true);
@@ -133,7 +133,7 @@ pub shape_of-keys-then-put_all_keys : goal.shape_of-keys-then-put_all_keys
 shape_of-keys-then-put_all_keys c = c.put_all_keys.auto.keys
 
 pub shape_of-leaf_order-then-put_all_keys : goal.shape_of-leaf_order-then-put_all_keys
-shape_of-leaf_order-then-put_all_keys c = c.build_sah.auto.leaf_order ∙ c.number.auto.leaf_order
+shape_of-leaf_order-then-put_all_keys c = c.build_sah.auto.leaf_order ∙ c.count_up.auto.index
 
 pub shape_of-words-then-put_all_keys : goal.shape_of-words-then-put_all_keys
 shape_of-words-then-put_all_keys c = c.build_sah.auto.words
@@ -160,9 +160,9 @@ returns-then-put_all_keys c =
     let r5 = L.boxes_room in
     let r6 = L.nodes_room in
     record {
-      built = λ _. law.stands a.triangles.now a.handles.now a.n m c.build_sah.result c.put_extents.new.extents c.number.new.leaf_order c.build_sah.new.leaf_order
+      built = λ _. law.stands a.triangles.now a.handles.now a.n m c.build_sah.result c.put_extents.new.extents c.count_up.new.index c.build_sah.new.leaf_order
           a.boxes.now c.build_sah.new.boxes a.nodes.now c.build_sah.new.nodes c.put_extents.ensures
-          c.number.auto.leaf_order (c.build_sah.auto.leaf_order ∙ c.number.auto.leaf_order) c.number.ensures.0 c.number.ensures.1 (omega arith)
+          c.count_up.auto.index (c.build_sah.auto.leaf_order ∙ c.count_up.auto.index) (law.counted _ _ c.count_up.ensures).0 (law.counted _ _ c.count_up.ensures).1 (omega arith)
           (omega arith) c.build_sah.ensures.built;
       none = λ f. law.not_both (sym f ∙ sym c.put_all_keys.ensures.0
           ∙ c.if-put_all_keys.true);

@@ -9,9 +9,6 @@ use Rattle.bvh.proofs.put_rows.Goals as goal
 pub loop-k-init : goal.loop-k-init
 loop-k-init c = let a = c.args in (omega arith, refl, law.rows_none a.triangles.now a.n a.leaf_order.now a.leaves.now)
 
-pub overflow_cast-i : goal.overflow_cast-i
-overflow_cast-i c = omega (arith, c.shared_slice_known-in-loop-k-1.given c.loop-k.k)
-
 pub corner_at-requires : goal.corner_at-requires
 unfolding Below
 corner_at-requires c = let p = c.requires in (p.0, p.1 c.loop-k.k c.loop-k-test.true)
