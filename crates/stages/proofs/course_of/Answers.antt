@@ -11,9 +11,6 @@ loop-k-init c = (omega arith, λ source h. h)
 pub bounds-images-k : goal.bounds-images-k
 bounds-images-k c = let a = c.args in let is = c.loop-k.invariant.1 a.source (coursed_none a.plane_floats.now a.plane_words.now a.count a.source a.seq.now) in omega (arith, is.images_room, c.loop-k-test.true, c.requires.count_in_bounds.2)
 
-pub overflow_cast-p : goal.overflow_cast-p
-overflow_cast-p c = omega (arith, (c.shared_slice_known-in-loop-k-1.given c.loop-k.k).fits)
-
 pub next_image-next-requires : goal.next_image-next-requires
 next_image-next-requires c =
     let low = c.requires.by_index c.loop-k.k c.loop-k-test.true in (omega (arith, low, c.requires.count_in_bounds), omega (arith, low, c.requires.count_in_bounds))

@@ -7,9 +7,6 @@ use Rattle.stages.proofs.put_points.Goals as goal
 pub loop-k-init : goal.loop-k-init
 loop-k-init c = (omega arith, refl, λ j h. absurd (let no : ⊥ = omega arith in no))
 
-pub bounds-all-k : goal.bounds-all-k
-bounds-all-k c = omega (arith, c.loop-k-test.true)
-
 pub put_point-requires : goal.put_point-requires
 put_point-requires c = omega (arith, c.loop-k-test.true, c.loop-k.invariant.1, c.requires)
 

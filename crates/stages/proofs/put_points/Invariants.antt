@@ -10,4 +10,4 @@ abbrev pub invariant-loop-k : goal.invariant-loop-k
 invariant-loop-k l =
     (l.k ≤ max_order)
     × (length l.points ≡ length l.initial.points)
-    × ((j : ℕ) → j < l.k → point_in l.points j ≡ get_or l.all j no_point)
+    × ((j : ℕ) → j < l.k → point_in l.points j ≡ get_or l.fn.all j no_point)
