@@ -151,6 +151,7 @@ fn walls_at(on: &[u8], order: u32, place: u32) -> Walls
     let mut len = 0;
     let mut rest = place;
     let mut d = order;
+    // The walk always ends within: behind a `for` an answer would stand that is never given.
     loop {
         let b = block(m, d);
         planes[len] = plane_at(on, planes, len, rest / b);

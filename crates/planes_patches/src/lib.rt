@@ -218,6 +218,7 @@ fn first_in_cell(
     }
     let tail = (head - 1) as usize;
     let mut p = next[tail] as usize;
+    // Each patch names the next, so no `for`.
     loop {
         if is_match(rows, cells, p, x, y, z, k) {
             return p;
