@@ -45,15 +45,13 @@ fn mark_run_starts(keys: &[u64], low_keys: &[u64], index: &[u32], first: &mut [u
     ensures { first.new ≡
         run_starts (key_at keys.now low_keys.now) (head_or 0 index.now) index.now first.old }
 {
-    let n = index.len();
-    if n == 0 {
+    if index.len() == 0 {
         return;
     }
     let mut start = index[0];
-    for p in 0..n {
-        let x = index[p];
-        start = run_start(keys, low_keys, start, x);
-        first[x as usize] = start;
+    for x in index {
+        start = run_start(keys, low_keys, start, *x);
+        first[*x as usize] = start;
     }
 }
 

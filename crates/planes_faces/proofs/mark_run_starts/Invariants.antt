@@ -6,5 +6,5 @@ use Rattle.order.specs.Runs.{head_or, run_starts}
 use Rattle.planes_faces.specs.Numbers.{key_at}
 use Rattle.planes_faces.proofs.mark_run_starts.Given as goal
 
-abbrev pub invariant-loop-p : goal.invariant-loop-p
-invariant-loop-p l = (l.p ≤ length l.index) × (l.start < length l.keys) × (length l.first ≡ length l.initial.first) × (run_starts (key_at l.keys l.low_keys) l.start (drop l.p l.index) l.first ≡ run_starts (key_at l.keys l.low_keys) (head_or 0 l.index) l.index l.initial.first)
+abbrev pub invariant-loop-x : goal.invariant-loop-x
+invariant-loop-x l = (l.x-index ≤ length l.index) × (l.start < length l.keys) × (length l.first ≡ length l.initial.first) × (run_starts (key_at l.keys l.low_keys) l.start (drop l.x-index l.index) l.first ≡ run_starts (key_at l.keys l.low_keys) (head_or 0 l.index) l.index l.initial.first)
