@@ -26,12 +26,13 @@ pub(crate) fn print_forecast(rt: &impl Print, w: &[u32]) -> io::Result<()> {
     let triples = casefile::word(w, 10) / 3;
     let planes = casefile::word(w, 2).min(triples);
     let order = casefile::word(w, 0).min(MAX_IMAGE_ORDER as u32);
-    let r = cost::query_cost(casefile::word(w, 11), planes, planes, order, triples);
-    if r.refusal != 0 {
-        return Ok(());
+    match cost::query_cost(casefile::word(w, 11), planes, planes, order, triples) {
+        Ok(cost) => {
+            println!(rt;
+                "Before it is traced: with {triples} triangles, no more than {planes} walls and order {order}"
+            )?;
+            print_figures(rt, cost)
+        }
+        Err(_) => Ok(()),
     }
-    println!(rt;
-        "Before it is traced: with {triples} triangles, no more than {planes} walls and order {order}"
-    )?;
-    print_figures(rt, r)
 }

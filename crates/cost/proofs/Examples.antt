@@ -3,16 +3,18 @@ use Prim.Native.Nat.{ℕ}
 use mathlib.Core.Path.{◌≡◌, refl}
 use mathlib.Core.List.{List, [], ◌∷◌}
 use lib.ListN.{replicate}
+use Rattle.std.proofs.Common.{Result, Ok, Err}
+use Rattle.refusals.specs.declared.Refusal.{Refusal}
 use Rattle.sequences.specs.Count.{series}
 use Rattle.scene.specs.Areas.{words_in}
-use Rattle.cost.specs.Cost.{levels, levels_of, rays_over, within, takes, cost_of}
+use Rattle.cost.specs.Cost.{levels, levels_of, rays_over, within, takes, turned_away, cost_of}
 use Rattle.cost.specs.declared.Cost.{Cost}
 
-abbrev answer : List ℕ → ℕ → ℕ → ℕ → Cost
-answer counts candidates rays words = record { refusal = 0; counts = counts; candidates = candidates; rays = rays; words = words }
+abbrev answer : List ℕ → ℕ → ℕ → ℕ → Result Cost Refusal
+answer counts candidates rays words = Ok (record { counts = counts; candidates = candidates; rays = rays; words = words })
 
-abbrev none : Cost
-none = record { refusal = 14; counts = replicate 8 0; candidates = 0; rays = 0; words = 0 }
+abbrev none : Result Cost Refusal
+none = Err turned_away
 
 six_six_eight : cost_of 8 6 6 8 12 ≡ answer (3 ∷ 13 ∷ 64 ∷ 320 ∷ 1600 ∷ 8000 ∷ 40000 ∷ 200000 ∷ []) 250000 354375162 5502966
 unfolding cost_of takes within levels_of levels series rays_over words_in

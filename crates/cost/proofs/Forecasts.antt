@@ -1,19 +1,21 @@
 -- The answer says what a reader believes: the figures of `cost_of` are those of the images that are visited, in every scene with those numbers.
 use Prim.Native.Nat.{ℕ, zero, suc, ◌+◌, ◌-◌, ◌*◌, ◌/◌, ◌%◌, ◌≤◌, ◌<◌, min}
 use mathlib.Core.Path.{◌≡◌, refl, sym, ap, ap₂, ◌∙◌, subst}
-use mathlib.Core.Bool.{true, false, ◌&&◌}
+use mathlib.Core.Bool.{Bool, true, false, ◌&&◌, true≢false}
 use mathlib.Core.List.{List}
 use native.Mathlib.Omega.{arith}
 use borrow.Author.Tests.{leb-true}
 use lib.Dec.{leb}
 use lib.ListN.{length, get_or, replicate, length-append, length-replicate}
+use Rattle.std.proofs.Common.{Result, Ok, Err}
+use Rattle.refusals.specs.declared.Refusal.{Refusal}
 use Rattle.laws.proofs.Bools.{both}
 use Rattle.sequences.specs.Allowed.{visited, most, most_order, most_planes}
 use Rattle.sequences.specs.Count.{series, firsts, images}
 use Rattle.sequences.proofs.Counting.{count_law}
 use Rattle.scene.specs.Limits.{most_crossings, most_triples}
 use Rattle.scene.specs.Areas.{work_words}
-use Rattle.cost.specs.Cost.{levels, levels_of, counts_by_order, to_eight, rays_over, within, takes, turned_away, cost_of}
+use Rattle.cost.specs.Cost.{levels, levels_of, counts_by_order, to_eight, rays_over, within, takes, turned_away, figures_of, cost_of}
 use Rattle.cost.specs.Forecast.{of_length, Counts, Forecast}
 use Rattle.cost.specs.declared.Cost.{Cost}
 use Rattle.cost.proofs.Counted.{counts_are}
@@ -57,22 +59,34 @@ taken limit planes first order triples e =
 
 pub accepted :
     (limit planes first order triples : ℕ) → takes limit planes first order triples ≡ true →
-    cost_of limit planes first order triples
-    ≡ record {
-      refusal = 0;
-      counts = to_eight order (counts_by_order planes first order);
-      candidates = images planes first order;
-      rays = rays_over limit 1 (to_eight order (counts_by_order planes first order));
-      words = work_words triples (images planes first order);
-    }
+    cost_of limit planes first order triples ≡ Ok (figures_of limit planes first order triples)
 unfolding cost_of
 accepted limit planes first order triples e = rw e
 
 pub refused :
     (limit planes first order triples : ℕ) → takes limit planes first order triples ≡ false →
-    cost_of limit planes first order triples ≡ record { refusal = turned_away; counts = replicate most_order 0; candidates = 0; rays = 0; words = 0 }
+    cost_of limit planes first order triples ≡ Err turned_away
 unfolding cost_of
 refused limit planes first order triples e = rw e
+
+-- figures are answered where nothing is turned away, and are those of the definition
+figures_in : Cost → Result Cost Refusal → Cost
+figures_in z (Ok a) = a
+figures_in z (Err e) = z
+
+answers : Result Cost Refusal → Bool
+answers (Ok a) = true
+answers (Err e) = false
+
+pub figured :
+    (limit planes first order triples : ℕ) (cost : Cost) → cost_of limit planes first order triples ≡ Ok cost →
+    (takes limit planes first order triples ≡ true) × (figures_of limit planes first order triples ≡ cost)
+unfolding figures_in answers
+figured limit planes first order triples cost e = go (takes limit planes first order triples) refl
+  where
+    go : (b : Bool) → takes limit planes first order triples ≡ b → (takes limit planes first order triples ≡ true) × (figures_of limit planes first order triples ≡ cost)
+    go true f = (f, ap (figures_in cost) (sym (accepted limit planes first order triples f) ∙ e))
+    go false f = absurd (true≢false (ap answers (sym e ∙ refused limit planes first order triples f)))
 
 -- ---- eight of them
 
@@ -100,7 +114,7 @@ eight_sums limit on order h =
 
 counts_true :
     (limit planes first order triples : ℕ) → takes limit planes first order triples ≡ true → (on : List ℕ) → length on ≡ planes → firsts on ≡ first →
-    Counts limit triples (visited on order) (cost_of limit planes first order triples)
+    Counts limit triples (visited on order) (figures_of limit planes first order triples)
 counts_true limit planes first order triples ok on hn he =
     let s : Summed limit (to_eight order (counts_by_order planes first order)) (visited on order) =
     subst (λ (n : ℕ). Summed limit (to_eight order (counts_by_order n first order)) (visited on order)) hn
@@ -108,20 +122,21 @@ counts_true limit planes first order triples ok on hn he =
     (eight_sums limit on order (taken limit planes first order triples ok).shallow))
     in
     let many : images planes first order ≡ length (visited on order) = sym (count_law on planes first order hn he) in
-    subst (Counts limit triples (visited on order)) (sym (accepted limit planes first order triples ok))
-    (record {
+    record {
       each = λ k l. ap₂ (λ (n e : ℕ). get_or (to_eight order (counts_by_order n e order)) k 0) (sym hn) (sym he) ∙ each_is on order k;
       sum = s.sum;
       candidates = many;
       rays = s.rays;
       words = ap (work_words triples) many;
-    })
+    }
 
-pub forecast : (limit planes first order triples : ℕ) (r : Cost) → r ≡ cost_of limit planes first order triples → Forecast limit planes first order triples r
+pub forecast : (limit planes first order triples : ℕ) (r : Result Cost Refusal) → r ≡ cost_of limit planes first order triples → Forecast limit planes first order triples r
 forecast limit planes first order triples r e =
     record {
       answer = e;
-      counts = λ ok on hn he. subst (Counts limit triples (visited on order)) (sym e) (counts_true limit planes first order triples ok on hn he);
+      counts = λ cost is on hn he.
+          let f = figured limit planes first order triples cost (sym e ∙ is) in
+          subst (Counts limit triples (visited on order)) f.1 (counts_true limit planes first order triples f.0 on hn he);
     }
 
 -- figures that the functions of the crate give, from numbers that are as wide as the call's
@@ -130,7 +145,7 @@ pub told :
     (wide_limit wide_planes wide_first seen : ℕ) (counts : List ℕ) (rays words : ℕ) → wide_limit ≡ limit → wide_planes ≡ planes → wide_first ≡ first →
     seen ≡ min most (wide_first * series (wide_planes - 1) order) → counts ≡ to_eight order (levels_of (wide_planes - 1) order seen) →
     rays ≡ rays_over wide_limit 1 counts → words ≡ work_words triples seen →
-    Forecast limit planes first order triples (record { refusal = 0; counts = counts; candidates = seen; rays = rays; words = words })
+    Forecast limit planes first order triples (Ok (record { counts = counts; candidates = seen; rays = rays; words = words }))
 told limit planes first order triples ok wide_limit wide_planes wide_first seen counts rays words hl hp hf hs hc hr hw =
     let seen_is : seen ≡ images planes first order = hs ∙ ap₂ (λ (n e : ℕ). min most (e * series (n - 1) order)) hp hf in
     let counts_is : counts ≡ to_eight order (counts_by_order planes first order) = hc ∙ ap₂ (λ (n i : ℕ). to_eight order (levels_of (n - 1) order i)) hp seen_is in
@@ -141,5 +156,5 @@ told limit planes first order triples ok wide_limit wide_planes wide_first seen 
 -- and the refusal
 pub turned :
     (limit planes first order triples : ℕ) → takes limit planes first order triples ≡ false →
-    Forecast limit planes first order triples (record { refusal = turned_away; counts = replicate most_order 0; candidates = 0; rays = 0; words = 0 })
+    Forecast limit planes first order triples (Err turned_away)
 turned limit planes first order triples ok = forecast limit planes first order triples _ (sym (refused limit planes first order triples ok))

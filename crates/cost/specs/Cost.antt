@@ -1,5 +1,7 @@
 -- Document 02, Notes 8 and 12: the figures of a forecast, worked out from crossing limit, planes, first planes allowed, order and triples.
-use Rattle.std.specs.Prelude.{ℕ, zero, suc, ◌+◌, ◌-◌, ◌*◌, ◌/◌, ◌%◌, min, Bool, cond, ◌&&◌, List, [], ◌∷◌, ◌++◌, replicate, leb}
+use Rattle.std.specs.Prelude.{ℕ, zero, suc, ◌+◌, ◌-◌, ◌*◌, ◌/◌, ◌%◌, min, Bool, cond, ◌&&◌, List, [], ◌∷◌, ◌++◌, replicate, leb, Result, Ok, Err}
+use Rattle.refusals.specs.declared.Refusal.{Refusal}
+use Rattle.refusals.specs.declared.Refusal.TheVariants.{Forecast}
 use Rattle.sequences.specs.Allowed.{most_order, most_planes}
 use Rattle.sequences.specs.Count.{series, images}
 use Rattle.scene.specs.Limits.{most_crossings, most_triples}
@@ -44,19 +46,22 @@ unfoldable pub takes : ℕ → ℕ → ℕ → ℕ → ℕ → Bool
 takes limit planes first order triples =
     within limit most_crossings && (within planes most_planes && (within order most_order && (leb first planes && leb triples most_triples)))
 
-abbrev pub turned_away : ℕ
-turned_away = 14
+-- refusal 14
+abbrev pub turned_away : Refusal
+turned_away = Forecast
 
--- the answer for so many crossings of a half segment
-unfoldable pub cost_of : ℕ → ℕ → ℕ → ℕ → ℕ → Cost
-cost_of limit planes first order triples =
+-- the figures for so many crossings of a half segment
+abbrev pub figures_of : ℕ → ℕ → ℕ → ℕ → ℕ → Cost
+figures_of limit planes first order triples =
     let counts = to_eight order (counts_by_order planes first order) in
-    cond (takes limit planes first order triples)
-    (record {
-      refusal = 0;
+    record {
       counts = counts;
       candidates = images planes first order;
       rays = rays_over limit 1 counts;
       words = work_words triples (images planes first order);
-    })
-    (record { refusal = turned_away; counts = replicate most_order 0; candidates = 0; rays = 0; words = 0 })
+    }
+
+-- the answer
+unfoldable pub cost_of : ℕ → ℕ → ℕ → ℕ → ℕ → Result Cost Refusal
+cost_of limit planes first order triples =
+    cond (takes limit planes first order triples) (Ok (figures_of limit planes first order triples)) (Err turned_away)

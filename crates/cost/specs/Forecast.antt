@@ -1,9 +1,10 @@
 -- What a forecast says of the images that a query visits: of every scene with as many planes, as many of which may come first.
-use Rattle.std.specs.Prelude.{ℕ, suc, ◌+◌, ◌<◌, ◌≡◌, true, cond, List, [], ◌∷◌, length, get_or, eqb}
+use Rattle.std.specs.Prelude.{ℕ, suc, ◌+◌, ◌<◌, ◌≡◌, cond, Result, Ok, List, [], ◌∷◌, length, get_or, eqb}
 use Rattle.sequences.specs.Allowed.{visited, most_order}
 use Rattle.sequences.specs.Count.{firsts}
 use Rattle.scene.specs.Areas.{work_words}
-use Rattle.cost.specs.Cost.{rays_at, takes, cost_of}
+use Rattle.refusals.specs.declared.Refusal.{Refusal}
+use Rattle.cost.specs.Cost.{rays_at, cost_of}
 use Rattle.cost.specs.declared.Cost.{Cost}
 
 -- how many of the sequences have n planes
@@ -34,8 +35,8 @@ pub record Counts (limit triples : ℕ) (seen : List (List ℕ)) (r : Cost) : Ty
   pub words : r.words ≡ work_words triples (length seen)
 
 -- WHAT `query_cost` ANSWERS
-pub record Forecast (limit planes first order triples : ℕ) (r : Cost) : Type 0 where
+pub record Forecast (limit planes first order triples : ℕ) (r : Result Cost Refusal) : Type 0 where
   pub answer : r ≡ cost_of limit planes first order triples
-  -- and what it says where it is not 14: `on` has a byte for each plane, 0 where it may come first
+  -- and what it says where it is no refusal: `on` has a byte for each plane, 0 where it may come first
   pub counts :
-      takes limit planes first order triples ≡ true → (on : List ℕ) → length on ≡ planes → firsts on ≡ first → Counts limit triples (visited on order) r
+      (cost : Cost) → r ≡ Ok cost → (on : List ℕ) → length on ≡ planes → firsts on ≡ first → Counts limit triples (visited on order) cost

@@ -12,13 +12,11 @@ ghost use Rattle.scene.specs.Areas.{work_words};
 ghost use Rattle.cost.specs.Cost as spec;
 ghost use Rattle.cost.specs.Forecast.{Forecast};
 
+use refusals::Refusal;
 use scene::{AREAS, CANDIDATES, MORE, MOST_TRIPLES, TRIPLES};
 use sequences::{MAX_IMAGE_NODES, MAX_IMAGE_ORDER, MAX_PLANES};
 
 const MOST_CROSSINGS: usize = scene::MOST_CROSSINGS as usize;
-
-// The refusal of a forecast.
-pub const TURNED_AWAY: u32 = 14;
 
 // The words of 32 bits of an element of each area, in the order of `scene::TRIPLES`; the output is no work area.
 pub const WORDS: [usize; AREAS] = [
@@ -45,10 +43,9 @@ pub const WORDS: [usize; AREAS] = [
 ];
 
 // A forecast: the images of each order from 1 to 8, their sum, which bounds the candidates, the most rays, and the words of work area for that many
-// candidates. All are zero beside a refusal.
-#[derive(Clone, Copy)]
+// candidates.
+#[derive(Clone, Copy, Default)]
 pub struct Cost {
-    pub refusal: u32,
     pub counts: [u32; MAX_IMAGE_ORDER],
     pub candidates: u32,
     pub rays: u64,
@@ -168,29 +165,28 @@ fn words_of(t: usize, c: usize) -> usize
 // The forecast for so many crossings of a half segment, so many planes of which `first` may come first, sequences of at most `order` planes, and so many
 // whole triples. Refuses a crossing limit outside 1 to 32, planes outside 1 to 256, an order outside 1 to 8, more first planes than planes and more than
 // 4,096 triples.
-pub fn query_cost(crossing_limit: u32, planes: u32, first: u32, order: u32, triples: u32) -> Cost
+pub fn query_cost(
+    crossing_limit: u32,
+    planes: u32,
+    first: u32,
+    order: u32,
+    triples: u32,
+) -> Result<Cost, Refusal>
     ensures { Forecast crossing_limit planes first order triples result }
 {
-    if takes(crossing_limit, planes, first, order, triples) {
-        let m = planes as u64 - 1;
-        let all = allowed(m, first as u64, order as usize);
-        let images = visited(all);
-        let counts = counts_of(m, order as usize, images);
-        let rays = rays_of(crossing_limit as u64, counts);
-        let words = words_of(triples as usize, images as usize);
-        return Cost {
-            refusal: 0,
-            counts: counts,
-            candidates: images as u32,
-            rays: rays,
-            words: words as u64,
-        };
+    if !takes(crossing_limit, planes, first, order, triples) {
+        return Err(Refusal::Forecast);
     }
-    Cost {
-        refusal: TURNED_AWAY,
-        counts: [0; MAX_IMAGE_ORDER],
-        candidates: 0,
-        rays: 0,
-        words: 0,
-    }
+    let m = planes as u64 - 1;
+    let all = allowed(m, first as u64, order as usize);
+    let images = visited(all);
+    let counts = counts_of(m, order as usize, images);
+    let rays = rays_of(crossing_limit as u64, counts);
+    let words = words_of(triples as usize, images as usize);
+    Ok(Cost {
+        counts,
+        candidates: images as u32,
+        rays,
+        words: words as u64,
+    })
 }

@@ -5,6 +5,7 @@
 ghost use Rattle.std.specs.Prelude.{◌≡◌, ◌≤◌, length};
 
 use cost::Cost;
+use refusals::Refusal;
 use sequences::{MAX_IMAGE_NODES, MAX_IMAGE_ORDER, RECORD};
 use std::io;
 
@@ -42,16 +43,26 @@ fn show(
     println!(rt;
         "crossings, planes, first, order, triples {crossing_limit} {planes} {first} {order} {triples}"
     )?;
-    let r = cost::query_cost(crossing_limit, planes, first, order, triples);
-    print_answer(rt, r)
+    print_answer(
+        rt,
+        cost::query_cost(crossing_limit, planes, first, order, triples),
+    )
 }
 
-fn print_answer(rt: &impl Print, r: Cost) -> io::Result<()> {
-    print!(rt; "  refusal {}, counts", r.refusal)?;
-    print_counts(rt, r.counts)?;
+// The refusal, or 0 and the figures; zeros beside a refusal.
+fn print_answer(rt: &impl Print, answer: Result<Cost, Refusal>) -> io::Result<()> {
+    match answer {
+        Ok(cost) => print_figures(rt, 0, cost),
+        Err(refusal) => print_figures(rt, refusal.number(), Cost::default()),
+    }
+}
+
+fn print_figures(rt: &impl Print, refusal: u32, cost: Cost) -> io::Result<()> {
+    print!(rt; "  refusal {refusal}, counts")?;
+    print_counts(rt, cost.counts)?;
     println!(rt;
         ", candidates {}, rays {}, words {}",
-        r.candidates, r.rays, r.words
+        cost.candidates, cost.rays, cost.words
     )
 }
 
@@ -143,8 +154,10 @@ fn compare_counts(counts: [u32; MAX_IMAGE_ORDER], records: &[u8], total: usize) 
 fn compare_order(on: &[u8], first: usize, order: usize, records: &mut [u8]) -> Tally {
     match sequences::enumerate(on, order, records) {
         Some(total) => {
-            let r = cost::query_cost(CROSSINGS, narrow(on.len()), narrow(first), narrow(order), 0);
-            compare_counts(r.counts, records, total)
+            match cost::query_cost(CROSSINGS, narrow(on.len()), narrow(first), narrow(order), 0) {
+                Ok(cost) => compare_counts(cost.counts, records, total),
+                Err(_) => one(false),
+            }
         }
         None => one(false),
     }

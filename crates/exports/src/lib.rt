@@ -11,13 +11,14 @@ ghost use Rattle.numbering.specs.Walls.{sequence_answer, planes_told, length_tol
 ghost use Rattle.scene.specs.Scene.{scene};
 ghost use Rattle.scene.specs.Limits.{most_triples};
 ghost use Rattle.scene.specs.Speed.{speed_of};
+ghost use Rattle.cost.specs.Cost.{cost_of};
 ghost use Rattle.cost.specs.Forecast.{Forecast};
 ghost use Rattle.arguments.specs.Point.{given_point};
 ghost use Rattle.mirror.specs.Rows.{plane_float_count, plane_word_count, planes_in};
 ghost use Rattle.search.specs.Outcome.{on_bytes};
 ghost use Rattle.query.specs.Areas.{work};
 ghost use Rattle.exports.specs.Lengths.{least_lengths_of, LengthsSet};
-ghost use Rattle.exports.specs.Answers.{answered_from, cost_from};
+ghost use Rattle.exports.specs.Answers.{answered_from, counts_told, figures_told};
 ghost use Rattle.exports.specs.Entry.{Entered};
 ghost use Rattle.exports.specs.Planes.{PlanesEntered};
 
@@ -166,13 +167,25 @@ pub extern "C" fn biv_query_cost(
     counts: &mut [u32; 8],
     found: &mut [u64; 3],
 ) -> u32
-    ensures { Forecast crossing_limit planes first order triples (cost_from result counts.new found.new) }
+    ensures { let answer = cost_of crossing_limit planes first order triples in
+        (Forecast crossing_limit planes first order triples answer) ×
+        (result ≡ number_told answer) ×
+        (counts.new ≡ counts_told answer) ×
+        (found.new ≡ figures_told answer) }
 {
-    let c = cost::query_cost(crossing_limit, planes, first, order, triples);
-    let images = c.counts;
-    *counts = images;
-    *found = [c.candidates as u64, c.rays, c.words];
-    c.refusal
+    match cost::query_cost(crossing_limit, planes, first, order, triples) {
+        Ok(cost) => {
+            let images = cost.counts;
+            *counts = images;
+            *found = [cost.candidates as u64, cost.rays, cost.words];
+            0
+        }
+        Err(refusal) => {
+            *counts = [0; 8];
+            *found = [0; 3];
+            refusal.number()
+        }
+    }
 }
 
 // ---- the whole call

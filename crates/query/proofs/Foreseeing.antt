@@ -8,6 +8,7 @@ use mathlib.Core.List.{List, [], ◌∷◌}
 use native.Mathlib.Nat.{le_refl, le_trans}
 use native.Mathlib.Omega.{arith}
 use borrow.Author.Tests.{le-ltb}
+use Rattle.std.proofs.Common.{Ok}
 use lib.Dec.{ltb}
 use lib.Ieee.{Float}
 use lib.ListN.{length, take, length-map}
@@ -25,10 +26,10 @@ use Rattle.bounces.specs.Image.{lies_on_of}
 use Rattle.sequences.specs.Allowed.{most, visited}
 use Rattle.sequences.specs.Count.{firsts}
 use Rattle.sequences.proofs.Counting.{order_zero}
-use Rattle.cost.specs.Cost.{takes, cost_of}
+use Rattle.cost.specs.Cost.{cost_of}
 use Rattle.cost.specs.Forecast.{most_rays, Counts}
 use Rattle.cost.specs.declared.Cost.{Cost}
-use Rattle.cost.proofs.Forecasts.{refused as turned_away, forecast}
+use Rattle.cost.proofs.Forecasts.{forecast}
 use Rattle.claim.specs.Answer.{Outcome, fails, passes, add_tap, found, Answer, answer_of}
 use Rattle.claim.specs.Query.{Query, refused, given, query_of}
 use Rattle.search.specs.Outcome.{on_bytes}
@@ -123,27 +124,20 @@ no_rays : (limit : ℕ) → most_rays limit [] ≡ 0
 unfolding most_rays
 no_rays limit = refl
 
-not_turned : (limit planes first order triples : ℕ) → (cost_of limit planes first order triples).refusal ≡ 0 → takes limit planes first order triples ≡ true
-not_turned limit planes first order triples e = go (takes limit planes first order triples) refl
-  where
-    go : (b : Bool) → takes limit planes first order triples ≡ b → takes limit planes first order triples ≡ true
-    go true f = f
-    go false f = absurd (let z : ◌≡◌ {A = ℕ} 14 0 = sym (ap (λ (r : Cost). r.refusal) (turned_away limit planes first order triples f)) ∙ e in omega arith)
-
 on_length : (st : Settings) (s : Scene) (source : Vec3) → length (on_bytes (planes_for st (triangles s)) source) ≡ length (planes_for st (triangles s))
 unfolding on_bytes
 on_length st s source = length-map (planes_for st (triangles s)) (λ (plane : Plane). cond (lies_on_of plane source) 1 0)
 
 -- what is forecast of the images that a call visits
 counts_seen :
-    (st : Settings) (s : Scene) (source : Vec3) (triples : ℕ) → (forecast_of st s source triples).refusal ≡ 0 →
-    Counts st.crossing_limit triples (visited (on_bytes (planes_for st (triangles s)) source) (min st.max_reflection_order max_order)) (forecast_of st s source triples)
-counts_seen st s source triples e =
+    (st : Settings) (s : Scene) (source : Vec3) (triples : ℕ) (cost : Cost) → forecast_of st s source triples ≡ Ok cost →
+    Counts st.crossing_limit triples (visited (on_bytes (planes_for st (triangles s)) source) (min st.max_reflection_order max_order)) cost
+counts_seen st s source triples cost e =
     let n = length (planes_for st (triangles s)) in
     let f = firsts (on_bytes (planes_for st (triangles s)) source) in
     let o = min st.max_reflection_order max_order in
     let limit = st.crossing_limit in
-    (forecast limit n f o triples (cost_of limit n f o triples) refl).counts (not_turned limit n f o triples e)
+    (forecast limit n f o triples (cost_of limit n f o triples) refl).counts cost e
     (on_bytes (planes_for st (triangles s)) source) (on_length st s source) refl
 
 -- ---- what is answered
@@ -162,26 +156,26 @@ rays_told (given a) n h = h a refl
 
 -- "room for that many never meets refusal 7", by what a call promises
 pub foreseen :
-    (st : Settings) (c : ℕ) (s : Scene) (source listener : Vec3) (separated : Bool) (r : Answered) (out out' : List ℕ) (areas left : Work) (triples : ℕ) →
-    Traced st c s source listener separated r out out' areas left → (forecast_of st s source triples).refusal ≡ 0 →
-    Foreseen c (forecast_of st s source triples) r
-foreseen st c s source listener separated r out out' areas left triples t e =
-    let k = counts_seen st s source triples e in
+    (st : Settings) (c : ℕ) (s : Scene) (source listener : Vec3) (separated : Bool) (r : Answered) (out out' : List ℕ) (areas left : Work) (triples : ℕ) (cost : Cost) →
+    Traced st c s source listener separated r out out' areas left → forecast_of st s source triples ≡ Ok cost →
+    Foreseen c cost r
+foreseen st c s source listener separated r out out' areas left triples cost t e =
+    let k = counts_seen st s source triples cost e in
     let silent = silent_of separated source listener (length (triangles s)) in
     let on = on_bytes (planes_for st (triangles s)) source in
     let order = min st.max_reflection_order max_order in
-    let few : length (seen_of st s source listener separated) ≤ (forecast_of st s source triples).candidates =
+    let few : length (seen_of st s source listener separated) ≤ cost.candidates =
     subst (λ (n : ℕ). length (seen_of st s source listener separated) ≤ n) (sym k.candidates) (used_less length refl on silent order)
     in
     let limit = st.crossing_limit in
-    let cheap : most_rays limit (seen_of st s source listener separated) ≤ (forecast_of st s source triples).rays =
+    let cheap : most_rays limit (seen_of st s source listener separated) ≤ cost.rays =
     subst (λ (n : ℕ). most_rays limit (seen_of st s source listener separated) ≤ n) (sym k.rays) (used_less (most_rays limit) (no_rays limit) on silent order)
     in
     let call = call_of st c s source listener separated areas out in
-    subst (Foreseen c (forecast_of st s source triples)) (sym t.answer)
+    subst (Foreseen c cost) (sym t.answer)
     (record {
       room = λ h z. never_seven st c s source listener separated areas out (le_trans few h) (seven_told call z);
-      images = images_told call (forecast_of st s source triples).candidates
-          (λ a g. subst (λ (n : ℕ). n ≤ (forecast_of st s source triples).candidates) (sym (images_seen st c s source listener separated areas out a g)) few);
-      rays = rays_told call (forecast_of st s source triples).rays (λ a g. le_trans (t.rays a g) cheap);
+      images = images_told call cost.candidates
+          (λ a g. subst (λ (n : ℕ). n ≤ cost.candidates) (sym (images_seen st c s source listener separated areas out a g)) few);
+      rays = rays_told call cost.rays (λ a g. le_trans (t.rays a g) cheap);
     })

@@ -1,6 +1,7 @@
 -- What a forecast (document 02, note 8) says of a call: that of its own crossing limit, planes, first planes and order, as `query_cost` answers it (`cost_of` of
 -- cost/specs/Cost).
-use Rattle.std.specs.Prelude.{ℕ, ◌≤◌, min, ◌≡◌, length}
+use Rattle.std.specs.Prelude.{ℕ, ◌≤◌, min, ◌≡◌, length, Result}
+use Rattle.refusals.specs.declared.Refusal.{Refusal}
 use Rattle.vector.specs.declared.Vec3.{Vec3}
 use Rattle.scene.specs.declared.Settings.{Settings}
 use Rattle.scene.specs.Scene.{Scene}
@@ -14,7 +15,7 @@ use Rattle.scene_planes.specs.ScenePlanes.{planes_for}
 use Rattle.answer.specs.declared.Answered.{Answered}
 
 -- the forecast for a call's crossing limit, planes, those of them that may come first, its order, and so many triples
-abbrev pub forecast_of : Settings → Scene → Vec3 → ℕ → Cost
+abbrev pub forecast_of : Settings → Scene → Vec3 → ℕ → Result Cost Refusal
 forecast_of st s source triples =
     cost_of st.crossing_limit (length (planes_for st (triangles s))) (firsts (on_bytes (planes_for st (triangles s)) source))
     (min st.max_reflection_order max_order) triples
