@@ -1,5 +1,6 @@
 // The answer over a scene as it was loaded: its tree, planes, search, list and packet, in areas that serve one after the other (docs/AREAS.md) and are
 // zero afterwards. Work areas come first among the parameters: the checker's cost of a lent area grows with its place (docs/PROVING.md).
+// They are no struct for the reason that `query` gives.
 // It is apart from `query` since a function that is lent all areas takes minutes to check: two such crates are checked one by one.
 #![tactic(auto)]
 

@@ -47,7 +47,7 @@ pub struct PathCandidate {
     pub gains: Band8,
 }
 
-// The first test that failed, in the Rust's order, or the candidate.
+// The first test that failed, in the Rust's order, or the candidate. One enum and no `Result`: the fates stand in the order of their numbers.
 #[derive(Clone, Copy)]
 pub enum Fate {
     TooFar,

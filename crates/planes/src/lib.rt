@@ -1,6 +1,7 @@
 // The mirror planes of a scene, `build_planes`: `planes_of_triangles` of specs/Build.antt. Each step has a crate of its own, so that each is checked alone:
 // `planes_faces`, `planes_patches`, `planes_buried`, `planes_links` and `planes_groups`, `planes_fit`, and `planes_ranked` over `planes_importance` and
-// `planes_borders`. Here they are called in turn, and an area that a step has done with serves a later one (specs/Areas.antt).
+// `planes_borders`. Here they are called in turn, and an area that a step has done with serves a later one (specs/Areas.antt). The areas are parameters and
+// no struct: `query` says why.
 #![tactic(auto)]
 
 ghost use Rattle.std.specs.Prelude.{◌≡◌, ℕ, ◌*◌, ◌/◌, ◌<◌, ◌≤◌, length, []};

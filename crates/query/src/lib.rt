@@ -1,4 +1,6 @@
 // `trace_early_reflections`: one call from settings, scene, positions and lent areas to the packet of taps, or the first refusal that applies.
+// The areas are parameters and no struct: a struct of `&mut` slices owes at each call that it holds the same references, and a clause would name an area
+// at the end by its place in nested pairs.
 // It hands down: loading and the refusals 1 to 6 (placing), the answer over the loaded scene (answer). docs/AREAS.md has the areas.
 #![tactic(auto)]
 
