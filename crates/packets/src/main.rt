@@ -8,11 +8,6 @@ mod words;
 use std::io;
 use text::{filled, read_full};
 
-// One more, up to a limit that no input here reaches.
-fn plus(n: u64) -> u64 {
-    if n < 1000000 { n + 1 } else { n }
-}
-
 // Every line of the text, which is a packet to read, taps to write, or a remark; then how many were read and written, and how many of them differ.
 fn run(rt: &impl Print, all: &[u8]) -> io::Result<()> {
     let mut read: u64 = 0;
@@ -21,17 +16,17 @@ fn run(rt: &impl Print, all: &[u8]) -> io::Result<()> {
     for line in all.split_inclusive(|b| *b == b'\n') {
         let ok = match text::byte_at(line, 0, b'\n') {
             b'r' => {
-                read = plus(read);
+                read = read.saturating_add(1);
                 cases::read_case(rt, line)?
             }
             b'w' => {
-                written = plus(written);
+                written = written.saturating_add(1);
                 cases::write_case(rt, line)?
             }
             _ => true,
         };
         if !ok {
-            differ = plus(differ);
+            differ = differ.saturating_add(1);
         }
     }
     println!(rt; "{read} packets read, {written} written, {differ} differ")

@@ -9,12 +9,11 @@ struct Found {
 
 // The place of the first byte from `at` on that is a space, or that is none.
 pub(crate) fn find(s: &[u8], at: usize, space: bool) -> usize {
-    for i in at..s.len() {
-        if (s[i] == b' ') == space {
-            return i;
-        }
+    let part = s.get(at..).unwrap_or(b"");
+    match part.iter().position(|b| (*b == b' ') == space) {
+        Some(k) => at + k,
+        None => at.max(s.len()),
     }
-    at.max(s.len())
 }
 
 // One decimal digit more, for numbers of at most ten digits.
@@ -27,25 +26,20 @@ fn push_digit(n: u64, digit: u8) -> u64 {
 
 // The decimal number at a place.
 fn number(s: &[u8], at: usize) -> Found {
-    let mut value: u64 = 0;
-    for i in at..s.len() {
-        if s[i] < b'0' {
-            return Found { value, next: i };
-        }
-        value = push_digit(value, s[i]);
-    }
+    let part = s.get(at..).unwrap_or(b"");
+    let end = part.iter().position(|b| *b < b'0').unwrap_or(part.len());
     Found {
-        value,
-        next: at.max(s.len()),
+        value: part[..end].iter().fold(0, |n, b| push_digit(n, *b)),
+        next: at + end,
     }
 }
 
 // The numbers of the next seven words. Answers the place after them.
 pub(crate) fn numbers(s: &[u8], at: usize, to: &mut [u64; 7]) -> usize {
     let mut i = at;
-    for k in 0..7 {
+    for x in to.iter_mut() {
         let n = number(s, find(s, i, false));
-        to[k] = n.value;
+        *x = n.value;
         i = n.next;
     }
     i
@@ -61,8 +55,8 @@ fn push_byte(to: &mut [u8], k: usize, digit: u8) {
 // The bytes in hexadecimal from `at` up to the line's end, to `to`, which is zeros.
 pub(crate) fn hex_bytes(s: &[u8], at: usize, to: &mut [u8]) {
     let mut k = 0;
-    for i in at..s.len() {
-        if let Some(d) = text::hex_digit(s[i]) {
+    for b in s.get(at..).unwrap_or(b"") {
+        if let Some(d) = text::hex_digit(*b) {
             push_byte(to, k, d);
             k += 1;
         }
