@@ -100,16 +100,6 @@ fn show_bytes(rt: &impl Print) -> io::Result<()> {
 
 // ---- every number of small rooms
 
-// One more, up to a limit that is not reached here.
-fn plus(n: u64) -> u64 {
-    if n < 1_000_000 { n + 1 } else { n }
-}
-
-// One more where it is not so.
-fn plus_unless(n: u64, so: bool) -> u64 {
-    if so { n } else { plus(n) }
-}
-
 // Whether the walls are those of the record at `at`, and zeros behind them.
 fn agrees(w: Walls, records: &[u8], at: u32) -> bool {
     let planes = w.planes;
@@ -125,8 +115,8 @@ fn agrees(w: Walls, records: &[u8], at: u32) -> bool {
 // Walls were compared.
 fn compared(t: Tally, so: bool) -> Tally {
     Tally {
-        compared: plus(t.compared),
-        differ: plus_unless(t.differ, so),
+        compared: t.compared.saturating_add(1),
+        differ: t.differ.saturating_add(!so as u64),
         ..t
     }
 }
@@ -155,8 +145,8 @@ fn compare_all(
 fn compare_none(t: Tally, order: u32, planes: u32, on: &[u8], number: u32) -> Tally {
     let found = sequence_of(planes, order, on, number);
     Tally {
-        refused: plus(t.refused),
-        differ: plus_unless(t.differ, found.is_err()),
+        refused: t.refused.saturating_add(1),
+        differ: t.differ.saturating_add(found.is_ok() as u64),
         ..t
     }
 }
