@@ -8,6 +8,7 @@ use text::{filled, read_full};
 // Prints the lines of all images, as many at a time as have room in `out`.
 fn print_lines(rt: &impl Print, records: &[u8], total: usize, out: &mut [u8]) -> io::Result<()> {
     let mut from = 0;
+    // No `for`: how many images have room, and so where the next piece begins, is known when one is written.
     loop {
         let chunk = listing::lines(records, total, from, out);
         if chunk.next <= from {

@@ -28,6 +28,7 @@ fn digest(start: u64, bytes: &[u8]) -> u64
 fn digest_lines(records: &[u8], total: usize, out: &mut [u8]) -> u64 {
     let mut sum = 0;
     let mut from = 0;
+    // No `for`: how many images have room, and so where the next piece begins, is known when one is written.
     loop {
         let chunk = listing::lines(records, total, from, out);
         if chunk.next <= from {
