@@ -99,53 +99,24 @@ struct Reader<'a> {
     line: u32,
 }
 
-// ---- numbers that stay small
-
-// a + b, up to a million, which is past the end of every area.
-fn plus(a: usize, b: usize) -> usize {
-    if a < 1000000 {
-        if b < 1000000 {
-            return a + b;
-        }
-    }
-    1000000
-}
-
-// 3 * a, up to a million.
-fn thrice(a: usize) -> usize {
-    if a < 60000 {
-        return 3 * a;
-    }
-    1000000
-}
-
-// 16 * a, up to a million.
-fn sixteen(a: usize) -> usize {
-    if a < 60000 {
-        return 16 * a;
-    }
-    1000000
-}
+// ---- one number of an area
 
 // The word at k, 0 past the end.
 pub fn word(w: &[u32], k: usize) -> u32 {
-    if k < w.len() { w[k] } else { 0 }
+    w.get(k).copied().unwrap_or(0)
 }
 
-fn set_word(w: &mut [u32], k: usize, value: u32) {
-    if k < w.len() {
-        w[k] = value;
+// The value at k; nothing past the end.
+fn set<T: Copy>(area: &mut [T], k: usize, value: T) {
+    if let Some(x) = area.get_mut(k) {
+        *x = value;
     }
 }
 
-// n more at k, up to a million.
+// n more at k.
 fn add_word(w: &mut [u32], k: usize, n: u32) {
     let old = word(w, k);
-    if old < 1000000 {
-        if n < 1000000 {
-            set_word(w, k, old + n);
-        }
-    }
+    set(w, k, old.saturating_add(n));
 }
 
 // ---- one token
@@ -232,7 +203,7 @@ impl<'a> Reader<'a> {
     fn words(&mut self, w: &mut [u32], k: usize, n: usize) -> Result<(), Fault> {
         for j in 0..n {
             let value = self.whole()?;
-            set_word(w, plus(k, j), value);
+            set(w, k.saturating_add(j), value);
         }
         Ok(())
     }
@@ -241,7 +212,7 @@ impl<'a> Reader<'a> {
     fn floats(&mut self, f: &mut [f32], k: usize, n: usize) -> Result<(), Fault> {
         for j in 0..n {
             let value = self.float()?;
-            set_float(f, plus(k, j), value);
+            set(f, k.saturating_add(j), value);
         }
         Ok(())
     }
@@ -265,12 +236,6 @@ impl<'a> Reader<'a> {
     }
 }
 
-fn set_float(f: &mut [f32], k: usize, value: f32) {
-    if k < f.len() {
-        f[k] = value;
-    }
-}
-
 // ---- settings
 
 fn read_counts(r: &mut Reader, w: &mut [u32], f: &mut [f32]) -> Result<(), Fault> {
@@ -284,17 +249,17 @@ fn read_counts(r: &mut Reader, w: &mut [u32], f: &mut [f32]) -> Result<(), Fault
 
 fn read_model(r: &mut Reader, w: &mut [u32], f: &mut [f32]) -> Result<(), Fault> {
     r.keyword("merge")?;
-    set_word(w, MERGE, r.flag()?);
+    set(w, MERGE, r.flag()?);
     r.keyword("curve")?;
-    set_word(w, CURVE, r.curve()?);
+    set(w, CURVE, r.curve()?);
     r.floats(f, 7, 4)
 }
 
 // The line `probes`, which may be left out: then the Rust's constants, and `materials` follows.
 fn read_probes(r: &mut Reader, w: &mut [u32], f: &mut [f32]) -> Result<(), Fault> {
     if !r.follows(b"probes") {
-        set_word(w, CROSSING_LIMIT, OCCLUSION_MAX_CROSSINGS);
-        set_float(f, PROBE_RADIUS, REFLECTION_VISIBILITY_RADIUS);
+        set(w, CROSSING_LIMIT, OCCLUSION_MAX_CROSSINGS);
+        set(f, PROBE_RADIUS, REFLECTION_VISIBILITY_RADIUS);
         return Ok(());
     }
     r.words(w, CROSSING_LIMIT, 1)?;
@@ -304,7 +269,7 @@ fn read_probes(r: &mut Reader, w: &mut [u32], f: &mut [f32]) -> Result<(), Fault
 // No coefficient: the air takes nothing.
 fn no_air(w: &mut [u32]) {
     for k in 0..BANDS {
-        set_word(w, AIR + k, 0);
+        set(w, AIR + k, 0);
     }
 }
 
@@ -333,7 +298,7 @@ fn read_places(r: &mut Reader, f: &mut [f32]) -> Result<(), Fault> {
 
 fn read_last(r: &mut Reader, w: &mut [u32]) -> Result<(), Fault> {
     r.keyword("separated")?;
-    set_word(w, SEPARATED, r.flag()?);
+    set(w, SEPARATED, r.flag()?);
     r.keyword("end")?;
     r.no_more()
 }
@@ -343,11 +308,11 @@ fn read_last(r: &mut Reader, w: &mut [u32]) -> Result<(), Fault> {
 fn read_materials(r: &mut Reader, w: &mut [u32], materials: &mut [f32]) -> Result<(), Fault> {
     r.keyword("materials")?;
     let n = r.whole()?;
-    set_word(w, ROWS, n);
+    set(w, ROWS, n);
     r.at_most(n, MOST_MATERIALS, Expected::FewMaterials)?;
     for j in 0..n as usize {
         r.keyword("m")?;
-        r.floats(materials, sixteen(j), 16)?;
+        r.floats(materials, j.saturating_mul(16), 16)?;
     }
     Ok(())
 }
@@ -358,7 +323,7 @@ fn read_materials(r: &mut Reader, w: &mut [u32], materials: &mut [f32]) -> Resul
 fn read_positions(r: &mut Reader, positions: &mut [f32], k: usize, n: usize) -> Result<(), Fault> {
     for j in 0..n {
         r.keyword("p")?;
-        r.floats(positions, thrice(plus(k, j)), 3)?;
+        r.floats(positions, k.saturating_add(j).saturating_mul(3), 3)?;
     }
     Ok(())
 }
@@ -369,16 +334,16 @@ fn read_indices(r: &mut Reader, indices: &mut [u32], k: usize, n: usize) -> Resu
         if j % 3 == 0 {
             r.keyword("i")?;
         }
-        r.words(indices, plus(k, j), 1)?;
+        r.words(indices, k.saturating_add(j), 1)?;
     }
     Ok(())
 }
 
 // The row of mesh j: handle, vertices and indices in the text; vertices, indices and handle in the area.
 fn read_mesh_row(r: &mut Reader, meshes: &mut [u32], j: usize) -> Result<(), Fault> {
-    let k = thrice(j);
+    let k = j.saturating_mul(3);
     r.keyword("mesh")?;
-    r.words(meshes, plus(k, 2), 1)?;
+    r.words(meshes, k.saturating_add(2), 1)?;
     r.words(meshes, k, 2)
 }
 
@@ -404,11 +369,11 @@ fn read_mesh(
     let first_vertex = word(w, VERTEX_COUNT);
     let first_index = word(w, INDEX_COUNT);
     read_mesh_row(r, meshes, j)?;
-    let vertices = word(meshes, thrice(j));
-    let corners = word(meshes, plus(thrice(j), 1));
+    let vertices = word(meshes, j.saturating_mul(3));
+    let corners = word(meshes, j.saturating_mul(3).saturating_add(1));
     count_mesh(r, w, vertices, corners)?;
     r.keyword("t")?;
-    r.floats(transforms, sixteen(j), 16)?;
+    r.floats(transforms, j.saturating_mul(16), 16)?;
     read_positions(r, positions, first_vertex as usize, vertices as usize)?;
     read_indices(r, indices, first_index as usize, corners as usize)
 }
@@ -423,7 +388,7 @@ fn read_scene(
 ) -> Result<(), Fault> {
     r.keyword("meshes")?;
     let n = r.whole()?;
-    set_word(w, MESH_COUNT, n);
+    set(w, MESH_COUNT, n);
     r.at_most(n, MOST_MESHES, Expected::FewMeshes)?;
     for j in 0..n as usize {
         read_mesh(r, w, meshes, transforms, positions, indices, j)?;
