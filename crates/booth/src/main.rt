@@ -347,7 +347,7 @@ fn name_walls(
     let source = point_of(c.f, 11);
     let room = room_of(casefile::word(c.w, 3));
     let count = casefile::word(c.w, 7);
-    let named = walls::planes_of(
+    let planes = walls::planes_of(
         &mut triangles,
         &mut handles,
         &mut tree,
@@ -375,17 +375,18 @@ fn name_walls(
         c.indices,
         c.materials,
         count,
-    );
+    )
+    .unwrap_or(0);
     describe(
         on,
         plane_floats,
         plane_words,
         &plane_triangles,
         c,
-        named.count,
+        planes,
         source,
     );
-    named.count
+    planes
 }
 
 // How many planes there are if none are cut, where there are as many as the settings allow.

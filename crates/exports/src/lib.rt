@@ -358,7 +358,7 @@ pub extern "C" fn biv_planes(
     }
     let s = arguments::settings_from(counts, setting_floats);
     let from = arguments::point_from(source);
-    let p = walls::planes_of(
+    match walls::planes_of(
         triangles,
         handles,
         tree,
@@ -386,8 +386,15 @@ pub extern "C" fn biv_planes(
         indices,
         materials,
         rows_count,
-    );
-    mark_front(on, plane_floats, plane_words, p.count, from);
-    *found = [p.count];
-    p.refusal
+    ) {
+        Ok(count) => {
+            mark_front(on, plane_floats, plane_words, count, from);
+            *found = [count];
+            0
+        }
+        Err(refusal) => {
+            *found = [0];
+            refusal.number()
+        }
+    }
 }

@@ -15,8 +15,12 @@ use Rattle.scene.specs.Refusals.{triples_in}
 use Rattle.placing.specs.Corners.{triangles}
 use Rattle.placing.specs.Passing.{put_all, put_handles}
 use Rattle.placing.specs.Loading.{LoadSaid, left, Loading}
+use Rattle.scene.specs.declared.Settings.{Settings}
+use Rattle.placing.specs.Loading.{first_refusal}
+use Rattle.front.specs.Asked.{front_of_loaded}
 use Rattle.query.specs.Areas.{Work}
-use Rattle.walls.specs.Walls.{with_scene, unbuilt_of}
+use Rattle.query.proofs.Call.{front_refusal, fronted}
+use Rattle.walls.specs.Walls.{lens_of, with_scene, unbuilt_of, PlanesOf}
 
 none_put : (area : List Float) (n : ℕ) (ts : List Triangle) → length ts ≡ 0 → put_all area n 0 ts ≡ area
 unfolding put_all
@@ -49,3 +53,21 @@ work_unbuilt k s w r columns' handles' l none =
     ap (λ (l : List Float). with_scene w l handles') cs
     ∙ ap (λ (l : List ℕ). with_scene w (cond (eqb k 6) (replicate (length w.triangles) zero32) w.triangles) l) hs
     ∙ both_unbuilt (eqb k 6) w (replicate (length w.triangles) zero32) (replicate (length w.handles) 0)
+
+-- and there are no planes
+pub none_built :
+    (st : Settings) (c : ℕ) (s : Scene) (found : Work) (r : LoadSaid) (columns' : List Float) (handles' : List ℕ) →
+    Loading (first_refusal st c s (lens_of found)) s found.triangles found.handles r columns' handles' → (front_of_loaded r).kept ≡ 0 →
+    PlanesOf st c s found (with_scene found columns' handles') (front_of_loaded r).refusal 0
+none_built st c s found r columns' handles' l none =
+    let k = first_refusal st c s (lens_of found) in
+    record {
+      refusal = front_refusal k s r (front_of_loaded r) l.answer refl;
+      are = λ z some. absurd (let kept = (fronted k s r (front_of_loaded r) l.answer refl z).kept in let no : ⊥ = omega (arith, kept, some, none) in no);
+      refused = λ no_answer. refl;
+      bare = λ empty. refl;
+      unbuilt = λ empty. work_unbuilt k s found r columns' handles' l empty;
+      few = omega arith;
+      floats_room = omega arith;
+      words_room = omega arith;
+    }

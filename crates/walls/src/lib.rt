@@ -7,24 +7,19 @@ ghost use Rattle.scene.specs.Scene.{scene};
 ghost use Rattle.mirror.specs.Rows.{plane_float_count, plane_word_count, planes_in};
 ghost use Rattle.search.specs.Outcome.{on_bytes};
 ghost use Rattle.query.specs.Areas.{work};
-ghost use Rattle.walls.specs.Walls.{PlanesOf};
+ghost use Rattle.refusals.specs.Numbers.{number_told};
+ghost use Rattle.walls.specs.Walls.{count_told, PlanesOf};
 
+use refusals::Refusal;
 use scene::Settings;
 use vector::Vec3;
 
 // The longest packet, which `load_scene` asks room for; nothing is written here.
 const OUTPUT: usize = packet::OUT_BYTES;
 
-// The first refusal of 1 to 6 that applies, or 0 and how many planes there are.
-#[derive(Clone, Copy)]
-pub struct Planes {
-    pub refusal: u32,
-    pub count: usize,
-}
-
 // ---- the planes
 
-// The planes of a scene, none where loading refuses it or keeps no triangle. They stand in plane_floats, plane_words, plane_triangles and
+// How many planes a scene has, none where loading keeps no triangle; or the refusal of 1 to 6 that loading gives. They stand in plane_floats, plane_words, plane_triangles and
 // plane_edges. The areas are those of the query, which leaves them zero; where nothing is built they are as found, after refusal 6 with triangles and
 // handles zero.
 pub fn planes_of(
@@ -55,7 +50,7 @@ pub fn planes_of(
     indices: &[u32],
     materials: &[f32],
     rows_count: u32,
-) -> Planes
+) -> Result<usize, Refusal>
     ensures { let s = scene meshes.now transforms.now positions.now indices.now materials.now rows_count in
         let found = work triangles.old handles.old tree.old nodes.old leaf_order.old keys.old
         low_keys.old words.old scratch.old index.old numbers.old adjacency.old
@@ -64,7 +59,7 @@ pub fn planes_of(
         let left = work triangles.new handles.new tree.new nodes.new leaf_order.new keys.new low_keys.new
         words.new scratch.new index.new numbers.new adjacency.new queue.new
         offsets.new floats.new plane_triangles.new plane_floats.new plane_words.new plane_edges.new in
-        PlanesOf settings c s found left result }
+        PlanesOf settings c s found left (number_told result) (count_told result) }
 {
     let lens = [
         triangles.len(),
@@ -91,15 +86,11 @@ pub fn planes_of(
     let loaded = placing::load_scene(
         settings, c, meshes, transforms, positions, indices, materials, rows_count, lens,
         triangles, handles,
-    );
-    let front = front::front_of(loaded);
-    if front.kept == 0 {
-        return Planes {
-            refusal: front.refusal,
-            count: 0,
-        };
+    )?;
+    if loaded.triangles == 0 {
+        return Ok(0);
     }
-    scene_bvh::clear_from(handles, front.kept);
+    scene_bvh::clear_from(handles, loaded.triangles);
     let built = scene_planes::build_scene(
         tree,
         nodes,
@@ -120,14 +111,11 @@ pub fn planes_of(
         plane_edges,
         triangles,
         handles,
-        front.triples,
-        front.kept,
+        loaded.triples,
+        loaded.triangles,
         settings,
     );
-    Planes {
-        refusal: 0,
-        count: built.planes,
-    }
+    Ok(built.planes)
 }
 
 // ---- the source

@@ -1,5 +1,8 @@
 -- `booth::name_walls` meets its contract: each area has its length, and the planes have room in theirs.
-use mathlib.Core.Path.{sym, ◌∙◌}
+use Rattle.std.proofs.Common.{ℕ, Result, Ok, Err, ◌≡◌, refl, sym, ◌∙◌}
+use Rattle.std.specs.Result.{result_unwrap_or}
+use Rattle.refusals.specs.declared.Refusal.{Refusal}
+use Rattle.walls.specs.Walls.{count_told}
 use Rattle.booth.proofs.name_walls.Goals as goal
 
 pub slice_bounds-planes_of-end : goal.slice_bounds-planes_of-end
@@ -54,17 +57,21 @@ pub slice_bounds-planes_of-end-17 : goal.slice_bounds-planes_of-end-17
 slice_bounds-planes_of-end-17 c = sym c.fresh_plane_edges-plane_edges.ensures
 
 pub slice_bounds-describe-end : goal.slice_bounds-describe-end
-slice_bounds-describe-end c = sym (c.planes_of-named.auto.plane_triangles
+slice_bounds-describe-end c = sym (c.planes_of.auto.plane_triangles
     ∙ c.fresh_plane_triangles-plane_triangles.ensures)
 
+counted : (answer : Result ℕ Refusal) → result_unwrap_or answer 0 ≡ count_told answer
+counted (Ok n) = refl
+counted (Err r) = refl
+
 pub describe-requires : goal.describe-requires
-describe-requires c = let p = c.planes_of-named.ensures in (p.floats_room, p.words_room)
+describe-requires c = let p = c.planes_of.ensures in rw (c.unwrap_or-planes.ensures, counted c.planes_of.result) (p.floats_room, p.words_room)
 
 pub shape_of-plane_floats : goal.shape_of-plane_floats
-shape_of-plane_floats c = c.planes_of-named.auto.plane_floats
+shape_of-plane_floats c = c.planes_of.auto.plane_floats
 
 pub shape_of-plane_words : goal.shape_of-plane_words
-shape_of-plane_words c = c.planes_of-named.auto.plane_words
+shape_of-plane_words c = c.planes_of.auto.plane_words
 
 pub shape_of-on : goal.shape_of-on
 shape_of-on c = c.describe.auto.on
