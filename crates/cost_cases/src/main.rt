@@ -154,10 +154,18 @@ fn compare_counts(counts: [u32; MAX_IMAGE_ORDER], records: &[u8], total: usize) 
 fn compare_order(on: &[u8], first: usize, order: usize, records: &mut [u8]) -> Tally {
     match sequences::enumerate(on, order, records) {
         Some(total) => {
-            match cost::query_cost(CROSSINGS, narrow(on.len()), narrow(first), narrow(order), 0) {
-                Ok(cost) => compare_counts(cost.counts, records, total),
-                Err(_) => one(false),
-            }
+            let forecast = cost::query_cost(
+                CROSSINGS,
+                narrow(on.len()),
+                narrow(first),
+                narrow(order),
+                0,
+            );
+            let counts = match forecast {
+                Ok(cost) => cost.counts,
+                Err(_) => [0; MAX_IMAGE_ORDER],
+            };
+            compare_counts(counts, records, total)
         }
         None => one(false),
     }

@@ -143,10 +143,13 @@ fn compare_all(
 
 // A number that no image has.
 fn compare_none(t: Tally, order: u32, planes: u32, on: &[u8], number: u32) -> Tally {
-    let found = sequence_of(planes, order, on, number);
+    let refused = matches!(
+        sequence_of(planes, order, on, number),
+        Err(Refusal::NoImage)
+    );
     Tally {
         refused: t.refused.saturating_add(1),
-        differ: t.differ.saturating_add(found.is_ok() as u64),
+        differ: t.differ.saturating_add(!refused as u64),
         ..t
     }
 }
