@@ -22,7 +22,7 @@ use Rattle.bounces.specs.declared.Lost.{Lost}
 use Rattle.bounces.specs.declared.Lost.TheVariants.{NotCrossed, OffSurface}
 use Rattle.bounces.specs.declared.Trail.{Trail}
 use Rattle.bounces.specs.Bounces.{Bounce, crossed_of, bounce_of, turn_of, Bounces, then_of, back_of}
-use Rattle.bounces.specs.Areas.{fate_of, trail_of}
+use Rattle.bounces.specs.Areas.{fate_of, ended_by, trail_of}
 
 pub never : {A : Type 0} (x m : ℕ) → x ≡ suc m → x ≡ 0 → A
 never x m a b = let no : ⊥ = omega arith in absurd no
@@ -96,10 +96,9 @@ module _ (tri : ℕ → Triangle) (fade : Float) (plane : ℕ → Plane) (image 
       opened zero ne e = absurd (ne refl)
       opened (suc k) ne e = let l : suc k - 1 ≡ k = omega arith in rw (e, l)
 
-    pub back_lost : (e : Lost) (n : ℕ) → b ≡ Err e → trail_of (Err e) n ≡ back_of tri fade plane image k prev weight ps is
-    unfolding trail_of
-    back_lost NotCrossed n h = rw (back_step, h)
-    back_lost OffSurface n h = rw (back_step, h)
+    pub back_lost : (e : Lost) → b ≡ Err e → ended_by e ≡ back_of tri fade plane image k prev weight ps is
+    back_lost NotCrossed h = rw (back_step, h)
+    back_lost OffSurface h = rw (back_step, h)
 
     pub back_on :
         (i : ℕ) (w : Float) (q : Vec3) → b ≡ Ok (i, w, q) →

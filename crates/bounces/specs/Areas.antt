@@ -5,6 +5,7 @@ use Rattle.geometry.specs.declared.Triangle.{Triangle}
 use Rattle.columns.specs.Columns.{column_count}
 use Rattle.vector.specs.declared.Vec3.{Vec3}
 use Rattle.mirror.specs.Rows.{vec_of_floats, row_of, tris_of, PlanesHeld, AllRead, planes_in}
+use Rattle.bounces.specs.declared.Broken.{Broken}
 use Rattle.bounces.specs.declared.Lost.{Lost}
 use Rattle.bounces.specs.declared.Lost.TheVariants.{NotCrossed, OffSurface}
 use Rattle.bounces.specs.declared.Trail.{Trail}
@@ -38,11 +39,15 @@ point_floats = 3
 abbrev pub point_in : List Float → ℕ → Vec3
 point_in l k = vec_of_floats l (point_floats * k)
 
+-- what the bounce says that ends a way back
+abbrev pub ended_by : Lost → Bounces
+ended_by NotCrossed = not_crossed
+ended_by OffSurface = off_surface
+
 -- what a trail of n bounces says, or what one that fails says
-unfoldable pub trail_of : Result Trail Lost → ℕ → Bounces
+unfoldable pub trail_of : Result Trail Broken → ℕ → Bounces
 trail_of (Ok t) n = made (take n t.points) (take n t.tris) t.weight
-trail_of (Err NotCrossed) n = not_crossed
-trail_of (Err OffSurface) n = off_surface
+trail_of (Err broken) n = ended_by broken.by
 
 -- a trail has room for the longest sequence
 pub record Going (t : Trail) : Type 0 where

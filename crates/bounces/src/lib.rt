@@ -34,6 +34,13 @@ pub struct Trail {
     pub weight: f32,
 }
 
+// A way back that a bounce ends: what that bounce fails by, and the bounces found before it.
+#[derive(Clone, Copy)]
+pub struct Broken {
+    pub by: Lost,
+    pub trail: Trail,
+}
+
 // The planes as a bounce reads them: their rows of floats and words, their triangles and the edges of their borders, and the scene's triangles, by
 // columns of n.
 #[derive(Clone, Copy)]
@@ -142,7 +149,7 @@ pub fn back(
     k: usize,
     prev: Vec3,
     t: Trail,
-) -> Result<Trail, Lost>
+) -> Result<Trail, Broken>
     requires planes_lent { TableLent planes.now }
     requires k_le_order { (k ≤ order) × (order ≤ max_order) }
     requires by_index { (j : ℕ) → j < order → get_or seq j 0 < planes.now.count }
@@ -160,8 +167,10 @@ pub fn back(
     let d = k - 1;
     let p = seq[d] as usize;
     let target = images[k];
-    let (i, w, q) = bounce_on(planes, fade, p, prev, target)?;
-    back(planes, fade, seq, images, order, d, q, put(t, d, i, w, q))
+    match bounce_on(planes, fade, p, prev, target) {
+        Ok((i, w, q)) => back(planes, fade, seq, images, order, d, q, put(t, d, i, w, q)),
+        Err(by) => Err(Broken { by, trail: t }),
+    }
 }
 
 // ---- the first bounce that fails

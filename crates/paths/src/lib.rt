@@ -18,7 +18,7 @@ ghost use Rattle.paths.specs.Areas.{soft_in, SearchLent, SearchReads};
 
 use air::Air;
 use bands::{Band8, DistanceModel};
-use bounces::{Lost, PlaneTable, Trail};
+use bounces::{Broken, Lost, PlaneTable, Trail};
 use scene::Settings;
 use tree_trace::FlatBvh;
 use vector::Vec3;
@@ -250,7 +250,7 @@ fn judge(
     bvh: &FlatBvh,
     materials: &[f32],
     s: Settings,
-    trail: Result<Trail, Lost>,
+    trail: Result<Trail, Broken>,
     order: usize,
     source: Vec3,
     listener: Vec3,
@@ -265,7 +265,7 @@ fn judge(
 {
     let made = match trail {
         Ok(made) => made,
-        Err(lost) => return counted(Fate::from(lost), 0),
+        Err(broken) => return counted(Fate::from(broken.by), 0),
     };
     let points = made.points;
     let way = go_all(

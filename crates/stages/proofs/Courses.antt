@@ -20,11 +20,12 @@ use Rattle.mirror.specs.Mirror.{mirror_of}
 use Rattle.mirror.specs.Rows.{planes_in}
 use Rattle.bounces.specs.Image.{image_of}
 use Rattle.std.specs.Prelude.{Ok, Err}
+use Rattle.bounces.specs.declared.Broken.{Broken}
 use Rattle.bounces.specs.declared.Lost.{Lost}
 use Rattle.bounces.specs.declared.Lost.TheVariants as lost
 use Rattle.bounces.specs.declared.Trail.{Trail}
 use Rattle.bounces.specs.Bounces.{Bounces}
-use Rattle.bounces.specs.Areas.{max_order, trail_of, point_floats, point_in}
+use Rattle.bounces.specs.Areas.{max_order, ended_by, trail_of, point_floats, point_in}
 use Rattle.search.specs.Contract.{point_put}
 use Rattle.search.proofs.Points.{put_same, put_other}
 use Rattle.bounces.proofs.Laws.{images_put}
@@ -130,12 +131,15 @@ bounced_made t n b points few is are =
     })
 
 -- what one that fails says: it has no points
-pub bounced_lost : (e : Lost) (n : ℕ) (b : Bounces) (points : List Float) → trail_of (Err e) n ≡ b → Bounced b (lost_number e) points
-unfolding trail_of
-bounced_lost lost.NotCrossed n b points is =
+ended_bounced : (e : Lost) (b : Bounces) (points : List Float) → ended_by e ≡ b → Bounced b (lost_number e) points
+ended_bounced lost.NotCrossed b points is =
     subst (λ (u : Bounces). Bounced u 2 points) is (record { fate_is = refl; points_are = λ j h. absurd (let no : ⊥ = omega arith in no) })
-bounced_lost lost.OffSurface n b points is =
+ended_bounced lost.OffSurface b points is =
     subst (λ (u : Bounces). Bounced u 3 points) is (record { fate_is = refl; points_are = λ j h. absurd (let no : ⊥ = omega arith in no) })
+
+pub bounced_lost : (e : Broken) (n : ℕ) (b : Bounces) (points : List Float) → trail_of (Err e) n ≡ b → Bounced b (lost_number e.by) points
+unfolding trail_of
+bounced_lost e n b points is = ended_bounced e.by b points is
 
 -- one point more
 pub points_more :

@@ -1,9 +1,7 @@
 -- `paths::judge` meets its contract, by whether all bounces are made and the tests of the way.
 use mathlib.Core.Path.{◌≡◌, refl, sym}
-use Prim.Native.Nat.{ℕ}
-use Rattle.std.specs.Prelude.{Err}
 use lib.ListN.{take}
-use Rattle.bounces.specs.Areas.{trail_of}
+use Rattle.bounces.specs.Areas.{ended_by, trail_of}
 use Rattle.bounces.specs.Bounces.{Bounces, not_crossed, off_surface}
 use Rattle.bounces.specs.declared.Lost.{Lost}
 use Rattle.bounces.specs.declared.Lost.TheVariants as lost
@@ -16,17 +14,16 @@ use Rattle.paths.proofs.Laws.{last_taken}
 use Rattle.paths.proofs.judge.Goals as goal
 
 -- what a bounce that fails says of its path
-told : (e : Lost) (on : Bounces → Verdict) (n : ℕ) → on not_crossed ≡ verdict NotCrossed 0 → on off_surface ≡ verdict OffSurface 0 → verdict (lost_of e) 0 ≡ on (trail_of (Err e) n)
-unfolding trail_of
-told lost.NotCrossed on n p q = sym p
-told lost.OffSurface on n p q = sym q
+told : (e : Lost) (on : Bounces → Verdict) → on not_crossed ≡ verdict NotCrossed 0 → on off_surface ≡ verdict OffSurface 0 → verdict (lost_of e) 0 ≡ on (ended_by e)
+told lost.NotCrossed on p q = sym p
+told lost.OffSurface on p q = sym q
 
 pub returns-in-Err-clause-by_index : goal.returns-in-Err-clause-by_index
-unfolding bounced_of
+unfolding bounced_of trail_of
 returns-in-Err-clause-by_index c = λ tri t h.
     let a = c.args in
     rw (c.in-Err.is, c.counted.ensures, c.from.ensures)
-    (told c.in-Err.lost (bounced_of (soft_in a.s.crossing_limit a.s.probe_radius tri t a.materials.now) a.s a.materials.now tri a.order a.source a.listener) a.order refl refl)
+    (told c.in-Err.broken.by (bounced_of (soft_in a.s.crossing_limit a.s.probe_radius tri t a.materials.now) a.s a.materials.now tri a.order a.source a.listener) refl refl)
 
 pub returns-then-usable-clause-by_index : goal.returns-then-usable-clause-by_index
 unfolding bounced_of trail_of

@@ -41,6 +41,9 @@ back-made-requires c =
 pub put_points-requires : goal.put_points-requires
 put_points-requires c = c.requires.source_len.2
 
+pub put_points-requires-in-Err : goal.put_points-requires-in-Err
+put_points-requires-in-Err c = c.requires.source_len.2
+
 pub returns-in-Ok-clause-bounced : goal.returns-in-Ok-clause-bounced
 returns-in-Ok-clause-bounced c = λ tri h.
     let a = c.args in
@@ -67,7 +70,7 @@ returns-in-Err-clause-bounced c = λ tri h.
     let back : trail_of c.back-made.result n ≡ back_of tri a.fade (plane_on planes l) (λ j. get_or c.course_of-course.result.images j no_point) n c.point_from-end.result one32 [] [] =
     rw (c.no_bounces.ensures.1, slice_empty n c.no_bounces.result.points, slice_empty n c.no_bounces.result.tris) at (c.back-made.ensures.by_index_2 tri h) in
     rw (← c.point_from-start.ensures, ← c.point_from-end.ensures, c.fate_number.ensures)
-    (bounced_lost c.in-Err.lost n _ a.points.now
+    (bounced_lost c.in-Err.broken n _ c.put_points-in-Err.new.points
     (ap (λ r. trail_of r n) (sym c.in-Err.is) ∙ back
     ∙ path_bounces planes tri c.point_from-start.result c.point_from-end.result l (λ j. get_or c.course_of-course.result.images j no_point) n (omega (arith, is.seq_room, c.requires.in_bounds.1)) (is.mirrored a.plane_triangles.now a.plane_edges.now) a.fade
     ∙ ap (bounces_of tri a.fade planes c.point_from-start.result c.point_from-end.result) (whole a.seq.now l is.planes)))
