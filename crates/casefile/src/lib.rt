@@ -113,10 +113,20 @@ fn set<T: Copy>(area: &mut [T], k: usize, value: T) {
     }
 }
 
-// n more at k.
+// n more at k, up to a million, which is past the end of every area.
 fn add_word(w: &mut [u32], k: usize, n: u32) {
     let old = word(w, k);
-    set(w, k, old.saturating_add(n));
+    if old < 1_000_000 && n < 1_000_000 {
+        set(w, k, old + n);
+    }
+}
+
+// The place of row j, of 16 numbers, up to a million.
+fn sixteen(j: usize) -> usize {
+    if j < 60_000 {
+        return 16 * j;
+    }
+    1_000_000
 }
 
 // ---- one token
@@ -217,11 +227,10 @@ impl<'a> Reader<'a> {
         Ok(())
     }
 
-    // 0 or 1.
-    fn flag(&mut self) -> Result<u32, Fault> {
-        let n = self.whole()?;
-        self.at_most(n, 1, Expected::Flag)?;
-        Ok(n)
+    // 0 or 1, to place k, which has the number also where it is neither.
+    fn flag(&mut self, w: &mut [u32], k: usize) -> Result<(), Fault> {
+        self.words(w, k, 1)?;
+        self.at_most(word(w, k), 1, Expected::Flag)
     }
 
     // `inverse` is 0, `linear` 1.
@@ -249,17 +258,22 @@ fn read_counts(r: &mut Reader, w: &mut [u32], f: &mut [f32]) -> Result<(), Fault
 
 fn read_model(r: &mut Reader, w: &mut [u32], f: &mut [f32]) -> Result<(), Fault> {
     r.keyword("merge")?;
-    set(w, MERGE, r.flag()?);
+    r.flag(w, MERGE)?;
     r.keyword("curve")?;
     set(w, CURVE, r.curve()?);
     r.floats(f, 7, 4)
 }
 
-// The line `probes`, which may be left out: then the Rust's constants, and `materials` follows.
+// No probe settings: the Rust's constants.
+fn no_probes(w: &mut [u32], f: &mut [f32]) {
+    set(w, CROSSING_LIMIT, OCCLUSION_MAX_CROSSINGS);
+    set(f, PROBE_RADIUS, REFLECTION_VISIBILITY_RADIUS);
+}
+
+// The line `probes`, which may be left out, and `materials` follows.
 fn read_probes(r: &mut Reader, w: &mut [u32], f: &mut [f32]) -> Result<(), Fault> {
     if !r.follows(b"probes") {
-        set(w, CROSSING_LIMIT, OCCLUSION_MAX_CROSSINGS);
-        set(f, PROBE_RADIUS, REFLECTION_VISIBILITY_RADIUS);
+        no_probes(w, f);
         return Ok(());
     }
     r.words(w, CROSSING_LIMIT, 1)?;
@@ -282,10 +296,24 @@ fn read_air(r: &mut Reader, w: &mut [u32]) -> Result<(), Fault> {
     r.words(w, AIR, BANDS)
 }
 
-fn read_settings(r: &mut Reader, w: &mut [u32], f: &mut [f32]) -> Result<(), Fault> {
+// What every case has.
+fn read_stated(r: &mut Reader, w: &mut [u32], f: &mut [f32]) -> Result<(), Fault> {
     read_counts(r, w, f)?;
-    read_model(r, w, f)?;
-    read_probes(r, w, f)?;
+    read_model(r, w, f)
+}
+
+// All settings. Where the text goes wrong, the curve and the lines that may be left out, which it did not get to, are as without them.
+fn read_settings(r: &mut Reader, w: &mut [u32], f: &mut [f32]) -> Result<(), Fault> {
+    set(w, CURVE, 0);
+    if let Err(fault) = read_stated(r, w, f) {
+        no_probes(w, f);
+        no_air(w);
+        return Err(fault);
+    }
+    if let Err(fault) = read_probes(r, w, f) {
+        no_air(w);
+        return Err(fault);
+    }
     read_air(r, w)
 }
 
@@ -298,7 +326,7 @@ fn read_places(r: &mut Reader, f: &mut [f32]) -> Result<(), Fault> {
 
 fn read_last(r: &mut Reader, w: &mut [u32]) -> Result<(), Fault> {
     r.keyword("separated")?;
-    set(w, SEPARATED, r.flag()?);
+    r.flag(w, SEPARATED)?;
     r.keyword("end")?;
     r.no_more()
 }
@@ -307,12 +335,12 @@ fn read_last(r: &mut Reader, w: &mut [u32]) -> Result<(), Fault> {
 
 fn read_materials(r: &mut Reader, w: &mut [u32], materials: &mut [f32]) -> Result<(), Fault> {
     r.keyword("materials")?;
-    let n = r.whole()?;
-    set(w, ROWS, n);
+    r.words(w, ROWS, 1)?;
+    let n = word(w, ROWS);
     r.at_most(n, MOST_MATERIALS, Expected::FewMaterials)?;
     for j in 0..n as usize {
         r.keyword("m")?;
-        r.floats(materials, j.saturating_mul(16), 16)?;
+        r.floats(materials, sixteen(j), 16)?;
     }
     Ok(())
 }
@@ -373,7 +401,7 @@ fn read_mesh(
     let corners = word(meshes, j.saturating_mul(3).saturating_add(1));
     count_mesh(r, w, vertices, corners)?;
     r.keyword("t")?;
-    r.floats(transforms, j.saturating_mul(16), 16)?;
+    r.floats(transforms, sixteen(j), 16)?;
     read_positions(r, positions, first_vertex as usize, vertices as usize)?;
     read_indices(r, indices, first_index as usize, corners as usize)
 }
@@ -387,8 +415,8 @@ fn read_scene(
     indices: &mut [u32],
 ) -> Result<(), Fault> {
     r.keyword("meshes")?;
-    let n = r.whole()?;
-    set(w, MESH_COUNT, n);
+    r.words(w, MESH_COUNT, 1)?;
+    let n = word(w, MESH_COUNT);
     r.at_most(n, MOST_MESHES, Expected::FewMeshes)?;
     for j in 0..n as usize {
         read_mesh(r, w, meshes, transforms, positions, indices, j)?;
