@@ -17,14 +17,22 @@ const BYTES: usize = packet::OUT_BYTES + 34;
 
 const LONGEST: usize = packet::OUT_BYTES;
 
-// Whether the words from `from` on are as they were.
+// Whether the words from `from` on are as they were. All of them are looked at, several at a time: one differs only where the reader is wrong.
 fn words_kept(a: &[u32], from: usize) -> bool {
-    a.iter().skip(from).all(|w| *w == FILL)
+    let mut kept = true;
+    for w in a.get(from..).unwrap_or(&[]) {
+        kept &= *w == FILL;
+    }
+    kept
 }
 
-// Whether the bytes from `from` on are as they were.
+// Whether the bytes from `from` on are as they were, in the same way.
 fn bytes_kept(a: &[u8], from: usize) -> bool {
-    a.iter().skip(from).all(|b| *b == FILL_BYTE)
+    let mut kept = true;
+    for b in a.get(from..).unwrap_or(b"") {
+        kept &= *b == FILL_BYTE;
+    }
+    kept
 }
 
 // One word more in a check: 31 times what it was, and the word, modulo a prime.
@@ -117,6 +125,9 @@ fn try_read(rt: &impl Print, bytes: &[u8], taps: &mut [u32], e: Expected) -> io:
 
 // A line with a packet to read.
 pub(crate) fn read_case(rt: &impl Print, line: &[u8]) -> io::Result<bool> {
+    // The areas come first: each is zeroed at the function's start, which costs nothing where it is filled at once.
+    let mut bytes: [u8; LONGEST] = filled(0);
+    let mut area: [u32; WORDS] = filled(FILL);
     let after = print_name(rt, b"read ", line)?;
     let mut f = [0u64; 7];
     let at = words::numbers(line, after, &mut f);
@@ -129,9 +140,7 @@ pub(crate) fn read_case(rt: &impl Print, line: &[u8]) -> io::Result<bool> {
         rays: f[5],
         check: f[6],
     };
-    let mut bytes: [u8; LONGEST] = filled(0);
     words::hex_bytes(line, at, &mut bytes);
-    let mut area: [u32; WORDS] = filled(FILL);
     if WORDS < words || LONGEST < n {
         return print_verdict(rt, false);
     }
@@ -162,17 +171,18 @@ fn try_write(
 
 // A line with taps to write.
 pub(crate) fn write_case(rt: &impl Print, line: &[u8]) -> io::Result<bool> {
+    // The areas come first: each is zeroed at the function's start, which costs nothing where it is filled at once.
+    let mut area: [u32; WORDS] = filled(FILL);
+    let mut bytes: [u8; LONGEST] = filled(0);
+    let mut out: [u8; BYTES] = filled(FILL_BYTE);
     let after = print_name(rt, b"write ", line)?;
     let mut f = [0u64; 7];
     let at = words::numbers(line, after, &mut f);
     let words = f[0] as usize;
     let room = f[1] as usize;
     let n = f[6] as usize;
-    let mut area: [u32; WORDS] = filled(FILL);
     let next = words::hex_words(line, at, &mut area);
-    let mut bytes: [u8; LONGEST] = filled(0);
     words::hex_bytes(line, next, &mut bytes);
-    let mut out: [u8; BYTES] = filled(FILL_BYTE);
     if WORDS < words || BYTES < room || LONGEST < n {
         return print_verdict(rt, false);
     }

@@ -26,11 +26,16 @@ fn push_digit(n: u64, digit: u8) -> u64 {
 
 // The decimal number at a place.
 fn number(s: &[u8], at: usize) -> Found {
-    let part = s.get(at..).unwrap_or(b"");
-    let end = part.iter().position(|b| *b < b'0').unwrap_or(part.len());
+    let mut n = 0;
+    for i in at..s.len() {
+        if s[i] < b'0' {
+            return Found { value: n, next: i };
+        }
+        n = push_digit(n, s[i]);
+    }
     Found {
-        value: part[..end].iter().fold(0, |n, b| push_digit(n, *b)),
-        next: at + end,
+        value: n,
+        next: at.max(s.len()),
     }
 }
 
