@@ -71,14 +71,10 @@ pub(crate) fn hex_bytes(s: &[u8], at: usize, to: &mut [u8]) {
 // The words in hexadecimal from `at` up to `=` or the line's end, to `to`. Answers the place after them.
 pub(crate) fn hex_words(s: &[u8], at: usize, to: &mut [u32]) -> usize {
     let part = s.get(at..).unwrap_or(b"");
-    match listing::find(part, b'=') {
-        Some(k) => {
-            text::hex_words(&part[..k], to);
-            at + k + 1
-        }
-        None => {
-            text::hex_words(part, to);
-            at.max(s.len())
-        }
+    let found = listing::find(part, b'=');
+    text::hex_words(&part[..found.unwrap_or(part.len())], to);
+    match found {
+        Some(k) => at + k + 1,
+        None => at.max(s.len()),
     }
 }
