@@ -283,7 +283,7 @@ fn run(rt: &impl Print, all: &[u8]) -> io::Result<()> {
     let mut cases: u64 = 0;
     let mut differ: u64 = 0;
     let mut at = 0;
-    // No `for` over `split_inclusive`: a line ends where `line_end` says, whose contract is that of specs/Lines.antt.
+    // No `for` over `split_inclusive`: a line ends where `line_end` says, whose contract is that of specs/Lines.antt of `text`.
     while at < all.len() {
         let end = text::line_end(all, at);
         let line = &all[at..end];
